@@ -1,0 +1,3 @@
+pub mod Evaluate
+pub mod Cases
+pub mod Trials

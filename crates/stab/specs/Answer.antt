@@ -1,0 +1,117 @@
+-- The paper's numbers for every case of every answer, and the one number that provers get.
+use Prim.Native.Nat.{ℕ, _+_, _*_}
+use lib.IntN.{ℤ, pos, negℤ}
+use Rattle.stab.specs.declared.Place.{Place}
+use Rattle.stab.specs.declared.Place.the-variants.{Whole, At}
+use Rattle.stab.specs.declared.Refusal.{Refusal}
+use Rattle.stab.specs.declared.Refusal.the-variants.{TextTooLong, TableTooShort, Heading, Line, TooMany, Root, IllFormed, TooLarge, Set, Parent, Drawn, Step, Target, Bound, Partner, Lowered, Children, Pair, Width, False, Number, Output}
+use Rattle.stab.specs.declared.Verdict.{Verdict}
+use Rattle.stab.specs.declared.Verdict.the-variants.{Accepted, Refused}
+use Rattle.stab.specs.declared.SchemaRead.{SchemaRead}
+use Rattle.stab.specs.declared.SchemaRead.the-variants.{Schema, Refused as SchemaRefused}
+use Rattle.stab.specs.declared.ProofRead.{ProofRead}
+use Rattle.stab.specs.declared.ProofRead.the-variants.{Proof, Refused as ProofRefused}
+use Rattle.stab.specs.declared.ModelRead.{ModelRead}
+use Rattle.stab.specs.declared.ModelRead.the-variants.{Model, Refused as ModelRefused}
+use Rattle.stab.specs.declared.Written.{Written}
+use Rattle.stab.specs.declared.Written.the-variants.{Text, Refused as WriteRefused}
+
+-- ---- numbers of refusals and places
+
+unfoldable pub refusalNumber : Refusal → ℕ
+refusalNumber TextTooLong = 1
+refusalNumber TableTooShort = 2
+refusalNumber Heading = 3
+refusalNumber Line = 4
+refusalNumber TooMany = 5
+refusalNumber Root = 6
+refusalNumber IllFormed = 7
+refusalNumber TooLarge = 8
+refusalNumber Set = 9
+refusalNumber Parent = 10
+refusalNumber Drawn = 11
+refusalNumber Step = 12
+refusalNumber Target = 13
+refusalNumber Bound = 14
+refusalNumber Partner = 15
+refusalNumber Lowered = 16
+refusalNumber Children = 17
+refusalNumber Pair = 18
+refusalNumber Width = 19
+refusalNumber False = 20
+refusalNumber Number = 21
+refusalNumber Output = 22
+
+unfoldable pub placeNumber : Place → ℤ
+placeNumber Whole = negℤ (pos 1)
+placeNumber (At k) = pos k
+
+-- ---- an answer in numbers: "Every refusal gives its number, a place and zero counts." "Acceptance gives .., place 0. Other successes also have place 0"
+
+-- answer, place and the two counts of a check
+pub record Numbers : Type 0 where
+  pub answer : ℕ
+  pub place : ℤ
+  pub nodes : ℕ
+  pub links : ℕ
+
+unfoldable pub refusedNumbers : Refusal → Place → Numbers
+refusedNumbers why p = record { answer = refusalNumber why; place = placeNumber p; nodes = 0; links = 0 }
+
+unfoldable pub verdictNumbers : Verdict → Numbers
+verdictNumbers (Accepted nodes links) = record { answer = 0; place = pos 0; nodes = nodes; links = links }
+verdictNumbers (Refused why p) = refusedNumbers why p
+
+-- "reading gives root and least, or n, and the numbers of formula, pair or node rows and of members, all 0 on refusal"
+pub record SchemaNumbers : Type 0 where
+  pub answer : ℕ
+  pub place : ℤ
+  pub root : ℤ
+  pub least : ℤ
+  pub rows : ℕ
+
+unfoldable pub schemaNumbers : SchemaRead → SchemaNumbers
+schemaNumbers (Schema root least rows) = record { answer = 0; place = pos 0; root = root; least = least; rows = rows }
+schemaNumbers (SchemaRefused why p) = record { answer = refusalNumber why; place = placeNumber p; root = pos 0; least = pos 0; rows = 0 }
+
+pub record ProofNumbers : Type 0 where
+  pub answer : ℕ
+  pub place : ℤ
+  pub rows : ℕ
+  pub nodes : ℕ
+  pub members : ℕ
+
+unfoldable pub proofNumbers : ProofRead → ProofNumbers
+proofNumbers (Proof rows nodes members) = record { answer = 0; place = pos 0; rows = rows; nodes = nodes; members = members }
+proofNumbers (ProofRefused why p) = record { answer = refusalNumber why; place = placeNumber p; rows = 0; nodes = 0; members = 0 }
+
+pub record ModelNumbers : Type 0 where
+  pub answer : ℕ
+  pub place : ℤ
+  pub n : ℤ
+  pub pairs : ℕ
+
+unfoldable pub modelNumbers : ModelRead → ModelNumbers
+modelNumbers (Model n pairs) = record { answer = 0; place = pos 0; n = n; pairs = pairs }
+modelNumbers (ModelRefused why p) = record { answer = refusalNumber why; place = placeNumber p; n = pos 0; pairs = 0 }
+
+-- "writing gives the bytes"
+pub record WrittenNumbers : Type 0 where
+  pub answer : ℕ
+  pub place : ℤ
+  pub bytes : ℕ
+
+unfoldable pub writtenNumbers : Written → WrittenNumbers
+writtenNumbers (Text n) = record { answer = 0; place = pos 0; bytes = n }
+writtenNumbers (WriteRefused why p) = record { answer = refusalNumber why; place = placeNumber p; bytes = 0 }
+
+-- ---- the one number: "((answer × 8192 + place + 1) × 8192 + nodes) × 8192 + links"
+
+-- place + 1
+unfoldable pub placeCode : Place → ℕ
+placeCode Whole = 0
+placeCode (At k) = k + 1
+
+unfoldable pub packed : Verdict → ℕ
+packed (Accepted nodes links) = ((0 * 8192 + 1) * 8192 + nodes) * 8192 + links
+packed (Refused why p) = ((refusalNumber why * 8192 + placeCode p) * 8192 + 0) * 8192 + 0

@@ -1,0 +1,175 @@
+-- Demand 2's plain statements, with no order of refusal: "it has a node and all its rows keep the rules", and a model that is right.
+use Prim.Native.Nat.{ℕ, zero, suc, _+_, _*_, _≤_, _<_}
+use mathlib.Core.Path.{_≡_}
+use mathlib.Core.Logic.{_≢_, _⊎_}
+use mathlib.Core.Bool.{Bool, true, false}
+use mathlib.Core.List.{List, [], _∷_, List·Memᴰ}
+use lib.IntN.{ℤ, pos, negℤ, _+ℤ_, _-ℤ_}
+use lib.Signed.{_≤ℤ_, _<ℤ_}
+use lib.ListN.{length}
+use Rattle.stab.specs.Basic.{nat}
+use Rattle.stab.specs.Formula.{Row, Formula, tree, size, depth, isOuter, wellFormed}
+use Rattle.stab.specs.Alike.{lower, instance}
+use Rattle.stab.specs.Node.{Tableau, Bound, rows, rowCount, row, formula, node, nodeAt, set, setStart, setEnd, bound, rank, childCount}
+use Rattle.stab.specs.Rule.{unused, rule, given, indexAt}
+use Rattle.stab.specs.Model.{Model, schemaRow, symbolAt, indexOf, satisfied}
+
+-- ---- formula rows
+
+-- z lies in lo..hi
+abbrev pub Within : ℤ → ℤ → ℤ → Type 0
+Within lo hi z = (lo ≤ℤ z) × (z ≤ℤ hi)
+
+-- z is one of 0, 1, .. n - 1
+abbrev pub Below : ℕ → ℤ → Type 0
+Below n z = (pos 0 ≤ℤ z) × (z <ℤ pos n)
+
+pub record KeepsRow (rows : ℕ → Row) (r : ℕ) : Type 0 where
+  pub formed : wellFormed rows r ≡ true
+  pub small : size (tree rows r) ≤ 4096
+  pub flat : depth (tree rows r) ≤ 64
+
+-- the n formula rows, of which s are schema rows; the root, "an outer schema row", and the least value
+pub record KeepsFormulas (rows : ℕ → Row) (n s : ℕ) (root least : ℤ) : Type 0 where
+  pub rootRow : Below s root
+  pub leastRange : Within (pos 0) (pos 9999) least
+  pub each : (r : ℕ) → r < n → KeepsRow rows r
+  pub rootOuter : isOuter (tree rows (nat root)) ≡ true
+
+-- "agree in shape and in all numbers"
+unfoldable pub Alike : Formula → Formula → Type 0
+Alike f g = f ≡ g
+
+-- ---- nodes
+
+abbrev pub Ascending : List ℤ → Type 0
+Ascending [] = Unit {0}
+Ascending (x ∷ []) = Unit {0}
+Ascending (x ∷ (y ∷ ys)) = (x <ℤ y) × Ascending (y ∷ ys)
+
+pub record OuterRow (T : Tableau) (z : ℤ) : Type 0 where
+  pub isRow : Below (rowCount T) z
+  pub outer : isOuter (formula T z) ≡ true
+
+pub record KeepsSet (T : Tableau) (j : ℕ) : Type 0 where
+  pub follows : node T j .start ≡ setStart (T .nodes) j
+  pub notNegative : pos 0 ≤ℤ node T j .size
+  pub counted : setEnd (T .nodes) j ≤ℤ pos (T .memberCount)
+  pub order : Ascending (set T j)
+  pub outerRows : (z : ℤ) → List·Memᴰ z (set T j) → OuterRow T z
+  -- no member is left over after the last node
+  pub last : suc j ≡ T .nodeRows → setEnd (T .nodes) j ≡ pos (T .memberCount)
+
+abbrev pub KeepsParent : Tableau → ℕ → Type 0
+KeepsParent T zero = (node T zero .up ≡ negℤ (pos 1)) × (set T zero ≡ T .root ∷ [])
+KeepsParent T (suc i) = Below (suc i) (node T (suc i) .up)
+
+-- node i is a proper ancestor of node j
+pub data Ancestor (nodes : List ℤ) (i : ℕ) : ℕ → Type 0 where
+  parent : {j : ℕ} → nodeAt nodes j .up ≡ pos i → Ancestor nodes i j
+  further : {j k : ℕ} → nodeAt nodes j .up ≡ pos k → Ancestor nodes i k → Ancestor nodes i j
+
+-- ---- the rules
+
+-- z comes from node p's set, or from its rule for the child of rank k
+abbrev pub DrawnFrom : Tableau → ℕ → ℕ → ℤ → Type 0
+DrawnFrom T p k z = List·Memᴰ z (set T p) ⊎ List·Memᴰ z (given T (node T p) k)
+
+abbrev pub KeepsDrawn : Tableau → ℕ → Type 0
+KeepsDrawn T zero = Unit {0}
+KeepsDrawn T (suc i) = (z : ℤ) → List·Memᴰ z (set T (suc i)) → DrawnFrom T (nat (node T (suc i) .up)) (rank (T .nodes) (suc i)) z
+
+-- a field for which the table has a kind names a row of that kind; any other is unused
+pub record KeepsKind (T : Tableau) (need z : ℤ) : Type 0 where
+  pub unusedField : need ≡ unused → z ≡ unused
+  pub isRow : need ≢ unused → Below (rowCount T) z
+  pub ofKind : need ≢ unused → row T z .kind ≡ need
+
+-- rules 3 and 4
+pub record Unfolds (T : Tableau) (j : ℕ) : Type 0 where
+  pub nonempty : (row T (node T j .on) .b +ℤ row T (node T j .on) .c) ≤ℤ pos (bound T j .L)
+  pub sameBody : row T (node T j .with) .a ≡ row T (node T j .on) .a
+  pub sameStart : row T (node T j .with) .b ≡ row T (node T j .on) .b
+  pub shorter : row T (node T j .with) .c ≡ (row T (node T j .on) .c +ℤ pos 1)
+  pub instanceOf : Alike (instance (row T (node T j .on) .c) (formula T (row T (node T j .on) .a))) (formula T (node T j .other))
+
+-- two literals name the same index
+abbrev pub SameIndex : Bound → Row → Row → Type 0
+SameIndex B v w = ((v .b ≡ w .b) × (v .c ≡ w .c)) ⊎ ((B .exact ≡ true) × (indexAt (B .L) v ≡ indexAt (B .L) w))
+
+-- rule 6
+pub record Clashes (T : Tableau) (j : ℕ) : Type 0 where
+  pub withStands : List·Memᴰ (node T j .with) (set T j)
+  pub sameSymbol : row T (node T j .on) .a ≡ row T (node T j .with) .a
+  pub sameIndex : SameIndex (bound T j) (row T (node T j .on)) (row T (node T j .with))
+
+-- rule 8, with a link to node i
+pub record Loops (T : Tableau) (j i : ℕ) : Type 0 where
+  pub target : node T j .to ≡ pos i
+  pub ancestor : Ancestor (T .nodes) i j
+  pub isOpen : bound T i .exact ≡ false
+  pub above : pos (bound T i .L) ≤ℤ (pos (bound T j .L) -ℤ node T j .by)
+  pub lowered : (z : ℤ) → List·Memᴰ z (set T i) → (x : ℤ) × List·Memᴰ x (set T j) × Alike (lower (node T j .by) (formula T z)) (formula T x)
+
+pub record KeepsStep (T : Tableau) (j : ℕ) : Type 0 where
+  pub known : Below 9 (node T j .rule)
+  pub on : KeepsKind T (rule T j .on) (node T j .on)
+  pub onStands : rule T j .on ≢ unused → List·Memᴰ (node T j .on) (set T j)
+  pub with : KeepsKind T (rule T j .with) (node T j .with)
+  pub otherUsed : rule T j .other ≡ true → Below (rowCount T) (node T j .other)
+  pub otherUnused : rule T j .other ≡ false → node T j .other ≡ unused
+  pub linkUsed : rule T j .link ≡ true → pos 1 ≤ℤ node T j .by
+  pub linkUnused : rule T j .link ≡ false → (node T j .to ≡ unused) × (node T j .by ≡ pos 0)
+  pub split : node T j .rule ≡ pos 2 → (bound T j .exact ≡ false) × (bound T j .L ≤ 9998)
+  pub unfolds : (node T j .rule ≡ pos 3) ⊎ (node T j .rule ≡ pos 4) → Unfolds T j
+  pub clash : node T j .rule ≡ pos 6 → Clashes T j
+  pub void : node T j .rule ≡ pos 7 → (bound T j .exact ≡ true) × (pos (bound T j .L) <ℤ (row T (node T j .on) .b +ℤ row T (node T j .on) .c))
+  pub loop : node T j .rule ≡ pos 8 → (i : ℕ) × Loops T j i
+  pub children : childCount T j ≡ rule T j .children
+
+pub record KeepsNode (T : Tableau) (j : ℕ) : Type 0 where
+  pub set : KeepsSet T j
+  pub parent : KeepsParent T j
+  pub drawn : KeepsDrawn T j
+  pub step : KeepsStep T j
+
+-- ---- the whole record
+
+-- the lent tables hold what their counts say, and the counts are within the limits
+pub record KeepsTables (T : Tableau) : Type 0 where
+  pub schemaHeld : 4 * T .schemaRows ≤ length (T .schema)
+  pub proofHeld : 4 * T .proofRows ≤ length (T .proof)
+  pub nodesHeld : 9 * T .nodeRows ≤ length (T .nodes)
+  pub membersHeld : T .memberCount ≤ length (T .members)
+  pub rowLimit : rowCount T ≤ 1024
+  pub nodeLimit : T .nodeRows ≤ 1024
+  pub memberLimit : T .memberCount ≤ 8192
+
+-- "it has a node and all its rows keep document 01's rules"
+pub record Keeps (T : Tableau) : Type 0 where
+  pub tables : KeepsTables T
+  pub formulas : KeepsFormulas (rows T) (rowCount T) (T .schemaRows) (T .root) (T .least)
+  pub hasNode : 0 < T .nodeRows
+  pub nodes : (j : ℕ) → j < T .nodeRows → KeepsNode T j
+
+-- ---- a model
+
+-- one pair stands before another: by symbol, then by index
+abbrev pub PairBefore : ℤ → ℤ → ℤ → ℤ → Type 0
+PairBefore s i t j = (s <ℤ t) ⊎ ((s ≡ t) × (i <ℤ j))
+
+pub record KeepsPair (t : List ℤ) (k : ℕ) : Type 0 where
+  pub symbol : Within (pos 0) (pos 255) (symbolAt t k)
+  pub index : Within (negℤ (pos 29997)) (pos 29997) (indexOf t k)
+  pub follows : (i : ℕ) → k ≡ suc i → PairBefore (symbolAt t i) (indexOf t i) (symbolAt t k) (indexOf t k)
+
+-- "it and its schema are well formed, n is in range and the schema is true there"
+pub record KeepsModel (M : Model) : Type 0 where
+  pub schemaHeld : 4 * M .schemaRows ≤ length (M .schema)
+  pub pairsHeld : 2 * M .pairRows ≤ length (M .pairs)
+  pub rowLimit : M .schemaRows ≤ 1024
+  pub pairLimit : M .pairRows ≤ 4096
+  pub formulas : KeepsFormulas (schemaRow M) (M .schemaRows) (M .schemaRows) (M .root) (M .least)
+  pub pairs : (k : ℕ) → k < M .pairRows → KeepsPair (M .pairs) k
+  pub inRange : Within (M .least) (pos 9999) (M .n)
+  pub holds : satisfied M ≡ true

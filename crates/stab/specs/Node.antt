@@ -1,0 +1,180 @@
+-- 01, "Nodes and their bounds".
+use Prim.Native.Nat.{ℕ, zero, suc, _+_, _*_, _≤_}
+use mathlib.Core.Path.{_≡_}
+use mathlib.Core.Bool.{Bool, true, false}
+use mathlib.Core.List.{List, [], _∷_}
+use lib.IntN.{ℤ, pos, negsuc, negℤ, _+ℤ_}
+use lib.Signed.{leZ}
+use lib.ListN.{getD, take, drop}
+use Rattle.stab.specs.Basic.{if_then_else_, _and_, _or_, eqZ, nat, below, allOf, ascending, sameList, count}
+use Rattle.stab.specs.Formula.{Row, joined, Formula, tree, isOuter}
+
+-- What the check is lent: tables of numbers, with how many rows or members each is said to hold.
+pub record Tableau : Type 0 where
+  pub schema : List ℤ
+  pub schemaRows : ℕ
+  pub proof : List ℤ
+  pub proofRows : ℕ
+  pub root : ℤ
+  pub least : ℤ
+  pub nodes : List ℤ
+  pub nodeRows : ℕ
+  pub members : List ℤ
+  pub memberCount : ℕ
+
+-- the formula rows, schema rows first
+unfoldable pub rows : Tableau → ℕ → Row
+rows T = joined (T .schema) (T .schemaRows) (T .proof)
+
+unfoldable pub rowCount : Tableau → ℕ
+rowCount T = T .schemaRows + T .proofRows
+
+-- z is the number of a row
+unfoldable pub isRow : Tableau → ℤ → Bool
+isRow T z = below (rowCount T) z
+
+-- the row that z names, and its formula
+unfoldable pub row : Tableau → ℤ → Row
+row T z = rows T (nat z)
+
+unfoldable pub formula : Tableau → ℤ → Formula
+formula T z = tree (rows T) (nat z)
+
+-- "A node row is: up rule on with other to by set." "In a table a node is nine numbers: the seven, then the set's start among the members and its length"
+pub record Node : Type 0 where
+  pub up : ℤ
+  pub rule : ℤ
+  pub on : ℤ
+  pub with : ℤ
+  pub other : ℤ
+  pub to : ℤ
+  pub by : ℤ
+  pub start : ℤ
+  pub size : ℤ
+
+unfoldable pub nodeAt : List ℤ → ℕ → Node
+nodeAt t j = record {
+  up = getD t (9 * j) (pos 0);
+  rule = getD t (9 * j + 1) (pos 0);
+  on = getD t (9 * j + 2) (pos 0);
+  with = getD t (9 * j + 3) (pos 0);
+  other = getD t (9 * j + 4) (pos 0);
+  to = getD t (9 * j + 5) (pos 0);
+  by = getD t (9 * j + 6) (pos 0);
+  start = getD t (9 * j + 7) (pos 0);
+  size = getD t (9 * j + 8) (pos 0);
+}
+
+unfoldable pub node : Tableau → ℕ → Node
+node T j = nodeAt (T .nodes) j
+
+-- ---- sets
+
+-- the set of a node
+unfoldable pub setOf : List ℤ → Node → List ℤ
+setOf members w = take (nat (w .size)) (drop (nat (w .start)) members)
+
+unfoldable pub set : Tableau → ℕ → List ℤ
+set T j = setOf (T .members) (node T j)
+
+-- "sets follow one another from 0": where the set of node j has to start
+unfoldable pub setStart : List ℤ → ℕ → ℤ
+setStart nodes zero = pos 0
+setStart nodes (suc i) = nodeAt nodes i .start +ℤ nodeAt nodes i .size
+
+-- where the set of node j ends
+unfoldable pub setEnd : List ℤ → ℕ → ℤ
+setEnd nodes j = nodeAt nodes j .start +ℤ nodeAt nodes j .size
+
+-- "sets follow one another from 0, and no length is below 0"
+unfoldable pub setFollows : List ℤ → ℕ → Bool
+setFollows nodes j = eqZ (nodeAt nodes j .start) (setStart nodes j) and leZ (pos 0) (nodeAt nodes j .size)
+
+-- z is the number of an outer row
+unfoldable pub isOuterRow : Tableau → ℤ → Bool
+isOuterRow T z = isRow T z and isOuter (formula T z)
+
+-- "set lists outer rows, strictly ascending", among the counted members
+unfoldable pub setFits : Tableau → ℕ → Bool
+setFits T j =
+    setFollows (T .nodes) j and
+    leZ (setEnd (T .nodes) j) (pos (T .memberCount)) and
+    ascending (set T j) and
+    allOf (isOuterRow T) (set T j)
+
+-- ---- parents and children
+
+-- "up is the parent, a smaller number (node 0 has -1)." "Node 0's set is the root alone."
+unfoldable pub parentFits : Tableau → ℕ → Bool
+parentFits T zero = eqZ (node T zero .up) (negℤ (pos 1)) and sameList (set T zero) (T .root ∷ [])
+parentFits T (suc i) = below (suc i) (node T (suc i) .up)
+
+-- node i names z as its parent
+unfoldable pub names : List ℤ → ℤ → ℕ → Bool
+names nodes z i = eqZ (nodeAt nodes i .up) z
+
+-- how many children node j has: "A node's children are the nodes that name it"
+unfoldable pub childCount : Tableau → ℕ → ℕ
+childCount T j = count (names (T .nodes) (pos j)) (T .nodeRows)
+
+-- how many children of its parent stand before node j: "in ascending order", so 0 for the first child, 1 for the second
+unfoldable pub rank : List ℤ → ℕ → ℕ
+rank nodes j = count (names nodes (nodeAt nodes j .up)) j
+
+-- ---- bounds
+
+-- "Each node knows n ≥ L (open) or n = L (exact)."
+pub record Bound : Type 0 where
+  pub exact : Bool
+  pub L : ℕ
+
+-- n satisfies a bound
+unfoldable pub SatisfiesIf : Bool → ℕ → ℕ → Type 0
+SatisfiesIf true L n = n ≡ L
+SatisfiesIf false L n = L ≤ n
+
+unfoldable pub Satisfies : Bound → ℕ → Type 0
+Satisfies B n = SatisfiesIf (B .exact) (B .L) n
+
+-- under rule 2 "the first child is exact with L, the second open with L + 1"
+unfoldable pub splitBound : Bound → ℕ → Bound
+splitBound B zero = record { exact = true; L = B .L }
+splitBound B (suc k) = record { exact = false; L = suc (B .L) }
+
+-- "A child has its parent's bound, except under rule 2."
+unfoldable pub childBound : ℤ → Bound → ℕ → Bound
+childBound rule B k = if eqZ rule (pos 2) then splitBound B k else B
+
+-- "Node 0 is open with the least value."
+unfoldable pub firstBound : ℤ → Bound
+firstBound least = record { exact = false; L = nat least }
+
+unfoldable pub boundIf : Bool → List ℤ → ℤ → (ℕ → Bound) → ℕ → Bound
+boundIf true nodes least bound j = childBound (nodeAt nodes (nat (nodeAt nodes j .up)) .rule) (bound (nat (nodeAt nodes j .up))) (rank nodes j)
+boundIf false nodes least bound j = firstBound least
+
+-- the bound of node j, for k > j: parents have smaller numbers, so k steps are enough
+unfoldable pub boundN : List ℤ → ℤ → ℕ → ℕ → Bound
+boundN nodes least zero j = firstBound least
+boundN nodes least (suc k) j = boundIf (below j (nodeAt nodes j .up)) nodes least (boundN nodes least k) j
+
+unfoldable pub boundOf : List ℤ → ℤ → ℕ → Bound
+boundOf nodes least j = boundN nodes least (suc j) j
+
+unfoldable pub bound : Tableau → ℕ → Bound
+bound T j = boundOf (T .nodes) (T .least) j
+
+-- ---- ancestors
+
+unfoldable pub aboveIf : Bool → List ℤ → (ℕ → Bool) → ℤ → ℕ → Bool
+aboveIf true nodes above z j = eqZ (nodeAt nodes j .up) z or above (nat (nodeAt nodes j .up))
+aboveIf false nodes above z j = false
+
+-- z is a proper ancestor of node j, for k > j
+unfoldable pub aboveN : List ℤ → ℕ → ℤ → ℕ → Bool
+aboveN nodes zero z j = false
+aboveN nodes (suc k) z j = aboveIf (below j (nodeAt nodes j .up)) nodes (aboveN nodes k z) z j
+
+-- z is the parent of node j, or its parent's parent, and so on
+unfoldable pub isAncestor : List ℤ → ℤ → ℕ → Bool
+isAncestor nodes z j = aboveN nodes (suc j) z j

@@ -1,0 +1,81 @@
+// The answers of the paper as enums, and the row of its rule table as a struct.
+// What each case means in the paper's numbers is in specs/Answer.antt.
+
+// Where a record is turned away: as a whole, or at a row, node or line.
+pub enum Place {
+    Whole,
+    At(usize),
+}
+
+// Why a record is turned away: refusals 1 to 22.
+pub enum Refusal {
+    TextTooLong,
+    TableTooShort,
+    Heading,
+    Line,
+    TooMany,
+    Root,
+    IllFormed,
+    TooLarge,
+    Set,
+    Parent,
+    Drawn,
+    Step,
+    Target,
+    Bound,
+    Partner,
+    Lowered,
+    Children,
+    Pair,
+    Width,
+    False,
+    Number,
+    Output,
+}
+
+// The check's answer and the model check's. An accepted model has both counts 0.
+pub enum Verdict {
+    Accepted { nodes: usize, links: usize },
+    Refused { why: Refusal, place: Place },
+}
+
+// What reading a schema text gives.
+pub enum SchemaRead {
+    Schema { root: i32, least: i32, rows: usize },
+    Refused { why: Refusal, place: Place },
+}
+
+// What reading a proof text gives.
+pub enum ProofRead {
+    Proof {
+        rows: usize,
+        nodes: usize,
+        members: usize,
+    },
+    Refused {
+        why: Refusal,
+        place: Place,
+    },
+}
+
+// What reading a model text gives.
+pub enum ModelRead {
+    Model { n: i32, pairs: usize },
+    Refused { why: Refusal, place: Place },
+}
+
+// What writing a text gives.
+pub enum Written {
+    Text { bytes: usize },
+    Refused { why: Refusal, place: Place },
+}
+
+// A row of the rule table: the kinds that `on` and `with` need (-1: the field is unused),
+// whether `other` is used, whether `to` and `by` are, and the number of children.
+pub struct Rule {
+    pub on: i32,
+    pub with: i32,
+    pub other: bool,
+    pub link: bool,
+    pub children: usize,
+}
