@@ -1,0 +1,147 @@
+-- Laws of the tests that the definitions are made of.
+use Prim.Native.Nat.{ℕ, zero, suc, _<_, _≤_}
+use mathlib.Core.Path.{_≡_, refl, sym, _∙_, ap, subst}
+use mathlib.Core.Logic.{_⊎_, inl, inr}
+use mathlib.Core.Bool.{Bool, true, false, not, true≢false, false≢true}
+use mathlib.Core.Option.{Option, none, some}
+use Rattle.stab.specs.Basic.{if_then_else_, _and_, _or_, _implies_, _otherwise_, unless}
+
+pub and-left : (a b : Bool) → (a and b) ≡ true → a ≡ true
+unfolding _and_
+and-left true b h = refl
+and-left false b h = h
+
+pub and-right : (a b : Bool) → (a and b) ≡ true → b ≡ true
+unfolding _and_
+and-right true b h = h
+and-right false b h = absurd (false≢true h)
+
+pub and-both : (a b : Bool) → a ≡ true → b ≡ true → (a and b) ≡ true
+unfolding _and_
+and-both true b h k = k
+and-both false b h k = h
+
+pub and-first-false : (a b : Bool) → a ≡ false → (a and b) ≡ false
+unfolding _and_
+and-first-false true b h = absurd (true≢false h)
+and-first-false false b h = refl
+
+pub and-second-false : (a b : Bool) → b ≡ false → (a and b) ≡ false
+unfolding _and_
+and-second-false true b h = h
+and-second-false false b h = refl
+
+pub or-cases : (a b : Bool) → (a or b) ≡ true → (a ≡ true) ⊎ (b ≡ true)
+unfolding _or_
+or-cases true b h = inl refl
+or-cases false b h = inr h
+
+pub or-left : (a b : Bool) → a ≡ true → (a or b) ≡ true
+unfolding _or_
+or-left true b h = refl
+or-left false b h = absurd (false≢true h)
+
+pub or-right : (a b : Bool) → b ≡ true → (a or b) ≡ true
+unfolding _or_
+or-right true b h = refl
+or-right false b h = h
+
+pub or-false : (a b : Bool) → a ≡ false → b ≡ false → (a or b) ≡ false
+unfolding _or_
+or-false true b h k = h
+or-false false b h k = k
+
+pub or-false-left : (a b : Bool) → (a or b) ≡ false → a ≡ false
+unfolding _or_
+or-false-left true b h = h
+or-false-left false b h = refl
+
+pub or-false-right : (a b : Bool) → (a or b) ≡ false → b ≡ false
+unfolding _or_
+or-false-right true b h = absurd (true≢false h)
+or-false-right false b h = h
+
+pub implies-use : (a b : Bool) → (a implies b) ≡ true → a ≡ true → b ≡ true
+unfolding _implies_
+implies-use true b h k = h
+implies-use false b h k = absurd (false≢true k)
+
+pub implies-make : (a b : Bool) → (a ≡ true → b ≡ true) → (a implies b) ≡ true
+unfolding _implies_
+implies-make true b f = f refl
+implies-make false b f = refl
+
+pub not-of-false : (a : Bool) → a ≡ false → not a ≡ true
+not-of-false true h = sym h
+not-of-false false h = refl
+
+pub false-of-not : (a : Bool) → not a ≡ true → a ≡ false
+false-of-not true h = sym h
+false-of-not false h = refl
+
+pub not-of-true : (a : Bool) → a ≡ true → not a ≡ false
+not-of-true true h = refl
+not-of-true false h = sym h
+
+pub true-of-not : (a : Bool) → not a ≡ false → a ≡ true
+true-of-not true h = refl
+true-of-not false h = sym h
+
+-- a test passes or fails, and which it is is known
+pub decide : (a : Bool) → (a ≡ true) ⊎ (a ≡ false)
+decide true = inl refl
+decide false = inr refl
+
+pub if-true : {A : Type 0} (a : Bool) (x y : A) → a ≡ true → (if a then x else y) ≡ x
+unfolding if_then_else_
+if-true true x y h = refl
+if-true false x y h = absurd (false≢true h)
+
+pub if-false : {A : Type 0} (a : Bool) (x y : A) → a ≡ false → (if a then x else y) ≡ y
+unfolding if_then_else_
+if-false true x y h = absurd (true≢false h)
+if-false false x y h = refl
+
+-- two tests that pass on the same are the same
+pub same-test : (a b : Bool) → (a ≡ true → b ≡ true) → (b ≡ true → a ≡ true) → a ≡ b
+same-test true true f g = refl
+same-test true false f g = sym (f refl)
+same-test false true f g = g refl
+same-test false false f g = refl
+
+-- ---- findings
+
+pub unless-none : {A : Type 0} (a : Bool) (x : A) → unless a x ≡ none → a ≡ true
+unfolding unless
+unless-none {A} true x h = refl
+unless-none {A} false x h = absurd (mathlib.Core.Option.Option·some-ne-none x h)
+
+pub none-unless : {A : Type 0} (a : Bool) (x : A) → a ≡ true → unless a x ≡ none
+unfolding unless
+none-unless true x h = refl
+none-unless false x h = absurd (false≢true h)
+
+pub some-unless : {A : Type 0} (a : Bool) (x : A) → a ≡ false → unless a x ≡ some x
+unfolding unless
+some-unless true x h = absurd (true≢false h)
+some-unless false x h = refl
+
+pub otherwise-first : {A : Type 0} (x y : Option A) → (x otherwise y) ≡ none → x ≡ none
+unfolding _otherwise_
+otherwise-first none y h = refl
+otherwise-first (some a) y h = h
+
+pub otherwise-second : {A : Type 0} (x y : Option A) → (x otherwise y) ≡ none → y ≡ none
+unfolding _otherwise_
+otherwise-second none y h = h
+otherwise-second (some a) y h = absurd (mathlib.Core.Option.Option·some-ne-none a h)
+
+pub otherwise-none : {A : Type 0} (x y : Option A) → x ≡ none → (x otherwise y) ≡ y
+unfolding _otherwise_
+otherwise-none none y h = refl
+otherwise-none (some a) y h = absurd (mathlib.Core.Option.Option·some-ne-none a h)
+
+pub otherwise-some : {A : Type 0} (x y : Option A) (a : A) → x ≡ some a → (x otherwise y) ≡ some a
+unfolding _otherwise_
+otherwise-some none y a h = absurd (mathlib.Core.Option.Option·none-ne-some a h)
+otherwise-some (some b) y a h = h
