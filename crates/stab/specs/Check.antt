@@ -14,8 +14,15 @@ use Rattle.stab.specs.declared.Place.{Place}
 use Rattle.stab.specs.declared.Place.the-variants.{Whole, At}
 use Rattle.stab.specs.declared.Refusal.{Refusal}
 use Rattle.stab.specs.declared.Refusal.the-variants.{TableTooShort, TooMany, Root, IllFormed, TooLarge, Set, Parent, Drawn, Step, Target, Bound, Partner, Lowered, Children}
+use Rattle.stab.specs.declared.Finding.{Finding}
+use Rattle.stab.specs.declared.Finding.the-variants.{Nothing, Found}
 use Rattle.stab.specs.declared.Verdict.{Verdict}
 use Rattle.stab.specs.declared.Verdict.the-variants.{Accepted, Refused}
+
+-- what a part of the check finds, as a refusal
+unfoldable pub finding : Finding → Option Verdict
+finding Nothing = none
+finding (Found why p) = some (Refused why p)
 
 -- a refusal of the whole record, unless the test passes
 unfoldable pub wholeUnless : Bool → Refusal → Option Verdict

@@ -39,6 +39,12 @@ pub enum Verdict {
     Refused { why: Refusal, place: Place },
 }
 
+// What a part of the check finds: nothing, or the refusal.
+pub enum Finding {
+    Nothing,
+    Found { why: Refusal, place: Place },
+}
+
 // What reading a schema text gives.
 pub enum SchemaRead {
     Schema { root: i32, least: i32, rows: usize },

@@ -1,0 +1,43 @@
+// Formula rows: which are well formed, how large they are, when two agree.
+ghost use mathlib.Core.Path.{_≡_};
+ghost use Prim.Native.Nat.{_<_, _≤_, _^_};
+ghost use lib.IntN.{negℤ};
+ghost use Rattle.stab.specs.Basic.{eqZ, nat};
+ghost use Rattle.stab.specs.Formula.{joined};
+ghost use Rattle.formula.specs.Column.{column};
+
+// The natural part of column k of row r, schema rows first.
+pub fn natural_in(schema: &[i32], s: usize, proof: &[i32], r: usize, k: usize) -> usize
+    requires { ⌜ (r < 2 ^ 32) × (k < 4) ⌝ }
+    ensures { λ v. ⌜ v ≡ nat (column (joined (now (schema .entry)) s (now (proof .entry)) r) k) ⌝ }
+{
+    if r < s {
+        number::natural_at(schema, 4 * r + k)
+    } else {
+        number::natural_at(proof, 4 * (r - s) + k)
+    }
+}
+
+// How far below 0 it lies.
+pub fn under_in(schema: &[i32], s: usize, proof: &[i32], r: usize, k: usize) -> usize
+    requires { ⌜ (r < 2 ^ 32) × (k < 4) ⌝ }
+    ensures { λ v. ⌜ v ≡ nat (negℤ (column (joined (now (schema .entry)) s (now (proof .entry)) r) k)) ⌝ }
+{
+    if r < s {
+        number::under_at(schema, 4 * r + k)
+    } else {
+        number::under_at(proof, 4 * (r - s) + k)
+    }
+}
+
+// It is z.
+pub fn is_in(schema: &[i32], s: usize, proof: &[i32], r: usize, k: usize, z: i32) -> bool
+    requires { ⌜ (r < 2 ^ 32) × (k < 4) ⌝ }
+    ensures { λ v. ⌜ v ≡ eqZ (column (joined (now (schema .entry)) s (now (proof .entry)) r) k) z ⌝ }
+{
+    if r < s {
+        number::is_at(schema, 4 * r + k, z)
+    } else {
+        number::is_at(proof, 4 * (r - s) + k, z)
+    }
+}

@@ -1,0 +1,69 @@
+// The one leaf with signed numbers: what stands in a lent table, taken apart into naturals.
+// Every function is total, and its contract is the definition that it computes.
+ghost use mathlib.Core.Path.{_≡_};
+ghost use lib.ListN.{getD};
+ghost use lib.IntN.{pos, negsuc, negℤ, _-ℤ_};
+ghost use Rattle.stab.specs.Basic.{eqZ, nat};
+
+// What stands at i in a lent table, and 0 past its end.
+pub fn at(t: &[i32], i: usize) -> i32
+    ensures { λ r. ⌜ r ≡ getD (now (t .entry)) i (pos 0) ⌝ }
+{
+    if i < t.len() { t[i] } else { 0 }
+}
+
+// A whole number as a natural number, 0 where it is negative.
+pub fn natural(z: i32) -> usize
+    ensures { λ r. ⌜ r ≡ nat z ⌝ }
+{
+    if z < 0 { 0 } else { z as usize }
+}
+
+// -1 - z, which is a number of the type for every z.
+fn mirrored(z: i32) -> i32
+    ensures { λ r. ⌜ r ≡ (negsuc 0 -ℤ z) ⌝ }
+{
+    -1 - z
+}
+
+// How far a whole number lies below 0.
+pub fn under(z: i32) -> usize
+    ensures { λ r. ⌜ r ≡ nat (negℤ z) ⌝ }
+{
+    if z < 0 { natural(mirrored(z)) + 1 } else { 0 }
+}
+
+// The two are the same number.
+pub fn equal(a: i32, b: i32) -> bool
+    ensures { λ r. ⌜ r ≡ eqZ a b ⌝ }
+{
+    a == b
+}
+
+// The natural part of what stands at i.
+pub fn natural_at(t: &[i32], i: usize) -> usize
+    ensures { λ r. ⌜ r ≡ nat (getD (now (t .entry)) i (pos 0)) ⌝ }
+{
+    natural(at(t, i))
+}
+
+// How far below 0 it lies.
+pub fn under_at(t: &[i32], i: usize) -> usize
+    ensures { λ r. ⌜ r ≡ nat (negℤ (getD (now (t .entry)) i (pos 0))) ⌝ }
+{
+    under(at(t, i))
+}
+
+// It is z.
+pub fn is_at(t: &[i32], i: usize, z: i32) -> bool
+    ensures { λ r. ⌜ r ≡ eqZ (getD (now (t .entry)) i (pos 0)) z ⌝ }
+{
+    equal(at(t, i), z)
+}
+
+// What stands at i in one table and at j in another is the same number.
+pub fn same_at(t: &[i32], i: usize, u: &[i32], j: usize) -> bool
+    ensures { λ r. ⌜ r ≡ eqZ (getD (now (t .entry)) i (pos 0)) (getD (now (u .entry)) j (pos 0)) ⌝ }
+{
+    equal(at(t, i), at(u, j))
+}
