@@ -1,1 +1,3 @@
 pub mod Column
+pub mod Facts
+pub mod Compare

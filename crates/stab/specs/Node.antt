@@ -113,9 +113,12 @@ parentFits T (suc i) = below (suc i) (node T (suc i) .up)
 unfoldable pub names : List ℤ → ℤ → ℕ → Bool
 names nodes z i = eqZ (nodeAt nodes i .up) z
 
--- how many children node j has: "A node's children are the nodes that name it"
+-- how many children node j has among the first k nodes: "A node's children are the nodes that name it"
+unfoldable pub childCountOf : List ℤ → ℕ → ℕ → ℕ
+childCountOf nodes k j = count (names nodes (pos j)) k
+
 unfoldable pub childCount : Tableau → ℕ → ℕ
-childCount T j = count (names (T .nodes) (pos j)) (T .nodeRows)
+childCount T j = childCountOf (T .nodes) (T .nodeRows) j
 
 -- how many children of its parent stand before node j: "in ascending order", so 0 for the first child, 1 for the second
 unfoldable pub rank : List ℤ → ℕ → ℕ

@@ -1,0 +1,1 @@
+// The nodes of a tableau, and the check.
