@@ -5,3 +5,4 @@ pub mod Scans
 pub mod Evaluate
 pub mod Cases
 pub mod Trials
+pub mod Alikes
