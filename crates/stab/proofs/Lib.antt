@@ -6,3 +6,5 @@ pub mod Evaluate
 pub mod Cases
 pub mod Trials
 pub mod Alikes
+pub mod Tests
+pub mod Ancestors
