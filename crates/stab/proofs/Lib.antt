@@ -8,3 +8,4 @@ pub mod Trials
 pub mod Alikes
 pub mod Tests
 pub mod Ancestors
+pub mod Exactness

@@ -1,7 +1,7 @@
 -- Each test of the definitions passes exactly if the statement that it stands for holds.
 use Prim.Native.Nat.{ℕ, zero, suc, _≤_, _<_}
 use mathlib.Core.Path.{_≡_, refl, _∙_, ap₂}
-use mathlib.Core.Logic.{_↔_, _⊎_, inl, inr, ⊎-elim}
+use mathlib.Core.Logic.{_↔_, Iff·trans, _⊎_, inl, inr, ⊎-elim}
 use mathlib.Core.Bool.{Bool, true, false, not, true≢false, false≢true}
 use mathlib.Core.List.{List, [], _∷_, List·Memᴰ}
 use mathlib.Core.Option.{Option, none, some}
@@ -12,6 +12,10 @@ use borrow.Author.Tests.{le-leb, leb-true, lt-ltb, ltb-true, eq-eqb, eqb-true}
 use Rattle.stab.specs.Basic.{if_then_else_, _and_, _or_, _implies_, eqZ, within, below, has, allOf, ascending, sameList, _otherwise_, scan, unless}
 use Rattle.stab.specs.Formula.{Formula}
 use Rattle.stab.specs.Alike.{agree}
+use Rattle.stab.specs.Check.{wholeUnless, atUnless}
+use Rattle.stab.specs.declared.Place.the-variants.{Whole, At}
+use Rattle.stab.specs.declared.Refusal.{Refusal}
+use Rattle.stab.specs.declared.Verdict.the-variants.{Refused}
 use Rattle.stab.specs.Keeps.{Within, Below, Ascending, Alike}
 use Rattle.stab.proofs.Bools.{and-left, and-right, and-both, or-cases, or-left, or-right, implies-use, implies-make, false-of-not, not-of-false, unless-none, none-unless, otherwise-first, otherwise-second, otherwise-none}
 use Rattle.stab.proofs.Whole.{of-leZ, leZ-of, of-ltZ, ltZ-of, eqZ-true, eqZ-of}
@@ -21,10 +25,6 @@ use Rattle.stab.proofs.Alikes.{agree-true, agree-refl}
 infix 3 _tests_
 abbrev pub _tests_ : Bool → Type 0 → Type 0
 t tests P = (t ≡ true) ↔ P
-
--- the same test, of an equivalent statement
-pub restated : {t : Bool} {P Q : Type 0} → t tests P → (P → Q) → (Q → P) → t tests Q
-restated e f g = (λ h. f (e .0 h), λ q. e .1 (g q))
 
 pub itself : (t : Bool) → t tests (t ≡ true)
 itself t = (λ h. h, λ h. h)
@@ -100,7 +100,7 @@ same-list-tests [] [] = (λ h. refl, λ e. refl)
 same-list-tests [] (y ∷ ys) = (λ h. absurd (false≢true h), λ e. cc)
 same-list-tests (x ∷ xs) [] = (λ h. absurd (false≢true h), λ e. cc)
 same-list-tests (x ∷ xs) (y ∷ ys) =
-    restated (and-tests (eqZ-tests x y) (same-list-tests xs ys)) (λ p. ap₂ _∷_ (p .0) (p .1)) (λ e. (cc, cc))
+    Iff·trans (and-tests (eqZ-tests x y) (same-list-tests xs ys)) (λ p. ap₂ _∷_ (p .0) (p .1), λ e. (cc, cc))
 
 pub agree-tests : (f g : Formula) → agree f g tests Alike f g
 unfolding Alike
@@ -115,6 +115,14 @@ x clears P = (x ≡ none) ↔ P
 
 pub unless-clears : {A : Type 0} {t : Bool} {P : Type 0} (a : A) → t tests P → unless t a clears P
 unless-clears {A} {t} a e = (λ h. e .0 (unless-none t a h), λ p. none-unless t a (e .1 p))
+
+pub whole-clears : {t : Bool} {P : Type 0} (why : Refusal) → t tests P → wholeUnless t why clears P
+unfolding wholeUnless
+whole-clears why e = unless-clears (Refused why Whole) e
+
+pub at-clears : {t : Bool} {P : Type 0} (why : Refusal) (k : ℕ) → t tests P → atUnless t why k clears P
+unfolding atUnless
+at-clears why k e = unless-clears (Refused why (At k)) e
 
 pub otherwise-clears : {A : Type 0} {x y : Option A} {P Q : Type 0} → x clears P → y clears Q → (x otherwise y) clears (P × Q)
 otherwise-clears {A} {x} {y} e f =
