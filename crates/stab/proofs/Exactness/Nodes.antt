@@ -5,6 +5,7 @@ use mathlib.Core.Logic.{Iff·trans}
 use mathlib.Core.Bool.{true}
 use mathlib.Core.List.{[], _∷_}
 use lib.IntN.{ℤ, pos, negℤ}
+use Rattle.stab.specs.Basic.{nat}
 use Rattle.stab.specs.Formula.{isOuter}
 use Rattle.stab.specs.Node.{Tableau, rowCount, isRow, formula, node, nodeAt, set, setStart, setEnd, setFollows, isOuterRow, setFits, parentFits, rank}
 use Rattle.stab.specs.Rule.{given, drawnFrom, drawn}
@@ -62,4 +63,4 @@ pub drawn-tests : (T : Tableau) (j : ℕ) → drawn T j tests KeepsDrawn T j
 unfolding drawn
 drawn-tests T zero = (λ h. tt, λ u. refl)
 drawn-tests T (suc i) =
-    all-tests (set T (suc i)) (drawn-from-tests T (Rattle.stab.specs.Basic.nat (node T (suc i) .up)) (rank (T .nodes) (suc i)))
+    all-tests (set T (suc i)) (drawn-from-tests T (nat (node T (suc i) .up)) (rank (T .nodes) (suc i)))
