@@ -2,3 +2,5 @@
 mod Formulas
 mod Nodes
 mod Steps
+mod Pairs
+mod Refusals

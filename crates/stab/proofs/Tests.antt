@@ -31,16 +31,18 @@ itself t = (λ h. h, λ h. h)
 
 -- ---- conjunction and choice
 
-pub and-tests : {a b : Bool} {A B : Type 0} → a tests A → b tests B → (a and b) tests (A × B)
-and-tests {a} {b} e f =
+infixr 35 _&_
+pub _&_ : {a b : Bool} {A B : Type 0} → a tests A → b tests B → (a and b) tests (A × B)
+_&_ {a} {b} e f =
     (λ h. (e .0 (and-left a b h), f .0 (and-right a b h)), λ p. and-both a b (e .1 (p .0)) (f .1 (p .1)))
 
 pub or-tests : {a b : Bool} {A B : Type 0} → a tests A → b tests B → (a or b) tests (A ⊎ B)
 or-tests {a} {b} e f =
     (λ h. ⊎-elim (λ p. inl (e .0 p)) (λ q. inr (f .0 q)) (or-cases a b h), ⊎-elim (λ p. or-left a b (e .1 p)) (λ q. or-right a b (f .1 q)))
 
-pub implies-tests : {a b : Bool} {A B : Type 0} → a tests A → b tests B → (a implies b) tests (A → B)
-implies-tests {a} {b} e f =
+infixr 28 _⇒_
+pub _⇒_ : {a b : Bool} {A B : Type 0} → a tests A → b tests B → (a implies b) tests (A → B)
+_⇒_ {a} {b} e f =
     (λ h p. f .0 (implies-use a b h (e .1 p)), λ g. implies-make a b (λ h. f .1 (g (e .0 h))))
 
 pub not-tests : (a : Bool) → not a tests (a ≡ false)
@@ -73,11 +75,11 @@ eqZ-tests a b = (eqZ-true a b, eqZ-of a b)
 
 pub within-tests : (lo hi z : ℤ) → within lo hi z tests Within lo hi z
 unfolding within
-within-tests lo hi z = and-tests (leZ-tests lo z) (leZ-tests z hi)
+within-tests lo hi z = leZ-tests lo z & leZ-tests z hi
 
 pub below-tests : (n : ℕ) (z : ℤ) → below n z tests Below n z
 unfolding below
-below-tests n z = and-tests (leZ-tests (pos 0) z) (ltZ-tests z (pos n))
+below-tests n z = leZ-tests (pos 0) z & ltZ-tests z (pos n)
 
 -- ---- lists and formulas
 
@@ -92,7 +94,7 @@ pub ascending-tests : (xs : List ℤ) → ascending xs tests Ascending xs
 unfolding ascending
 ascending-tests [] = (λ h. tt, λ u. refl)
 ascending-tests (x ∷ []) = (λ h. tt, λ u. refl)
-ascending-tests (x ∷ (y ∷ ys)) = and-tests (ltZ-tests x y) (ascending-tests (y ∷ ys))
+ascending-tests (x ∷ (y ∷ ys)) = ltZ-tests x y & ascending-tests (y ∷ ys)
 
 pub same-list-tests : (xs ys : List ℤ) → sameList xs ys tests (xs ≡ ys)
 unfolding sameList
@@ -100,7 +102,7 @@ same-list-tests [] [] = (λ h. refl, λ e. refl)
 same-list-tests [] (y ∷ ys) = (λ h. absurd (false≢true h), λ e. cc)
 same-list-tests (x ∷ xs) [] = (λ h. absurd (false≢true h), λ e. cc)
 same-list-tests (x ∷ xs) (y ∷ ys) =
-    Iff·trans (and-tests (eqZ-tests x y) (same-list-tests xs ys)) (λ p. ap₂ _∷_ (p .0) (p .1), λ e. (cc, cc))
+    Iff·trans (eqZ-tests x y & same-list-tests xs ys) (λ p. ap₂ _∷_ (p .0) (p .1), λ e. (cc, cc))
 
 pub agree-tests : (f g : Formula) → agree f g tests Alike f g
 unfolding Alike
@@ -124,8 +126,9 @@ pub at-clears : {t : Bool} {P : Type 0} (why : Refusal) (k : ℕ) → t tests P 
 unfolding atUnless
 at-clears why k e = unless-clears (Refused why (At k)) e
 
-pub otherwise-clears : {A : Type 0} {x y : Option A} {P Q : Type 0} → x clears P → y clears Q → (x otherwise y) clears (P × Q)
-otherwise-clears {A} {x} {y} e f =
+infixr 25 _then_
+pub _then_ : {A : Type 0} {x y : Option A} {P Q : Type 0} → x clears P → y clears Q → (x otherwise y) clears (P × Q)
+_then_ {A} {x} {y} e f =
     (λ h. (e .0 (otherwise-first x y h), f .0 (otherwise-second x y h)), λ p. otherwise-none x y (e .1 (p .0)) ∙ f .1 (p .1))
 
 pub scan-clears : {A : Type 0} (f : ℕ → Option A) (n : ℕ) {P : ℕ → Type 0} → ((k : ℕ) → k < n → f k clears P k) → scan f n clears ((k : ℕ) → k < n → P k)
