@@ -1,10 +1,10 @@
 -- Each test of the definitions passes exactly if the statement that it stands for holds.
-use Prim.Native.Nat.{ℕ, zero, suc, _≤_, _<_}
+use Prim.Native.Nat.{ℕ, _≤_, _<_}
 use mathlib.Core.Path.{_≡_, refl, _∙_, ap₂}
 use mathlib.Core.Logic.{_↔_, Iff·trans, _⊎_, inl, inr, ⊎-elim}
 use mathlib.Core.Bool.{Bool, true, false, not, true≢false, false≢true}
 use mathlib.Core.List.{List, [], _∷_, List·Memᴰ}
-use mathlib.Core.Option.{Option, none, some}
+use mathlib.Core.Option.{Option, none}
 use lib.Dec.{leb, ltb, eqb}
 use lib.IntN.{ℤ, pos}
 use lib.Signed.{leZ, ltZ, _≤ℤ_, _<ℤ_}
@@ -126,10 +126,14 @@ pub at-clears : {t : Bool} {P : Type 0} (why : Refusal) (k : ℕ) → t tests P 
 unfolding atUnless
 at-clears why k e = unless-clears (Refused why (At k)) e
 
+-- the second finding is asked for only where the first statement holds
+pub once-clears : {A : Type 0} {x y : Option A} {P Q : Type 0} → x clears P → (P → y clears Q) → (x otherwise y) clears (P × Q)
+once-clears {A} {x} {y} e f =
+    (λ h. let p = e .0 (otherwise-first x y h) in (p, f p .0 (otherwise-second x y h)), λ p. otherwise-none x y (e .1 (p .0)) ∙ f (p .0) .1 (p .1))
+
 infixr 25 _then_
 pub _then_ : {A : Type 0} {x y : Option A} {P Q : Type 0} → x clears P → y clears Q → (x otherwise y) clears (P × Q)
-_then_ {A} {x} {y} e f =
-    (λ h. (e .0 (otherwise-first x y h), f .0 (otherwise-second x y h)), λ p. otherwise-none x y (e .1 (p .0)) ∙ f .1 (p .1))
+e then f = once-clears e (λ p. f)
 
 pub scan-clears : {A : Type 0} (f : ℕ → Option A) (n : ℕ) {P : ℕ → Type 0} → ((k : ℕ) → k < n → f k clears P k) → scan f n clears ((k : ℕ) → k < n → P k)
 scan-clears f n e =

@@ -1,19 +1,20 @@
 -- What the check and the model check find is a refusal, never an acceptance.
 use Prim.Native.Nat.{ℕ, zero, suc}
-use mathlib.Core.Path.{_≡_}
+use mathlib.Core.Path.{_≡_, refl}
+use native.Mathlib.Omega.{arith}
 use mathlib.Core.Bool.{Bool, true, false}
 use mathlib.Core.Option.{Option, none, some, Option·none-ne-some}
 use lib.IntN.{ℤ}
 use Rattle.stab.specs.Basic.{_otherwise_, scan, unless}
 use Rattle.stab.specs.Formula.{Row}
 use Rattle.stab.specs.Node.{Tableau, rows, rowCount}
-use Rattle.stab.specs.Check.{wholeUnless, atUnless, rowRefusal, formulasRefusal, setRefusal, parentRefusal, stepRefusal, nodeRefusal, refusal}
+use Rattle.stab.specs.Check.{wholeUnless, atUnless, rowRefusal, formulasRefusal, setRefusal, parentRefusal, stepRefusal, nodeRefusal, refusal, verdict}
 use Rattle.stab.specs.Model.{Model, pairRefusal, schemaRow, modelRefusal}
 use Rattle.stab.specs.declared.Place.{Place}
 use Rattle.stab.specs.declared.Place.the-variants.{Whole, At}
 use Rattle.stab.specs.declared.Refusal.{Refusal}
 use Rattle.stab.specs.declared.Verdict.{Verdict}
-use Rattle.stab.specs.declared.Verdict.the-variants.{Refused}
+use Rattle.stab.specs.declared.Verdict.the-variants.{Accepted, Refused}
 
 -- a verdict that refuses
 abbrev pub IsRefused : Verdict → Type 0
@@ -80,3 +81,12 @@ of-model-refusal M =
     of-scan (pairRefusal (M .pairs)) (M .pairRows) (λ k. of-at _ _ k) or-else
     of-whole _ _ or-else
     of-whole _ _
+
+-- an acceptance is the verdict where nothing is found
+pub accepted : (x : Option Verdict) (m k n l : ℕ) → FindsRefusals x → verdict x (Accepted m k) ≡ Accepted n l → (x ≡ none) × (n ≡ m) × (l ≡ k)
+unfolding verdict
+accepted none m k n l f h = (refl, cc, cc)
+accepted (some v) m k n l f h =
+    let r : v ≡ Refused (f v refl .0) (f v refl .1) = f v refl .2 in
+    let z : _≡_ {A = ℕ} 0 1 = cc in
+    absurd (omega arith)

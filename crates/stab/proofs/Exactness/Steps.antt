@@ -1,4 +1,5 @@
 -- A node's step is passed exactly if it keeps its rule, where all parents have smaller numbers.
+-- What the rules ask is first grouped by refusal, 12 to 17, as the tests are; at the end it is regrouped by rule.
 use Prim.Native.Nat.{ℕ, _≤_, _<_}
 use mathlib.Core.Path.{_≡_, refl, sym, ap, subst}
 use mathlib.Core.Logic.{Iff·trans, _≢_, _⊎_, inl, inr, ⊎-elim}
@@ -12,7 +13,7 @@ use Rattle.stab.specs.Alike.{lower, instance}
 use Rattle.stab.specs.Node.{Tableau, Node, Bound, rowCount, isRow, row, formula, node, set, bound, childCount}
 use Rattle.stab.specs.Rule.{unused, rule, ofRule, kindFits, onStands, otherFits, linkFits, symbolFits, fieldsFit, targetFits, splitFits, unfoldFits, indexAt, clashFits, voidFits, loopFits, boundFits, shortened, isInstance, partnersFit, isLowered, hasLowered, loweredFits, childrenFit}
 use Rattle.stab.specs.Check.{stepRefusal, nodeRefusal}
-use Rattle.stab.specs.Keeps.{Below, Alike, KeepsParent, Ancestor, KeepsDrawn, KeepsKind, Unfolds, SameIndex, Clashes, Loops, KeepsStep}
+use Rattle.stab.specs.Keeps.{Below, Alike, KeepsParent, Ancestor, KeepsDrawn, KeepsKind, SameIndex, Loops, KeepsStep}
 use Rattle.stab.specs.declared.Refusal.the-variants.{Drawn, Step, Target, Bound as BoundWrong, Partner, Lowered, Children}
 use Rattle.stab.proofs.Whole.{eqZ-of, eqZ-true, eqZ-not, not-eqZ}
 use Rattle.stab.proofs.Bools.{decide}
