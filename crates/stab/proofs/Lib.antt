@@ -6,3 +6,7 @@ pub mod Meanings
 pub mod Evaluate
 pub mod Cases
 pub mod Trials
+pub mod Alikes
+pub mod Tests
+pub mod Ancestors
+pub mod Exactness

@@ -1,0 +1,64 @@
+-- Demand 2: the check accepts exactly the records that keep the rules, and the model check exactly the models that are right.
+mod Formulas
+mod Nodes
+mod Steps
+mod Checked
+mod Models
+mod Refusals
+use Prim.Native.Nat.{ℕ}
+use mathlib.Core.Path.{_≡_}
+use mathlib.Core.Logic.{_↔_}
+use mathlib.Core.Option.{none, some}
+use Rattle.stab.specs.Node.{Tableau}
+use Rattle.stab.specs.Check.{refusal, linkCount, verdict, check}
+use Rattle.stab.specs.Model.{Model, modelRefusal, checkModel}
+use Rattle.stab.specs.Keeps.{Keeps, KeepsModel}
+use Rattle.stab.specs.declared.Place.{Place}
+use Rattle.stab.specs.declared.Refusal.{Refusal}
+use Rattle.stab.specs.declared.Verdict.{Verdict}
+use Rattle.stab.specs.declared.Verdict.the-variants.{Accepted, Refused}
+use Checked.{tableau-clears}
+use Models.{model-clears}
+use Refusals.{of-refusal, of-model-refusal, accepted}
+
+-- the check accepts exactly the records that keep the rules, and says how many nodes and links they have
+pub accepts-exactly : (T : Tableau) (n l : ℕ) → (check T ≡ Accepted n l) ↔ (Keeps T × (n ≡ T .nodeRows) × (l ≡ linkCount T))
+unfolding check verdict
+accepts-exactly T n l = (
+  λ h. let a = accepted (refusal T) (T .nodeRows) (linkCount T) n l (of-refusal T) h in (tableau-clears T .0 (a .0), a .1, a .2),
+  λ p. rw (tableau-clears T .1 (p .0), p .1, p .2),
+)
+
+-- the model check accepts exactly the models that are right
+pub model-accepts-exactly : (M : Model) → (checkModel M ≡ Accepted 0 0) ↔ KeepsModel M
+unfolding checkModel verdict
+model-accepts-exactly M = (
+  λ h. model-clears M .0 (accepted (modelRefusal M) 0 0 0 0 (of-model-refusal M) h .0),
+  λ k. rw (model-clears M .1 k),
+)
+
+-- an accepted model has both counts 0
+pub model-counts : (M : Model) (n l : ℕ) → checkModel M ≡ Accepted n l → (n ≡ 0) × (l ≡ 0)
+unfolding checkModel
+model-counts M n l h = let a = accepted (modelRefusal M) 0 0 n l (of-model-refusal M) h in (a .1, a .2)
+
+-- ---- the same of what is found
+
+pub keeps-of : (T : Tableau) → refusal T ≡ none → Keeps T
+keeps-of T = tableau-clears T .0
+
+pub of-keeps : (T : Tableau) → Keeps T → refusal T ≡ none
+of-keeps T = tableau-clears T .1
+
+pub keeps-model-of : (M : Model) → modelRefusal M ≡ none → KeepsModel M
+keeps-model-of M = model-clears M .0
+
+pub of-keeps-model : (M : Model) → KeepsModel M → modelRefusal M ≡ none
+of-keeps-model M = model-clears M .1
+
+-- what is found is a refusal, never an acceptance
+pub refusal-refuses : (T : Tableau) (v : Verdict) → refusal T ≡ some v → (why : Refusal) × (place : Place) × (v ≡ Refused why place)
+refusal-refuses = of-refusal
+
+pub model-refusal-refuses : (M : Model) (v : Verdict) → modelRefusal M ≡ some v → (why : Refusal) × (place : Place) × (v ≡ Refused why place)
+model-refusal-refuses = of-model-refusal

@@ -1,0 +1,275 @@
+-- A node's step is passed exactly if it keeps its rule, where all parents have smaller numbers.
+-- What the rules ask is first grouped by refusal, 12 to 17, as the tests are; at the end it is regrouped by rule.
+use Prim.Native.Nat.{ℕ, _≤_, _<_}
+use mathlib.Core.Path.{_≡_, refl, sym, ap, subst}
+use mathlib.Core.Logic.{Iff·trans, _≢_, _⊎_, inl, inr, ⊎-elim}
+use mathlib.Core.Bool.{true, false, false≢true}
+use mathlib.Core.List.{List, [], _∷_, List·Memᴰ, List·Memᴰ·head, List·Memᴰ·tail, List·Memᴰ·cases-cons, List·Memᴰ·not-nil}
+use lib.IntN.{ℤ, pos, _+ℤ_, _-ℤ_}
+use lib.Signed.{_≤ℤ_, _<ℤ_}
+use Rattle.stab.specs.Basic.{_or_, eqZ, nat}
+use Rattle.stab.specs.Formula.{Row}
+use Rattle.stab.specs.Alike.{lower, instance}
+use Rattle.stab.specs.Node.{Tableau, Node, Bound, rowCount, isRow, row, formula, node, set, bound, childCount}
+use Rattle.stab.specs.Rule.{unused, rule, ofRule, kindFits, onStands, otherFits, linkFits, symbolFits, fieldsFit, targetFits, splitFits, unfoldFits, indexAt, clashFits, voidFits, loopFits, boundFits, shortened, isInstance, partnersFit, isLowered, hasLowered, loweredFits, childrenFit}
+use Rattle.stab.specs.Check.{stepRefusal, nodeRefusal}
+use Rattle.stab.specs.Keeps.{Below, Alike, KeepsParent, Ancestor, KeepsDrawn, KeepsKind, SameIndex, Loops, KeepsStep}
+use Rattle.stab.specs.declared.Refusal.the-variants.{Drawn, Step, Target, Bound as BoundWrong, Partner, Lowered, Children}
+use Rattle.stab.proofs.Whole.{eqZ-of, eqZ-true, eqZ-not, not-eqZ}
+use Rattle.stab.proofs.Bools.{decide}
+use Rattle.stab.proofs.Tests.{_tests_, itself, _&_, or-tests, _⇒_, not-tests, if-tests, le-tests, eq-tests, leZ-tests, ltZ-tests, eqZ-tests, below-tests, has-tests, all-tests, agree-tests, _clears_, at-clears, _then_}
+use Rattle.stab.proofs.Ancestors.{ancestor-tests}
+use Rattle.stab.proofs.Exactness.Nodes.{drawn-tests}
+
+-- ---- fields: 12
+
+kind-tests : (T : Tableau) (need z : ℤ) → kindFits T need z tests KeepsKind T need z
+unfolding kindFits isRow
+kind-tests T need z =
+    Iff·trans
+    (if-tests (eqZ need unused) (eqZ-tests z unused) (below-tests (rowCount T) z & eqZ-tests (row T z .kind) need)) (
+      λ p. record {
+        unusedField = λ e. p .0 (eqZ-of need unused e);
+        isRow = λ n. p .1 (eqZ-not need unused n) .0;
+        ofKind = λ n. p .1 (eqZ-not need unused n) .1;
+      },
+      λ k. (λ e. k .unusedField (eqZ-true need unused e), λ n. (k .isRow (not-eqZ need unused n), k .ofKind (not-eqZ need unused n))),
+    )
+
+on-tests : (T : Tableau) (j : ℕ) → onStands T j tests (rule T j .on ≢ unused → List·Memᴰ (node T j .on) (set T j))
+unfolding onStands
+on-tests T j =
+    Iff·trans
+    (or-tests (eqZ-tests (rule T j .on) unused) (has-tests (node T j .on) (set T j)))
+    (λ p n. ⊎-elim (λ e. absurd (n e)) (λ m. m) p, λ f. ⊎-elim (λ e. inl (eqZ-true _ _ e)) (λ e. inr (f (not-eqZ _ _ e))) (decide (eqZ (rule T j .on) unused)))
+
+rule-tests : (k : ℕ) (w : Node) → ofRule k w tests (w .rule ≡ pos k)
+unfolding ofRule
+rule-tests k w = eqZ-tests (w .rule) (pos k)
+
+record Fields (T : Tableau) (j : ℕ) : Type 0 where
+  known : Below 9 (node T j .rule)
+  on : KeepsKind T (rule T j .on) (node T j .on)
+  onStands : rule T j .on ≢ unused → List·Memᴰ (node T j .on) (set T j)
+  with : KeepsKind T (rule T j .with) (node T j .with)
+  other : (rule T j .other ≡ true → Below (rowCount T) (node T j .other)) × (rule T j .other ≡ false → node T j .other ≡ unused)
+  link : (rule T j .link ≡ true → pos 1 ≤ℤ node T j .by) × (rule T j .link ≡ false → (node T j .to ≡ unused) × (node T j .by ≡ pos 0))
+  clash : node T j .rule ≡ pos 6 → List·Memᴰ (node T j .with) (set T j) × (row T (node T j .on) .a ≡ row T (node T j .with) .a)
+
+fields-tests : (T : Tableau) (j : ℕ) → fieldsFit T j tests Fields T j
+unfolding fieldsFit otherFits isRow linkFits symbolFits
+fields-tests T j =
+    Iff·trans
+    (below-tests 9 (node T j .rule) &
+    kind-tests T (rule T j .on) (node T j .on) &
+    on-tests T j &
+    kind-tests T (rule T j .with) (node T j .with) &
+    if-tests (rule T j .other) (below-tests (rowCount T) (node T j .other)) (eqZ-tests (node T j .other) unused) &
+    if-tests (rule T j .link) (leZ-tests (pos 1) (node T j .by)) (eqZ-tests (node T j .to) unused & eqZ-tests (node T j .by) (pos 0)) &
+    (rule-tests 6 (node T j) ⇒
+    has-tests (node T j .with) (set T j) & eqZ-tests (row T (node T j .on) .a) (row T (node T j .with) .a))) (
+      λ p. record {
+        known = p .0;
+        on = p .1 .0;
+        onStands = p .1 .1 .0;
+        with = p .1 .1 .1 .0;
+        other = p .1 .1 .1 .1 .0;
+        link = p .1 .1 .1 .1 .1 .0;
+        clash = p .1 .1 .1 .1 .1 .1;
+      },
+      λ k. (k .known, (k .on, (k .onStands, (k .with, (k .other, (k .link, k .clash)))))),
+    )
+
+-- ---- the target of a loop: 13
+
+target-tests : (T : Tableau) → ((k : ℕ) → k < T .nodeRows → KeepsParent T k) → (j : ℕ) → j < T .nodeRows → targetFits T j tests (node T j .rule ≡ pos 8 → (i : ℕ) × (node T j .to ≡ pos i) × Ancestor (T .nodes) i j)
+unfolding targetFits
+target-tests T keeps j l = rule-tests 8 (node T j) ⇒ ancestor-tests T keeps (node T j .to) j l
+
+-- ---- bounds and the index of a clash: 14
+
+unfold-tests : (w : Node) → (ofRule 3 w or ofRule 4 w) tests ((w .rule ≡ pos 3) ⊎ (w .rule ≡ pos 4))
+unfold-tests w = or-tests (rule-tests 3 w) (rule-tests 4 w)
+
+index-tests : (B : Bound) (v w : Row) → clashFits B v w tests SameIndex B v w
+unfolding clashFits
+index-tests B v w =
+    or-tests
+    (eqZ-tests (v .b) (w .b) & eqZ-tests (v .c) (w .c))
+    (itself (B .exact) & eqZ-tests (indexAt (B .L) v) (indexAt (B .L) w))
+
+record Bounds (T : Tableau) (j : ℕ) : Type 0 where
+  split : node T j .rule ≡ pos 2 → (bound T j .exact ≡ false) × (bound T j .L ≤ 9998)
+  unfolds : (node T j .rule ≡ pos 3) ⊎ (node T j .rule ≡ pos 4) → (row T (node T j .on) .b +ℤ row T (node T j .on) .c) ≤ℤ pos (bound T j .L)
+  clash : node T j .rule ≡ pos 6 → SameIndex (bound T j) (row T (node T j .on)) (row T (node T j .with))
+  void : node T j .rule ≡ pos 7 → (bound T j .exact ≡ true) × (pos (bound T j .L) <ℤ (row T (node T j .on) .b +ℤ row T (node T j .on) .c))
+  loop : node T j .rule ≡ pos 8 → (bound T (nat (node T j .to)) .exact ≡ false) × (pos (bound T (nat (node T j .to)) .L) ≤ℤ (pos (bound T j .L) -ℤ node T j .by))
+
+bound-tests : (T : Tableau) (j : ℕ) → boundFits T j tests Bounds T j
+unfolding boundFits splitFits unfoldFits voidFits loopFits
+bound-tests T j =
+    Iff·trans
+    ((rule-tests 2 (node T j) ⇒ not-tests (bound T j .exact) & le-tests (bound T j .L) 9998) &
+    (unfold-tests (node T j) ⇒ leZ-tests (row T (node T j .on) .b +ℤ row T (node T j .on) .c) (pos (bound T j .L))) &
+    (rule-tests 6 (node T j) ⇒ index-tests (bound T j) (row T (node T j .on)) (row T (node T j .with))) &
+    (rule-tests 7 (node T j) ⇒
+    itself (bound T j .exact) & ltZ-tests (pos (bound T j .L)) (row T (node T j .on) .b +ℤ row T (node T j .on) .c)) &
+    (rule-tests 8 (node T j) ⇒
+    not-tests (bound T (nat (node T j .to)) .exact) &
+    leZ-tests (pos (bound T (nat (node T j .to)) .L)) (pos (bound T j .L) -ℤ node T j .by)))
+    (λ p. record { split = p .0; unfolds = p .1 .0; clash = p .1 .1 .0; void = p .1 .1 .1 .0; loop = p .1 .1 .1 .1 }, λ k. (k .split, (k .unfolds, (k .clash, (k .void, k .loop)))))
+
+-- ---- with and other of an unfolding: 15
+
+record Partners (T : Tableau) (j : ℕ) : Type 0 where
+  sameBody : row T (node T j .with) .a ≡ row T (node T j .on) .a
+  sameStart : row T (node T j .with) .b ≡ row T (node T j .on) .b
+  shorter : row T (node T j .with) .c ≡ (row T (node T j .on) .c +ℤ pos 1)
+  instanceOf : Alike (instance (row T (node T j .on) .c) (formula T (row T (node T j .on) .a))) (formula T (node T j .other))
+
+partners-tests : (T : Tableau) (j : ℕ) → partnersFit T j tests ((node T j .rule ≡ pos 3) ⊎ (node T j .rule ≡ pos 4) → Partners T j)
+unfolding partnersFit shortened isInstance
+partners-tests T j =
+    unfold-tests (node T j) ⇒
+    Iff·trans
+    ((eqZ-tests (row T (node T j .with) .a) (row T (node T j .on) .a) &
+    eqZ-tests (row T (node T j .with) .b) (row T (node T j .on) .b) &
+    eqZ-tests (row T (node T j .with) .c) (row T (node T j .on) .c +ℤ pos 1)) &
+    agree-tests (instance (row T (node T j .on) .c) (formula T (row T (node T j .on) .a))) (formula T (node T j .other)))
+    (λ p. record { sameBody = p .0 .0; sameStart = p .0 .1 .0; shorter = p .0 .1 .1; instanceOf = p .1 }, λ k. ((k .sameBody, (k .sameStart, k .shorter)), k .instanceOf))
+
+-- ---- the lowered rows of a loop: 16
+
+-- row z, lowered by k, stands in the set
+abbrev Lowers : Tableau → ℤ → List ℤ → ℤ → Type 0
+Lowers T k xs z = (x : ℤ) × List·Memᴰ x xs × Alike (lower k (formula T z)) (formula T x)
+
+has-lowered-tests : (T : Tableau) (k : ℤ) (xs : List ℤ) (z : ℤ) → hasLowered T k xs z tests Lowers T k xs z
+unfolding hasLowered isLowered
+has-lowered-tests T k [] z = (λ h. absurd (false≢true h), λ p. absurd (List·Memᴰ·not-nil (p .1)))
+has-lowered-tests T k (x ∷ xs) z =
+    Iff·trans
+    (or-tests (agree-tests (lower k (formula T z)) (formula T x)) (has-lowered-tests T k xs z)) (
+      ⊎-elim (λ e. (x, List·Memᴰ·head refl, e)) (λ p. (p .0, List·Memᴰ·tail (p .1), p .2)),
+      λ p.
+          ⊎-elim
+          (λ e. inl (subst (λ (y : ℤ). Alike (lower k (formula T z)) (formula T y)) e (p .2)))
+          (λ m. inr (p .0, m, p .2))
+          (List·Memᴰ·cases-cons (p .1)),
+    )
+
+lowered-tests : (T : Tableau) (j : ℕ) → loweredFits T j tests (node T j .rule ≡ pos 8 → (z : ℤ) → List·Memᴰ z (set T (nat (node T j .to))) → Lowers T (node T j .by) (set T j) z)
+unfolding loweredFits
+lowered-tests T j =
+    rule-tests 8 (node T j) ⇒ all-tests (set T (nat (node T j .to))) (has-lowered-tests T (node T j .by) (set T j))
+
+-- ---- the whole step
+
+-- what the tests of a node say, in their order
+record Judged (T : Tableau) (j : ℕ) : Type 0 where
+  drawn : KeepsDrawn T j
+  fields : Fields T j
+  target : node T j .rule ≡ pos 8 → (i : ℕ) × (node T j .to ≡ pos i) × Ancestor (T .nodes) i j
+  bounds : Bounds T j
+  partners : (node T j .rule ≡ pos 3) ⊎ (node T j .rule ≡ pos 4) → Partners T j
+  lowered : node T j .rule ≡ pos 8 → (z : ℤ) → List·Memᴰ z (set T (nat (node T j .to))) → Lowers T (node T j .by) (set T j) z
+  children : childCount T j ≡ rule T j .children
+
+judged-clears : (T : Tableau) → ((k : ℕ) → k < T .nodeRows → KeepsParent T k) → (j : ℕ) → j < T .nodeRows → nodeRefusal T j clears Judged T j
+unfolding nodeRefusal stepRefusal childrenFit
+judged-clears T keeps j l =
+    Iff·trans
+    ((at-clears Drawn j (drawn-tests T j) then
+    at-clears Step j (fields-tests T j) then
+    at-clears Target j (target-tests T keeps j l) then
+    at-clears BoundWrong j (bound-tests T j) then
+    at-clears Partner j (partners-tests T j) then
+    at-clears Lowered j (lowered-tests T j)) then
+    at-clears Children j (eq-tests (childCount T j) (rule T j .children))) (
+      λ p. record {
+        drawn = p .0 .0;
+        fields = p .0 .1 .0;
+        target = p .0 .1 .1 .0;
+        bounds = p .0 .1 .1 .1 .0;
+        partners = p .0 .1 .1 .1 .1 .0;
+        lowered = p .0 .1 .1 .1 .1 .1;
+        children = p .1;
+      },
+      λ k. ((k .drawn, (k .fields, (k .target, (k .bounds, (k .partners, k .lowered))))), k .children),
+    )
+
+loops : (T : Tableau) (j : ℕ) → Judged T j → node T j .rule ≡ pos 8 → (i : ℕ) × Loops T j i
+unfolding nat
+loops T j k r =
+    let i : ℕ = k .target r .0 in
+    let e : nat (node T j .to) ≡ i = ap nat (k .target r .1) in (
+      i,
+      record {
+        target = k .target r .1;
+        ancestor = k .target r .2;
+        isOpen = subst (λ (m : ℕ). bound T m .exact ≡ false) e (k .bounds .loop r .0);
+        above = subst (λ (m : ℕ). pos (bound T m .L) ≤ℤ (pos (bound T j .L) -ℤ node T j .by)) e (k .bounds .loop r .1);
+        lowered = λ z m. k .lowered r z (subst (λ (m : ℕ). List·Memᴰ z (set T m)) (sym e) m);
+      },
+    )
+
+keeps-judged : (T : Tableau) (j : ℕ) → Judged T j → KeepsStep T j
+keeps-judged T j k = record {
+  known = k .fields .known;
+  on = k .fields .on;
+  onStands = k .fields .onStands;
+  with = k .fields .with;
+  otherUsed = k .fields .other .0;
+  otherUnused = k .fields .other .1;
+  linkUsed = k .fields .link .0;
+  linkUnused = k .fields .link .1;
+  split = k .bounds .split;
+  unfolds = λ r. record {
+    nonempty = k .bounds .unfolds r;
+    sameBody = k .partners r .sameBody;
+    sameStart = k .partners r .sameStart;
+    shorter = k .partners r .shorter;
+    instanceOf = k .partners r .instanceOf;
+  };
+  clash = λ r. record { withStands = k .fields .clash r .0; sameSymbol = k .fields .clash r .1; sameIndex = k .bounds .clash r };
+  void = k .bounds .void;
+  loop = loops T j k;
+  children = k .children;
+}
+
+judged-keeps : (T : Tableau) (j : ℕ) → KeepsDrawn T j → KeepsStep T j → Judged T j
+unfolding nat
+judged-keeps T j d k = record {
+  drawn = d;
+  fields = record {
+    known = k .known;
+    on = k .on;
+    onStands = k .onStands;
+    with = k .with;
+    other = (k .otherUsed, k .otherUnused);
+    link = (k .linkUsed, k .linkUnused);
+    clash = λ r. (k .clash r .withStands, k .clash r .sameSymbol);
+  };
+  target = λ r. (k .loop r .0, k .loop r .1 .target, k .loop r .1 .ancestor);
+  bounds = record {
+    split = k .split;
+    unfolds = λ r. k .unfolds r .nonempty;
+    clash = λ r. k .clash r .sameIndex;
+    void = k .void;
+    loop = λ r.
+        let e : nat (node T j .to) ≡ k .loop r .0 = ap nat (k .loop r .1 .target) in
+        (subst (λ (m : ℕ). bound T m .exact ≡ false) (sym e) (k .loop r .1 .isOpen), subst (λ (m : ℕ). pos (bound T m .L) ≤ℤ (pos (bound T j .L) -ℤ node T j .by)) (sym e) (k .loop r .1 .above));
+  };
+  partners = λ r. record {
+    sameBody = k .unfolds r .sameBody;
+    sameStart = k .unfolds r .sameStart;
+    shorter = k .unfolds r .shorter;
+    instanceOf = k .unfolds r .instanceOf;
+  };
+  lowered = λ r z m. k .loop r .1 .lowered z (subst (λ (m : ℕ). List·Memᴰ z (set T m)) (ap nat (k .loop r .1 .target)) m);
+  children = k .children;
+}
+
+pub step-clears : (T : Tableau) → ((k : ℕ) → k < T .nodeRows → KeepsParent T k) → (j : ℕ) → j < T .nodeRows → nodeRefusal T j clears (KeepsDrawn T j × KeepsStep T j)
+step-clears T keeps j l =
+    Iff·trans (judged-clears T keeps j l) (λ k. (k .drawn, keeps-judged T j k), λ p. judged-keeps T j (p .0) (p .1))
