@@ -3,6 +3,8 @@ pub mod Whole
 pub mod Trees
 pub mod Scans
 pub mod Meanings
+pub mod Decoded
+pub mod Bounds
 pub mod Evaluate
 pub mod Cases
 pub mod Trials
@@ -10,3 +12,5 @@ pub mod Alikes
 pub mod Tests
 pub mod Ancestors
 pub mod Exactness
+pub mod Soundness
+pub mod Audit

@@ -34,7 +34,7 @@ range-longer b c n h =
     let z : ℤ = pos n -ℤ (c +ℤ pos 1) in
     let d : ℕ = nat ((z -ℤ b) +ℤ pos 1) in
     let nonneg : leZ (pos 0) ((z -ℤ b) +ℤ pos 1) ≡ true =
-        le-of (num 0) (((num n ⊖ (atom c ⊕ num 1)) ⊖ atom b) ⊕ num 1) (omega (arith, of-le (atom b ⊕ atom c) (num n) h)) in
+    le-of (num 0) (((num n ⊖ (atom c ⊕ num 1)) ⊖ atom b) ⊕ num 1) (omega (arith, of-le (atom b ⊕ atom c) (num n) h)) in
     let e : pos d ≡ ((z -ℤ b) +ℤ pos 1) = nat-pos ((z -ℤ b) +ℤ pos 1) nonneg in
     nat-of (((pos n -ℤ c) -ℤ b) +ℤ pos 1) (suc d)
     (eq-of (((num n ⊖ atom c) ⊖ atom b) ⊕ num 1) (num (suc d)) (omega (arith, of-eq (num d) (((num n ⊖ (atom c ⊕ num 1)) ⊖ atom b) ⊕ num 1) e)))
@@ -45,7 +45,7 @@ unfolding rangeSize
 range-last b c n h =
     let z : ℤ = (pos n -ℤ (c +ℤ pos 1) -ℤ b) +ℤ pos 1 in
     let nonneg : leZ (pos 0) z ≡ true =
-        le-of (num 0) (((num n ⊖ (atom c ⊕ num 1)) ⊖ atom b) ⊕ num 1) (omega (arith, of-le (atom b ⊕ atom c) (num n) h)) in
+    le-of (num 0) (((num n ⊖ (atom c ⊕ num 1)) ⊖ atom b) ⊕ num 1) (omega (arith, of-le (atom b ⊕ atom c) (num n) h)) in
     let e : pos (nat z) ≡ z = nat-pos z nonneg in
     eq-of (atom b ⊕ num (nat z)) (num n ⊖ atom c) (omega (arith, of-eq (num (nat z)) (((num n ⊖ (atom c ⊕ num 1)) ⊖ atom b) ⊕ num 1) e))
 

@@ -249,3 +249,9 @@ pub nonneg-minus : (z : ℤ) → leZ (pos 0) z ≡ true → minus z ≡ 0
 unfolding minus
 nonneg-minus (pos n) h = refl
 nonneg-minus (negsuc n) h = absurd (false≢true h)
+
+-- a natural number below a natural part is below the number
+pub nat-le : (z : ℤ) (n : ℕ) → n ≤ nat z → 1 ≤ n → leZ (pos n) z ≡ true
+unfolding nat
+nat-le (pos m) n h l = le-leb n m h
+nat-le (negsuc m) n h l = absurd (omega arith)

@@ -8,6 +8,7 @@ pub mod Rule
 pub mod Check
 pub mod Model
 pub mod Keeps
+pub mod Refuted
 pub mod Text
 pub mod Read
 pub mod Write

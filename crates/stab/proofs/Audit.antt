@@ -1,0 +1,106 @@
+-- For an auditor: the meaning that `value` computes is the paper's.
+use Prim.Native.Nat.{ℕ, zero, suc, _+_, _<_, _≤_}
+use native.Mathlib.Omega.{arith}
+use mathlib.Core.Path.{_≡_, refl, sym, _∙_, ap, subst}
+use mathlib.Core.Logic.{_⊎_, inl, inr, ⊎-elim, _↔_}
+use mathlib.Core.Bool.{Bool, true, false, false≢true}
+use lib.IntN.{ℤ, pos, _+ℤ_, _-ℤ_}
+use lib.Signed.{leZ, ltZ, _≤ℤ_}
+use Rattle.stab.specs.Basic.{_and_, _or_, nat}
+use Rattle.stab.specs.Formula.{Row, Op, conj, disj, Formula, iter, tree, isBody, wellFormed}
+use Rattle.stab.specs.Meaning.{Assignment, op, empty, over, rangeSize, value}
+use Rattle.stab.specs.Alike.{lower, instance}
+use Rattle.stab.proofs.Bools.{and-left, and-right, and-both, or-cases, or-left, or-right}
+use Rattle.stab.proofs.Whole.{atom, num, _⊕_, _⊖_, le-of, of-le, lt-of, of-lt, eq-of, of-eq, leZ-of, of-leZ, nat-pos, nat-le}
+use Rattle.stab.proofs.Meanings.{lower-value, instance-value}
+use Rattle.stab.proofs.Decoded as D
+
+-- "lowering by k has at n the value that the formula has at n - k", for the formula of any row whose table is well formed up to it
+pub lowered-means : (rows : ℕ → Row) (r : ℕ) → ((a : ℕ) → a < suc r → wellFormed rows a ≡ true) → (σ : Assignment) (n m : ℕ) (k i : ℤ) → pos m ≡ (pos n -ℤ k) → value σ n (lower k (tree rows r)) i ≡ value σ m (tree rows r) i
+lowered-means rows r h σ n m k i e = lower-value σ n m k (tree rows r) i e (D.proper rows (suc r) h r (omega arith))
+
+-- "an instance at n - c has the body's value there"
+pub instance-means : (σ : Assignment) (n : ℕ) (c i : ℤ) (f : Formula) → isBody f ≡ true → value σ n (instance c f) i ≡ value σ n f (pos n -ℤ c)
+instance-means σ n c i f h = instance-value σ n c f i h
+
+-- ---- iterations
+
+-- p holds at each of b, b + 1, .. b + (k - 1)
+every : (p : ℤ → Bool) (b : ℤ) (k : ℕ) → over conj p b k ≡ true → (i : ℕ) → i < k → p (b +ℤ pos i) ≡ true
+unfolding over op
+every p b zero h i l = absurd (omega arith)
+every p b (suc k) h i l =
+    ⊎-elim
+    (λ m. every p b k (and-left _ _ h) i m)
+    (λ e. ap (λ (j : ℕ). p (b +ℤ pos j)) e ∙ and-right (over conj p b k) _ h)
+    (Rattle.stab.proofs.Scans.below-suc i k l)
+
+every-of : (p : ℤ → Bool) (b : ℤ) (k : ℕ) → ((i : ℕ) → i < k → p (b +ℤ pos i) ≡ true) → over conj p b k ≡ true
+unfolding over op empty
+every-of p b zero h = refl
+every-of p b (suc k) h = and-both _ _ (every-of p b k (λ i l. h i (omega arith))) (h k (omega arith))
+
+some-of : (p : ℤ → Bool) (b : ℤ) (k : ℕ) → over disj p b k ≡ true → (i : ℕ) × (i < k) × (p (b +ℤ pos i) ≡ true)
+unfolding over op empty
+some-of p b zero h = absurd (false≢true h)
+some-of p b (suc k) h =
+    ⊎-elim
+    (λ t. let w = some-of p b k t in (w .0, omega (arith, w .1), w .2))
+    (λ t. (k, omega arith, t))
+    (or-cases (over disj p b k) _ h)
+
+of-some : (p : ℤ → Bool) (b : ℤ) (k i : ℕ) → i < k → p (b +ℤ pos i) ≡ true → over disj p b k ≡ true
+unfolding over op
+of-some p b zero i l h = absurd (omega arith)
+of-some p b (suc k) i l h =
+    ⊎-elim
+    (λ m. or-left _ _ (of-some p b k i m h))
+    (λ e. or-right (over disj p b k) _ (ap (λ (j : ℕ). p (b +ℤ pos j)) (sym e) ∙ h))
+    (Rattle.stab.proofs.Scans.below-suc i k l)
+
+-- a whole number from b up to e is b plus a natural number below the size of the range, and the other way
+place : (b e j : ℤ) → b ≤ℤ j → j ≤ℤ e → (i : ℕ) × (i < rangeSize b e) × ((b +ℤ pos i) ≡ j)
+unfolding rangeSize
+place b e j h k =
+    let low = of-le (atom b) (atom j) (leZ-of h) in
+    let high = of-le (atom j) (atom e) (leZ-of k) in
+    let i : ℕ = nat (j -ℤ b) in
+    let q : pos i ≡ (j -ℤ b) = nat-pos (j -ℤ b) (le-of (num 0) (atom j ⊖ atom b) (omega arith)) in
+    let s : ℤ = (e -ℤ b) +ℤ pos 1 in
+    let r : pos (nat s) ≡ s = nat-pos s (le-of (num 0) ((atom e ⊖ atom b) ⊕ num 1) (omega arith)) in (
+      i,
+      omega (arith, of-eq (num i) (atom j ⊖ atom b) q, of-eq (num (nat s)) ((atom e ⊖ atom b) ⊕ num 1) r),
+      eq-of (atom b ⊕ num i) (atom j) (omega (arith, of-eq (num i) (atom j ⊖ atom b) q)),
+    )
+
+placed : (b e : ℤ) (i : ℕ) → i < rangeSize b e → (b ≤ℤ (b +ℤ pos i)) × ((b +ℤ pos i) ≤ℤ e)
+unfolding rangeSize
+placed b e i l =
+    let s : ℤ = (e -ℤ b) +ℤ pos 1 in
+    let r : leZ (pos (suc i)) s ≡ true = nat-le s (suc i) l (omega arith) in (
+      of-leZ (le-of (atom b) (atom b ⊕ num i) (omega arith)),
+      of-leZ (le-of (atom b ⊕ num i) (atom e) (omega (arith, of-le (num (suc i)) ((atom e ⊖ atom b) ⊕ num 1) r))),
+    )
+
+-- "the value of a big and is true exactly when the body is true at every i with b ≤ i ≤ n - c"
+pub big-and-means : (σ : Assignment) (n : ℕ) (f : Formula) (b c x : ℤ) → (value σ n (iter conj f b c) x ≡ true) ↔ ((i : ℤ) → b ≤ℤ i → i ≤ℤ (pos n -ℤ c) → value σ n f i ≡ true)
+unfolding value
+big-and-means σ n f b c x = (
+  (λ h i l m.
+      let w = place b (pos n -ℤ c) i l m in
+      ap (value σ n f) (sym (w .2)) ∙ every (value σ n f) b (rangeSize b (pos n -ℤ c)) h (w .0) (w .1)),
+  λ h. every-of (value σ n f) b (rangeSize b (pos n -ℤ c)) (λ i l. let w = placed b (pos n -ℤ c) i l in h (b +ℤ pos i) (w .0) (w .1)),
+)
+
+-- "(big or) .. (some)"
+pub big-or-means : (σ : Assignment) (n : ℕ) (f : Formula) (b c x : ℤ) → (value σ n (iter disj f b c) x ≡ true) ↔ ((i : ℤ) × (b ≤ℤ i) × (i ≤ℤ (pos n -ℤ c)) × (value σ n f i ≡ true))
+unfolding value
+big-or-means σ n f b c x = (
+  (λ h.
+      let w = some-of (value σ n f) b (rangeSize b (pos n -ℤ c)) h in
+      let v = placed b (pos n -ℤ c) (w .0) (w .1) in
+      (b +ℤ pos (w .0), v .0, v .1, w .2)),
+  λ h.
+      let w = place b (pos n -ℤ c) (h .0) (h .1) (h .2) in
+      of-some (value σ n f) b (rangeSize b (pos n -ℤ c)) (w .0) (w .1) (ap (value σ n f) (w .2) ∙ h .3),
+)
