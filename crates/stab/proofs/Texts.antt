@@ -3,3 +3,4 @@ pub mod Numbers
 pub mod Lines
 pub mod Rows
 pub mod Nodes
+pub mod ProofRows
