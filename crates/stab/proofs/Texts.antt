@@ -4,3 +4,4 @@ pub mod Lines
 pub mod Rows
 pub mod Nodes
 pub mod ProofRows
+pub mod Kinds

@@ -74,7 +74,7 @@ proof-rows-back m k (suc n) t rest r a b d h =
     ∙ ap (λ (l : List ℤ). read (record { table = l; nodes = r .0; members = r .1 })) (sym (take-row 4 n t))
 
 -- what lines are that give a proof's rows and nodes
-pub record ProofLines (m : ℕ) (ls : List Line) (p : ProofText) : Type 0 where
+pub record ProofRest (m : ℕ) (ls : List Line) (p : ProofText) : Type 0 where
   pub rows : ℕ
   pub nodeLs : List Line
   pub count : 4 * rows ≡ length (p .table)
@@ -85,7 +85,7 @@ pub record ProofLines (m : ℕ) (ls : List Line) (p : ProofText) : Type 0 where
 
 heading-lines : (m k : ℕ) (l : Line) (ls : List Line) (r : List ℤ × List ℤ)
     → (l .ended and sameBytes (l .content) nodeHeading) ≡ true → nodesFrom 1024 0 (suc k) ls ≡ read r
-    → ProofLines m (l ∷ ls) (record { table = []; nodes = r .0; members = r .1 })
+    → ProofRest m (l ∷ ls) (record { table = []; nodes = r .0; members = r .1 })
 unfolding rowLines allOf
 heading-lines m k l ls r e h =
     record {
@@ -98,8 +98,8 @@ heading-lines m k l ls r e h =
       text = λ more. text-heading l nodeHeading ls (and-left _ _ e) (same-bytes-true _ _ (and-right (l .ended) _ e));
     }
 
-row-lines : (m : ℕ) (l : Line) (ls : List Line) (vs : List ℤ) (p : ProofText) → 1 ≤ m → Row (eqb 4) l vs → ProofLines (m - 1) ls p
-    → ProofLines m (l ∷ ls) (record { table = vs ++ p .table; nodes = p .nodes; members = p .members })
+row-lines : (m : ℕ) (l : Line) (ls : List Line) (vs : List ℤ) (p : ProofText) → 1 ≤ m → Row (eqb 4) l vs → ProofRest (m - 1) ls p
+    → ProofRest m (l ∷ ls) (record { table = vs ++ p .table; nodes = p .nodes; members = p .members })
 row-lines m l ls vs p le r i =
     let size : 4 ≡ length vs = eqb-true 4 (length vs) (r .count) in
     let after : List ℕ = headingLine nodeHeading ++ textOf (i .nodeLs) in
@@ -117,7 +117,7 @@ row-lines m l ls vs p le r i =
           ∙ ap (λ (x : List ℕ). x ++ after) (front-rows 4 (i .rows) vs (p .table ++ more) (sym size) ∙ ap (rowLines 4 (suc (i .rows))) (sym (append-assoc vs (p .table) more)));
     }
 
-pub proof-rows-are : (m k : ℕ) (ls : List Line) (p : ProofText) → proofRowsFrom m k ls ≡ read p → ProofLines m ls p
+pub proof-rows-are : (m k : ℕ) (ls : List Line) (p : ProofText) → proofRowsFrom m k ls ≡ read p → ProofRest m ls p
 unfolding proofRowsFrom
 proof-rows-are m k [] p h = absurd (stopped-not-read _ k p h)
 proof-rows-are m k (l ∷ ls) p h =
@@ -125,7 +125,7 @@ proof-rows-are m k (l ∷ ls) p h =
     (λ u.
         let a = require-read (l .ended and sameBytes (l .content) nodeHeading) _ k _ p (sym (if-true (startsWithU (l .content)) _ _ u) ∙ h) in
         let b = then-read (nodesFrom 1024 0 (suc k) ls) _ p (a .1) in
-        subst (ProofLines m (l ∷ ls)) (read-injective (record { table = []; nodes = b .0 .0; members = b .0 .1 }) p (b .2))
+        subst (ProofRest m (l ∷ ls)) (read-injective (record { table = []; nodes = b .0 .0; members = b .0 .1 }) p (b .2))
         (heading-lines m k l ls (b .0) (a .0) (b .1)))
     (λ u.
         let a = then-read (values (eqb 4) k l) _ p (sym (if-false (startsWithU (l .content)) _ _ u) ∙ h) in
@@ -133,6 +133,6 @@ proof-rows-are m k (l ∷ ls) p h =
         let b = require-read (leb 1 m) _ k _ p (a .2) in
         let c = then-read (proofRowsFrom (m - 1) (suc k) ls) _ p (b .1) in
         let q = c .0 in
-        subst (ProofLines m (l ∷ ls)) (read-injective (record { table = vs ++ q .table; nodes = q .nodes; members = q .members }) p (c .2))
+        subst (ProofRest m (l ∷ ls)) (read-injective (record { table = vs ++ q .table; nodes = q .nodes; members = q .members }) p (c .2))
         (row-lines m l ls vs q (leb-true 1 m (b .0)) (row-values (eqb 4) k l vs (a .1)) (proof-rows-are (m - 1) (suc k) ls q (c .1))))
     (decide (startsWithU (l .content)))
