@@ -1,20 +1,20 @@
 -- The three kinds of text, line by line: what is written reads back, and what lines are that were read.
-use Prim.Native.Nat.{ℕ, zero, suc, _+_, _*_, _-_, _<_, _≤_}
+use Prim.Native.Nat.{ℕ, _+_, _*_, _-_, _≤_}
 use native.Mathlib.Omega.{arith}
 use mathlib.Core.Path.{_≡_, refl, sym, _∙_, ap, ap₂, subst}
-use mathlib.Core.Bool.{Bool, true, false, false≢true}
+use mathlib.Core.Bool.{Bool, true, false≢true}
 use mathlib.Core.List.{List, [], _∷_, _++_, append-assoc}
-use lib.Dec.{leb, eqb}
+use lib.Dec.{eqb}
 use lib.IntN.{ℤ, pos}
-use lib.ListN.{length, take, drop, getD}
-use borrow.Author.Tests.{leb-true, eqb-true}
+use lib.ListN.{length, take, getD}
+use borrow.Author.Tests.{eqb-true}
 use Rattle.stab.specs.Basic.{_and_, allOf}
 use Rattle.stab.specs.Node.{setStart}
 use Rattle.stab.specs.Text.{Line, bytes, lines, fiveDigits, rowLine, headingLine, schemaHeading, rowHeading, nodeHeading, modelHeading, pairHeading}
-use Rattle.stab.specs.Read.{Reading, read, headingAt, valuesAt, rowsFrom, nodesFrom, proofRowsFrom, SchemaText, readSchemaLines, ProofText, readProofLines, ModelText, readModelLines}
+use Rattle.stab.specs.Read.{read, headingAt, valuesAt, rowsFrom, nodesFrom, SchemaText, readSchemaLines, ProofText, readProofLines, ModelText, readModelLines}
 use Rattle.stab.specs.Write.{rowLines, nodeLines, nodesWritable, schemaText, proofText, modelText}
-use Rattle.stab.proofs.Bools.{and-left, and-right, and-both}
-use Rattle.stab.proofs.Texts.Lines.{lacks, full, rowBytes, textOf, lines-row, lines-heading, text-lines}
+use Rattle.stab.proofs.Bools.{and-left, and-both}
+use Rattle.stab.proofs.Texts.Lines.{lacks, full, rowBytes, textOf, lines-row, lines-heading}
 use Rattle.stab.proofs.Texts.Rows.{read-injective, then-read, then-is, heading-full, heading-text, values-at-row, First, first-values, rows-back, rows-are}
 use Rattle.stab.proofs.Texts.Nodes.{Nodes, nodes-back}
 use Rattle.stab.proofs.Texts.ProofRows.{proof-rows-back, proof-rows-are}
@@ -56,7 +56,7 @@ text-of : (h g : List ℕ) (fits : ℕ → Bool) (ls ls₁ : List Line) (v : Lis
 text-of h g fits ls ls₁ v ls₃ vs rest a f e b c =
     heading-text h 1 ls ls₁ a
     ∙ ap (λ (x : List ℕ). headingLine h ++ x)
-        (f .text ∙ ap₂ (λ (l : List ℤ) (x : List ℕ). rowLine l ++ x) e (heading-text g 3 (v .1) ls₃ b ∙ ap (λ (x : List ℕ). headingLine g ++ x) c))
+    (f .text ∙ ap₂ (λ (l : List ℤ) (x : List ℕ). rowLine l ++ x) e (heading-text g 3 (v .1) ls₃ b ∙ ap (λ (x : List ℕ). headingLine g ++ x) c))
     ∙ sym (four (headingLine h) (rowLine vs) (headingLine g) rest)
 
 -- ---- schema
@@ -169,7 +169,7 @@ unfolding setStart
 all-nodes-back nodes members k c held enough few writable ends fewNodes digits i =
     let all : c - 0 ≡ c = omega arith in
     nodes-back nodes members k c held enough few writable ends k 0 0 1024 i (omega arith) fewNodes refl
-        (subst (λ (x : ℕ). allOf fiveDigits (take x members) ≡ true) (sym all) digits)
+    (subst (λ (x : ℕ). allOf fiveDigits (take x members) ≡ true) (sym all) digits)
     ∙ ap (λ (x : ℕ). read (take (9 * k) nodes, take x members)) all
 
 pub proof-lines-back : (t : List ℤ) (r : ℕ) (nodes : List ℤ) (k : ℕ) (members : List ℤ) (c : ℕ)
@@ -185,7 +185,7 @@ proof-lines-back t r nodes k members c held heldNodes heldMembers few fewNodes f
     ∙ ap readProofLines (lines-heading rowHeading rest row-heading-lacks)
     ∙ then-is (headingAt rowHeading 1 (full rowHeading ∷ lines rest)) _ (lines rest) (heading-full rowHeading 1 (lines rest))
     ∙ proof-rows-back 1024 2 r t after (take (9 * k) nodes, take c members) held few digits
-        (all-nodes-back nodes members k c heldNodes heldMembers fewMembers writable ends fewNodes memberDigits)
+    (all-nodes-back nodes members k c heldNodes heldMembers fewMembers writable ends fewNodes memberDigits)
 
 -- what lines are that give a proof
 pub record ProofLines (ls : List Line) (p : ProofText) : Type 0 where
@@ -201,7 +201,7 @@ pub record ProofLines (ls : List Line) (p : ProofText) : Type 0 where
   pub writable : (more : List ℤ) → nodesWritable (p .nodes ++ more) nodeRows ≡ true
   pub ends : (more : List ℤ) → setStart (p .nodes ++ more) nodeRows ≡ pos (length (p .members))
   pub text : (more moreNodes moreMembers : List ℤ)
-    → textOf ls ≡ proofText (p .table ++ more) rows (p .nodes ++ moreNodes) nodeRows (p .members ++ moreMembers)
+      → textOf ls ≡ proofText (p .table ++ more) rows (p .nodes ++ moreNodes) nodeRows (p .members ++ moreMembers)
 
 node-rows-are : (ls : List Line) (r : List ℤ × List ℤ) → Nodes 1024 0 ls r → (more others : List ℤ)
     → (textOf ls ≡ nodeLines (r .0 ++ more) (r .1 ++ others) 0 (length ls)) × (nodesWritable (r .0 ++ more) (length ls) ≡ true) × (setStart (r .0 ++ more) (length ls) ≡ pos (length (r .1)))
@@ -209,10 +209,11 @@ unfolding nodesWritable setStart
 node-rows-are ls r n more others =
     let w = n .writes (r .0 ++ more) (r .1 ++ others) 0 more others refl refl refl refl in
     let all : 0 + length ls ≡ length ls = omega arith in
-    let members : 0 + length (r .1) ≡ length (r .1) = omega arith in
-    (w .text,
-     subst (λ (x : ℕ). nodesWritable (r .0 ++ more) x ≡ true) all (w .writable),
-     subst (λ (x : ℕ). setStart (r .0 ++ more) x ≡ pos (length (r .1))) all (w .ends ∙ ap pos members))
+    let members : 0 + length (r .1) ≡ length (r .1) = omega arith in (
+      w .text,
+      subst (λ (x : ℕ). nodesWritable (r .0 ++ more) x ≡ true) all (w .writable),
+      subst (λ (x : ℕ). setStart (r .0 ++ more) x ≡ pos (length (r .1))) all (w .ends ∙ ap pos members),
+    )
 
 pub proof-lines-are : (ls : List Line) (p : ProofText) → readProofLines ls ≡ read p → ProofLines ls p
 unfolding readProofLines proofText
@@ -236,7 +237,7 @@ proof-lines-are ls p h =
       text = λ more moreNodes moreMembers.
           heading-text rowHeading 1 ls (a .0) (a .1)
           ∙ ap (λ (x : List ℕ). headingLine rowHeading ++ x)
-              (q .text more ∙ ap (λ (x : List ℕ). rowLines 4 (q .rows) (p .table ++ more) ++ (headingLine nodeHeading ++ x)) (are moreNodes moreMembers .0))
+          (q .text more ∙ ap (λ (x : List ℕ). rowLines 4 (q .rows) (p .table ++ more) ++ (headingLine nodeHeading ++ x)) (are moreNodes moreMembers .0))
           ∙ sym (four (headingLine rowHeading) (rowLines 4 (q .rows) (p .table ++ more)) (headingLine nodeHeading)
-              (nodeLines (p .nodes ++ moreNodes) (p .members ++ moreMembers) 0 (length (q .nodeLs))));
+          (nodeLines (p .nodes ++ moreNodes) (p .members ++ moreMembers) 0 (length (q .nodeLs))));
     }

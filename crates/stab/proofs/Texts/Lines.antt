@@ -1,9 +1,9 @@
 -- Rows and lines as text: fields between spaces, lines that end with byte 10, and both put together again.
-use Prim.Native.Nat.{ℕ, zero, suc, _+_, _<_, _≤_}
+use Prim.Native.Nat.{ℕ, _<_, _≤_}
 use native.Mathlib.Omega.{arith}
-use mathlib.Core.Path.{_≡_, refl, sym, _∙_, ap, ap₂, subst}
+use mathlib.Core.Path.{_≡_, refl, sym, _∙_, ap, ap₂}
 use mathlib.Core.Logic.{⊎-elim}
-use mathlib.Core.Bool.{Bool, true, false, not, true≢false, false≢true}
+use mathlib.Core.Bool.{Bool, true, false, not}
 use mathlib.Core.List.{List, [], _∷_, _++_, map, append-assoc, append-nil, cons-ne-nil}
 use mathlib.Core.Option.{Option, none, some, Option·none-ne-some, Option·some-injective}
 use lib.Dec.{leb, eqb}
@@ -86,8 +86,10 @@ spaced-fields (x ∷ xs) = ⊎-elim blank other (decide (eqb x 32))
   where
     cut : List (List ℕ)
     cut = if eqb x 32 then [] ∷ fields xs else intoField x (fields xs)
+
     blank : eqb x 32 ≡ true → spaced cut ≡ 32 ∷ join cut
     blank e = let p = if-true (eqb x 32) ([] ∷ fields xs) (intoField x (fields xs)) e in ap spaced p ∙ ap (λ (fs : List (List ℕ)). 32 ∷ join fs) (sym p)
+
     other : eqb x 32 ≡ false → spaced cut ≡ 32 ∷ join cut
     other e =
         let p = if-false (eqb x 32) ([] ∷ fields xs) (intoField x (fields xs)) e in

@@ -1,20 +1,20 @@
 -- Node rows against their lines, with the sets that follow one another.
-use Prim.Native.Nat.{ℕ, zero, suc, _+_, _*_, _-_, _/_, _<_, _≤_}
+use Prim.Native.Nat.{ℕ, zero, suc, _+_, _*_, _-_, _<_, _≤_}
 use native.Mathlib.Omega.{arith}
 use mathlib.Core.Path.{_≡_, refl, sym, _∙_, ap, ap₂, subst}
 use mathlib.Core.Logic.{⊎-elim}
-use mathlib.Core.Bool.{Bool, true, false, false≢true}
-use mathlib.Core.List.{List, [], _∷_, _++_, append-assoc, append-nil}
-use lib.Dec.{leb, eqb}
+use mathlib.Core.Bool.{true}
+use mathlib.Core.List.{List, [], _∷_, _++_, append-assoc}
+use lib.Dec.{leb}
 use lib.IntN.{ℤ, pos, _+ℤ_}
 use lib.Signed.{leZ}
 use lib.ListN.{length, take, drop, getD, length-append, length-drop, take-append-drop}
 use lib.Seq.{take-add, length-take-le, take-at, drop-at, getD-at, getD-drop, drop-drop, take-suc, append-snoc}
 use borrow.Author.Tests.{leb-true, le-leb}
 use Rattle.stab.specs.Basic.{_and_, allOf, eqZ, nat}
-use Rattle.stab.specs.Node.{Node, nodeAt, setOf, setStart, setFollows}
+use Rattle.stab.specs.Node.{nodeAt, setOf, setStart, setFollows}
 use Rattle.stab.specs.Text.{Line, lines, fiveDigits, rowLine}
-use Rattle.stab.specs.Read.{Reading, read, _andThen_, require, values, nodeNumbers, nodesFrom}
+use Rattle.stab.specs.Read.{read, values, nodeNumbers, nodesFrom}
 use Rattle.stab.specs.Write.{nodeValues, nodeLines, nodeWritable, nodesWritable}
 use Rattle.stab.proofs.Bools.{and-left, and-right, and-both}
 use Rattle.stab.proofs.Whole.{num, le-of, eqZ-true, eqZ-of, nat-pos}
@@ -107,7 +107,6 @@ node-numbers nodes set j s f h e =
 
 module _ (nodes members : List ℤ) (k c : ℕ) (held : 9 * k ≤ length nodes) (enough : c ≤ length members) (few : c ≤ 8192)
     (writable : nodesWritable nodes k ≡ true) (ends : setStart nodes k ≡ pos c) where
-
   -- no set starts past the last member
   start-below : (n j s : ℕ) → j + n ≡ k → setStart nodes j ≡ pos s → s ≤ c
   start-below zero j s e h =
@@ -137,9 +136,9 @@ module _ (nodes members : List ℤ) (k c : ℕ) (held : 9 * k ≤ length nodes) 
       let length-head : length head ≡ 7 = length-take-le 7 (drop (9 * j) nodes) (omega (arith, length-drop (9 * j) nodes)) in
       let length-set : length set ≡ z = length-take-le z (drop s members) (omega (arith, length-drop s members)) in
       let split : take (c - s) (drop s members) ≡ set ++ take (c - (s + z)) (drop (s + z) members) =
-            (let more : c - s ≡ z + (c - (s + z)) = omega arith in
-            ap (λ (i : ℕ). take i (drop s members)) more ∙ take-add z (c - (s + z)) (drop s members)
-            ∙ ap (λ (x : List ℤ). set ++ take (c - (s + z)) x) (drop-drop z s members)) in
+      (let more : c - s ≡ z + (c - (s + z)) = omega arith in
+      ap (λ (i : ℕ). take i (drop s members)) more ∙ take-add z (c - (s + z)) (drop s members)
+      ∙ ap (λ (x : List ℤ). set ++ take (c - (s + z)) x) (drop-drop z s members)) in
       let digits = subst (λ (x : List ℤ). allOf fiveDigits x ≡ true) split d in
       let vs : List ℤ = head ++ set in
       let size : length vs ≡ 7 + z = length-append head set ∙ omega arith in
@@ -148,16 +147,16 @@ module _ (nodes members : List ℤ) (k c : ℕ) (held : 9 * k ≤ length nodes) 
       ap (nodesFrom m s l) (lines-row (nodeValues nodes members j) (nodeLines nodes members (suc j) n))
       ∙ ap (λ (x : List ℤ). nodesFrom m s l (full (rowBytes x) ∷ rest)) (node-values nodes members j s f)
       ∙ nodes-step m s l (full (rowBytes vs)) rest vs (take (9 * n) (drop (9 * suc j) nodes), take (c - (s + z)) (drop (s + z) members))
-          (values-row (leb 7) l vs (omega arith)
-              (all-append fiveDigits head set (unfold nodeWritable in (w .1)) (all-front fiveDigits set _ digits))
-              (le-leb 7 (length vs) (omega arith)))
-          (omega arith) (omega arith)
-          (ap (λ (i : ℕ). nodesFrom (m - 1) i (suc l) rest) after
-          ∙ nodes-back n (suc j) (s + z) (m - 1) (suc l) (omega arith) (omega arith) (f .next) (all-back fiveDigits set _ digits))
+      (values-row (leb 7) l vs (omega arith)
+      (all-append fiveDigits head set (unfold nodeWritable in (w .1)) (all-front fiveDigits set _ digits))
+      (le-leb 7 (length vs) (omega arith)))
+      (omega arith) (omega arith)
+      (ap (λ (i : ℕ). nodesFrom (m - 1) i (suc l) rest) after
+      ∙ nodes-back n (suc j) (s + z) (m - 1) (suc l) (omega arith) (omega arith) (f .next) (all-back fiveDigits set _ digits))
       ∙ ap₂ (λ (a b : List ℤ). read (a, b))
-          (ap₂ (λ (a b : List ℤ). a ++ take (9 * n) b) (node-numbers nodes set j s f (omega (arith, length-drop (9 * j) nodes)) length-set) (sym (drop-node nodes j))
-          ∙ sym (take-row 9 n (drop (9 * j) nodes)))
-          (ap (λ (a : List ℤ). a ++ take (c - (s + z)) (drop (s + z) members)) (drop-at head set 7 length-head) ∙ sym split)
+      (ap₂ (λ (a b : List ℤ). a ++ take (9 * n) b) (node-numbers nodes set j s f (omega (arith, length-drop (9 * j) nodes)) length-set) (sym (drop-node nodes j))
+      ∙ sym (take-row 9 n (drop (9 * j) nodes)))
+      (ap (λ (a : List ℤ). a ++ take (c - (s + z)) (drop (s + z) members)) (drop-at head set 7 length-head) ∙ sym split)
 
 -- ---- nodes that were read
 
@@ -174,9 +173,9 @@ pub record Nodes (m start : ℕ) (ls : List Line) (r : List ℤ × List ℤ) : T
   pub fits : start ≤ 8192 → start + length (r .1) ≤ 8192
   pub digits : allOf fiveDigits (r .1) ≡ true
   pub writes : (nodes members : List ℤ) (j : ℕ) (more others : List ℤ)
-    → drop (9 * j) nodes ≡ r .0 ++ more → drop start members ≡ r .1 ++ others
-    → nodesWritable nodes j ≡ true → setStart nodes j ≡ pos start
-    → Writes nodes members j start ls r
+      → drop (9 * j) nodes ≡ r .0 ++ more → drop start members ≡ r .1 ++ others
+      → nodesWritable nodes j ≡ true → setStart nodes j ≡ pos start
+      → Writes nodes members j start ls r
 
 -- a node's place in a table whose numbers from there on are its line's
 node-follows : (nodes x : List ℤ) (j s : ℕ) (vs : List ℤ) → 7 ≤ length vs → drop (9 * j) nodes ≡ nodeNumbers vs s ++ x → setStart nodes j ≡ pos s
@@ -186,15 +185,16 @@ node-follows nodes x j s vs h e p =
     let z : ℕ = length vs - 7 in
     let seven : length (take 7 vs) ≡ 7 = length-take-le 7 vs h in
     let starts : nodeAt nodes j .start ≡ pos s =
-          (start-at nodes j ∙ ap (λ (l : List ℤ). getD l 7 (pos 0)) (e ∙ append-assoc (take 7 vs) (pos s ∷ pos z ∷ []) x)
-          ∙ getD-at (take 7 vs) (pos s) (pos z ∷ x) (pos 0) 7 seven) in
+    (start-at nodes j ∙ ap (λ (l : List ℤ). getD l 7 (pos 0)) (e ∙ append-assoc (take 7 vs) (pos s ∷ pos z ∷ []) x)
+    ∙ getD-at (take 7 vs) (pos s) (pos z ∷ x) (pos 0) 7 seven) in
     let sized : nodeAt nodes j .size ≡ pos z =
-          (size-at nodes j
-          ∙ ap (λ (l : List ℤ). getD l 8 (pos 0)) (e ∙ append-assoc (take 7 vs) (pos s ∷ pos z ∷ []) x ∙ sym (append-snoc (take 7 vs) (pos s) (pos z ∷ x)))
-          ∙ getD-at (take 7 vs ++ pos s ∷ []) (pos z) x (pos 0) 8 (length-append (take 7 vs) (pos s ∷ []) ∙ omega arith)) in
-    (record { size = z; starts = starts; sized = sized; next = ap₂ (λ (a b : ℤ). a +ℤ b) starts sized },
-     refl,
-     and-both _ _ (eqZ-of _ _ (starts ∙ sym p)) (ap (leZ (pos 0)) sized ∙ le-of (num 0) (num z) (omega arith)))
+    (size-at nodes j
+    ∙ ap (λ (l : List ℤ). getD l 8 (pos 0)) (e ∙ append-assoc (take 7 vs) (pos s ∷ pos z ∷ []) x ∙ sym (append-snoc (take 7 vs) (pos s) (pos z ∷ x)))
+    ∙ getD-at (take 7 vs ++ pos s ∷ []) (pos z) x (pos 0) 8 (length-append (take 7 vs) (pos s ∷ []) ∙ omega arith)) in (
+      record { size = z; starts = starts; sized = sized; next = ap₂ (λ (a b : ℤ). a +ℤ b) starts sized },
+      refl,
+      and-both _ _ (eqZ-of _ _ (starts ∙ sym p)) (ap (leZ (pos 0)) sized ∙ le-of (num 0) (num z) (omega arith)),
+    )
 
 length-nine : (vs : List ℤ) (s : ℕ) → 7 ≤ length vs → length (nodeNumbers vs s) ≡ 9
 unfolding nodeNumbers
@@ -240,16 +240,16 @@ writes-step m start l ls vs rest r i nodes members j more others a b w p =
     let f = node-follows nodes (rest .0 ++ more) j start vs h a′ p in
     let front : take 7 (drop (9 * j) nodes) ≡ take 7 vs = ap (take 7) a′ ∙ take-nine vs (rest .0 ++ more) start h in
     let set : take (f .0 .size) (drop start members) ≡ drop 7 vs =
-          (ap₂ take (f .1) b′ ∙ take-at (drop 7 vs) (rest .1 ++ others) z sevens) in
+    (ap₂ take (f .1) b′ ∙ take-at (drop 7 vs) (rest .1 ++ others) z sevens) in
     let are : nodeValues nodes members j ≡ vs =
-          (node-values nodes members j start (f .0) ∙ ap₂ (λ (x y : List ℤ). x ++ y) front set ∙ take-append-drop 7 vs) in
+    (node-values nodes members j start (f .0) ∙ ap₂ (λ (x y : List ℤ). x ++ y) front set ∙ take-append-drop 7 vs) in
     let can : nodeWritable nodes j ≡ true =
-          (ap (allOf fiveDigits) front ∙ all-front fiveDigits (take 7 vs) (drop 7 vs) (ap (allOf fiveDigits) (take-append-drop 7 vs) ∙ r .digits)) in
+    (ap (allOf fiveDigits) front ∙ all-front fiveDigits (take 7 vs) (drop 7 vs) (ap (allOf fiveDigits) (take-append-drop 7 vs) ∙ r .digits)) in
     let n = i .writes nodes members (suc j) more others
-          (sym (drop-node nodes j) ∙ ap (drop 9) a′ ∙ drop-at (nodeNumbers vs start) (rest .0 ++ more) 9 (length-nine vs start h))
-          (sym (drop-drop z start members) ∙ ap (drop z) b′ ∙ drop-at (drop 7 vs) (rest .1 ++ others) z sevens)
-          (and-both (nodesWritable nodes j) _ w (and-both (setFollows nodes j) _ (f .2) can))
-          (f .0 .next ∙ ap (λ (y : ℕ). pos (start + y)) (f .1)) in
+    (sym (drop-node nodes j) ∙ ap (drop 9) a′ ∙ drop-at (nodeNumbers vs start) (rest .0 ++ more) 9 (length-nine vs start h))
+    (sym (drop-drop z start members) ∙ ap (drop z) b′ ∙ drop-at (drop 7 vs) (rest .1 ++ others) z sevens)
+    (and-both (nodesWritable nodes j) _ w (and-both (setFollows nodes j) _ (f .2) can))
+    (f .0 .next ∙ ap (λ (y : ℕ). pos (start + y)) (f .1)) in
     let on : suc j + length ls ≡ j + suc (length ls) = omega arith in
     let sum : (start + z) + length (rest .1) ≡ start + length (drop 7 vs ++ rest .1) = omega (arith, length-append (drop 7 vs) (rest .1)) in
     record {

@@ -4,13 +4,13 @@ use native.Mathlib.Omega.{arith}
 use native.Mathlib.Nat.{add-zero, pow-le-pow-right, pow-succ'}
 use mathlib.Core.Path.{_≡_, refl, sym, _∙_, ap, ap₂, subst, subst₂}
 use mathlib.Core.Logic.{⊎-elim}
-use mathlib.Core.Bool.{Bool, true, false, not, true≢false, false≢true}
+use mathlib.Core.Bool.{Bool, true, false, not, false≢true}
 use mathlib.Core.List.{List, [], _∷_, _++_, append-assoc, append-nil}
-use mathlib.Core.Option.{Option, none, some, Option·none-ne-some, Option·some-injective}
+use mathlib.Core.Option.{some, Option·none-ne-some, Option·some-injective}
 use lib.Dec.{leb, ltb, eqb}
 use lib.IntN.{ℤ, pos, negsuc, negℤ}
 use lib.ListN.{length, length-append}
-use borrow.Author.Tests.{leb-true, leb-false, ltb-true, ltb-false, eqb-true, eqb-false, le-leb, lt-leb, lt-ltb, le-ltb, eq-eqb, ne-eqb}
+use borrow.Author.Tests.{leb-true, ltb-true, ltb-false, eqb-true, eqb-false, le-leb, lt-ltb, le-ltb, eq-eqb, ne-eqb}
 use Rattle.stab.specs.Basic.{if_then_else_, _and_, allOf}
 use Rattle.stab.specs.Text.{sameBytes, zeroDigit, minus, isDigit, digitsValue, isNatural, someIf, numberOf, digitsN, fiveDigits, decimal}
 use Rattle.stab.proofs.Bools.{and-left, and-right, and-both, and-first-false, decide, if-true, if-false, not-of-false, false-of-not}
@@ -43,8 +43,8 @@ digits-value (suc k) v =
     ⊎-elim
     (λ h. ap (digitsValue 0) (if-true (ltb v 10) _ _ h) ∙ omega arith)
     (λ h. ap (digitsValue 0) (if-false (ltb v 10) _ _ h)
-        ∙ value-snoc 0 (digitsN k (v / 10)) (48 + v % 10)
-        ∙ omega (arith, digits-value k (v / 10)))
+    ∙ value-snoc 0 (digitsN k (v / 10)) (48 + v % 10)
+    ∙ omega (arith, digits-value k (v / 10)))
     (decide (ltb v 10))
 
 -- digits as `isNatural` asks for them, with up to k more after the first
@@ -108,12 +108,12 @@ digits-natural zero v l h = natural-one 0 v l h
 digits-natural (suc k) v l h =
     ⊎-elim
     (λ e. subst (λ (ds : List ℕ). naturalWithin (suc k) ds ≡ true) (sym (if-true (ltb v 10) _ _ e))
-        (natural-one (suc k) v l (ltb-true v 10 e)))
+    (natural-one (suc k) v l (ltb-true v 10 e)))
     (λ e. let m = ltb-false v 10 e in
-        subst (λ (ds : List ℕ). naturalWithin (suc k) ds ≡ true) (sym (if-false (ltb v 10) _ _ e))
-        (natural-snoc k (digitsN k (v / 10)) (48 + v % 10)
-            (digits-natural k (v / 10) (omega arith) (omega (arith, pow-succ' 10 (suc k))))
-            (digit-of (v % 10) (omega arith))))
+    subst (λ (ds : List ℕ). naturalWithin (suc k) ds ≡ true) (sym (if-false (ltb v 10) _ _ e))
+    (natural-snoc k (digitsN k (v / 10)) (48 + v % 10)
+    (digits-natural k (v / 10) (omega arith) (omega (arith, pow-succ' 10 (suc k))))
+    (digit-of (v % 10) (omega arith))))
     (decide (ltb v 10))
 
 -- digits that follow those of v are the digits of the number that they all stand for
@@ -130,7 +130,7 @@ digits-follow (x ∷ xs) k v l h =
     ap (λ (j : ℕ). digitsN j (digitsValue w xs)) more
     ∙ digits-follow xs (suc k) w (omega arith) (and-right (isDigit x) _ h)
     ∙ ap (λ (p : List ℕ). p ++ xs)
-        (if-false (ltb w 10) _ _ (le-ltb w 10 (omega arith)) ∙ ap₂ (λ (a b : ℕ). digitsN k a ++ b ∷ []) tens ones)
+    (if-false (ltb w 10) _ _ (le-ltb w 10 (omega arith)) ∙ ap₂ (λ (a b : ℕ). digitsN k a ++ b ∷ []) tens ones)
     ∙ append-assoc (digitsN k v) (x ∷ []) xs
 
 digits-one : (k d : ℕ) → d < 10 → digitsN k d ≡ (48 + d) ∷ []
@@ -244,14 +244,17 @@ number-cases P a b c (x ∷ xs) z h = ⊎-elim nought other (decide (sameBytes (
     nought e =
         subst₂ P (sym (same-bytes-true _ _ e))
         (Option·some-injective (pos 0) z (sym (if-true (sameBytes (x ∷ xs) (48 ∷ [])) _ _ e) ∙ h)) a
+
     negative : eqb x 45 ≡ true → (if eqb x 45 then someIf (isNatural xs) (negℤ (pos (digitsValue 0 xs))) else someIf (isNatural (x ∷ xs)) (pos (digitsValue 0 (x ∷ xs)))) ≡ some z → P (x ∷ xs) z
     negative e g =
         let k = some-someIf (isNatural xs) _ z (sym (if-true (eqb x 45) _ _ e) ∙ g) in
         subst₂ P (ap (λ (y : ℕ). y ∷ xs) (sym (eqb-true x 45 e))) (k .1) (b xs (k .0))
+
     positive : eqb x 45 ≡ false → (if eqb x 45 then someIf (isNatural xs) (negℤ (pos (digitsValue 0 xs))) else someIf (isNatural (x ∷ xs)) (pos (digitsValue 0 (x ∷ xs)))) ≡ some z → P (x ∷ xs) z
     positive e g =
         let k = some-someIf (isNatural (x ∷ xs)) _ z (sym (if-false (eqb x 45) _ _ e) ∙ g) in
         subst (P (x ∷ xs)) (k .1) (c (x ∷ xs) (k .0))
+
     other : sameBytes (x ∷ xs) (48 ∷ []) ≡ false → P (x ∷ xs) z
     other e =
         let g = sym (if-false (sameBytes (x ∷ xs) (48 ∷ [])) _ _ e) ∙ h in
@@ -271,7 +274,7 @@ decimal-number (negsuc v) h =
     ∙ ap (λ (w : ℕ). some (negℤ (pos w))) (digits-value 4 (suc v))
 
 -- and bytes that read as a number are the bytes of that number, which has at most five digits
-unfoldable pub Own : List ℕ → ℤ → Type 0
+Own : List ℕ → ℤ → Type 0
 Own f z = (decimal z ≡ f) × (fiveDigits z ≡ true)
 
 own-zero : Own (48 ∷ []) (pos 0)
@@ -310,7 +313,7 @@ digits-high (suc k) v =
     ⊎-elim
     (λ e. ap (allOf (leb 48)) (if-true (ltb v 10) _ _ e) ∙ and-both _ _ (le-leb 48 (48 + v) (omega arith)) refl)
     (λ e. ap (allOf (leb 48)) (if-false (ltb v 10) _ _ e)
-        ∙ all-snoc (leb 48) (digitsN k (v / 10)) (48 + v % 10) (digits-high k (v / 10)) (le-leb 48 (48 + v % 10) (omega arith)))
+    ∙ all-snoc (leb 48) (digitsN k (v / 10)) (48 + v % 10) (digits-high k (v / 10)) (le-leb 48 (48 + v % 10) (omega arith)))
     (decide (ltb v 10))
 
 pub decimal-high : (z : ℤ) → allOf (leb 45) (decimal z) ≡ true
@@ -325,6 +328,7 @@ number-start x xs z h = number-cases (λ f w. Low f) (omega arith) (λ ds e. ome
     Low : List ℕ → Type 0
     Low [] = Unit {0}
     Low (y ∷ ys) = y ≤ 57
+
     digit : (ds : List ℕ) → isNatural ds ≡ true → Low ds
     digit [] e = tt
     digit (y ∷ ys) e = digit-high y (natural-digit 4 y ys (natural-four (y ∷ ys) ∙ e))

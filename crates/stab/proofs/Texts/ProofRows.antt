@@ -1,18 +1,18 @@
 -- The lines of a proof after its first heading: rows, the second heading, nodes.
-use Prim.Native.Nat.{ℕ, zero, suc, _+_, _*_, _-_, _<_, _≤_}
+use Prim.Native.Nat.{ℕ, zero, suc, _*_, _-_, _≤_}
 use native.Mathlib.Omega.{arith}
-use mathlib.Core.Path.{_≡_, refl, sym, _∙_, ap, ap₂, subst}
+use mathlib.Core.Path.{_≡_, refl, sym, _∙_, ap, subst}
 use mathlib.Core.Logic.{⊎-elim}
-use mathlib.Core.Bool.{Bool, true, false}
+use mathlib.Core.Bool.{true, false}
 use mathlib.Core.List.{List, [], _∷_, _++_, append-assoc}
 use lib.Dec.{leb, eqb}
 use lib.IntN.{ℤ}
 use lib.ListN.{length, take, drop, length-append, length-drop}
 use lib.Seq.{length-take-le}
 use borrow.Author.Tests.{leb-true, le-leb, eqb-true, eq-eqb}
-use Rattle.stab.specs.Basic.{if_then_else_, _and_, allOf}
+use Rattle.stab.specs.Basic.{_and_, allOf}
 use Rattle.stab.specs.Text.{Line, bytes, lines, sameBytes, fiveDigits, rowLine, headingLine, nodeHeading}
-use Rattle.stab.specs.Read.{Reading, read, values, startsWithU, nodesFrom, ProofText, proofRowsFrom}
+use Rattle.stab.specs.Read.{read, values, startsWithU, nodesFrom, ProofText, proofRowsFrom}
 use Rattle.stab.specs.Write.{rowLines}
 use Rattle.stab.proofs.Bools.{and-left, and-right, and-both, decide, if-true, if-false}
 use Rattle.stab.proofs.Texts.Numbers.{same-bytes-true, same-bytes-refl}
@@ -65,12 +65,12 @@ proof-rows-back m k (suc n) t rest r a b d h =
     ap (λ (x : List ℕ). proofRowsFrom m k (lines x)) (append-assoc (rowLine (take 4 t)) (rowLines 4 n (drop 4 t)) (headingLine nodeHeading ++ rest))
     ∙ ap (proofRowsFrom m k) (lines-row (take 4 t) after)
     ∙ proof-rows-step m k (full (rowBytes (take 4 t))) (lines after) (take 4 t)
-        (record { table = take (4 * n) (drop 4 t); nodes = r .0; members = r .1 })
-        (row-not-u (rowBytes (take 4 t)) (take 4 t) (numbers-row (take 4 t) some-first first))
-        (values-row (eqb 4) k (take 4 t) some-first first (eq-eqb 4 (length (take 4 t)) (sym size)))
-        (omega arith)
-        (proof-rows-back (m - 1) (suc k) n (drop 4 t) rest r (omega (arith, length-drop 4 t)) (omega arith)
-            (all-back fiveDigits (take 4 t) (take (4 * n) (drop 4 t)) digits) h)
+    (record { table = take (4 * n) (drop 4 t); nodes = r .0; members = r .1 })
+    (row-not-u (rowBytes (take 4 t)) (take 4 t) (numbers-row (take 4 t) some-first first))
+    (values-row (eqb 4) k (take 4 t) some-first first (eq-eqb 4 (length (take 4 t)) (sym size)))
+    (omega arith)
+    (proof-rows-back (m - 1) (suc k) n (drop 4 t) rest r (omega (arith, length-drop 4 t)) (omega arith)
+    (all-back fiveDigits (take 4 t) (take (4 * n) (drop 4 t)) digits) h)
     ∙ ap (λ (l : List ℤ). read (record { table = l; nodes = r .0; members = r .1 })) (sym (take-row 4 n t))
 
 -- what lines are that give a proof's rows and nodes
@@ -123,16 +123,16 @@ proof-rows-are m k [] p h = absurd (stopped-not-read _ k p h)
 proof-rows-are m k (l ∷ ls) p h =
     ⊎-elim
     (λ u.
-        let a = require-read (l .ended and sameBytes (l .content) nodeHeading) _ k _ p (sym (if-true (startsWithU (l .content)) _ _ u) ∙ h) in
-        let b = then-read (nodesFrom 1024 0 (suc k) ls) _ p (a .1) in
-        subst (ProofRest m (l ∷ ls)) (read-injective (record { table = []; nodes = b .0 .0; members = b .0 .1 }) p (b .2))
-        (heading-lines m k l ls (b .0) (a .0) (b .1)))
+    let a = require-read (l .ended and sameBytes (l .content) nodeHeading) _ k _ p (sym (if-true (startsWithU (l .content)) _ _ u) ∙ h) in
+    let b = then-read (nodesFrom 1024 0 (suc k) ls) _ p (a .1) in
+    subst (ProofRest m (l ∷ ls)) (read-injective (record { table = []; nodes = b .0 .0; members = b .0 .1 }) p (b .2))
+    (heading-lines m k l ls (b .0) (a .0) (b .1)))
     (λ u.
-        let a = then-read (values (eqb 4) k l) _ p (sym (if-false (startsWithU (l .content)) _ _ u) ∙ h) in
-        let vs = a .0 in
-        let b = require-read (leb 1 m) _ k _ p (a .2) in
-        let c = then-read (proofRowsFrom (m - 1) (suc k) ls) _ p (b .1) in
-        let q = c .0 in
-        subst (ProofRest m (l ∷ ls)) (read-injective (record { table = vs ++ q .table; nodes = q .nodes; members = q .members }) p (c .2))
-        (row-lines m l ls vs q (leb-true 1 m (b .0)) (row-values (eqb 4) k l vs (a .1)) (proof-rows-are (m - 1) (suc k) ls q (c .1))))
+    let a = then-read (values (eqb 4) k l) _ p (sym (if-false (startsWithU (l .content)) _ _ u) ∙ h) in
+    let vs = a .0 in
+    let b = require-read (leb 1 m) _ k _ p (a .2) in
+    let c = then-read (proofRowsFrom (m - 1) (suc k) ls) _ p (b .1) in
+    let q = c .0 in
+    subst (ProofRest m (l ∷ ls)) (read-injective (record { table = vs ++ q .table; nodes = q .nodes; members = q .members }) p (c .2))
+    (row-lines m l ls vs q (leb-true 1 m (b .0)) (row-values (eqb 4) k l vs (a .1)) (proof-rows-are (m - 1) (suc k) ls q (c .1))))
     (decide (startsWithU (l .content)))

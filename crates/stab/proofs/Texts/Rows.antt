@@ -1,14 +1,13 @@
 -- Readers and rows: what a reader that ends has passed, and rows against their lines.
-use Prim.Native.Nat.{ℕ, zero, suc, _+_, _*_, _-_, _/_, _<_, _≤_}
+use Prim.Native.Nat.{ℕ, zero, suc, _+_, _*_, _-_, _≤_}
 use native.Mathlib.Omega.{arith}
-use native.Mathlib.Nat.{mul-suc, mul-zero}
+use native.Mathlib.Nat.{mul-zero}
 use mathlib.Core.Path.{_≡_, refl, sym, _∙_, ap, ap₂, subst}
-use mathlib.Core.Logic.{⊎-elim}
-use mathlib.Core.Bool.{Bool, true, false, not, true≢false, false≢true}
-use mathlib.Core.List.{List, [], _∷_, _++_, append-assoc, append-nil}
-use mathlib.Core.Option.{Option, none, some, Option·none-ne-some, Option·some-injective}
+use mathlib.Core.Bool.{Bool, true, false, false≢true}
+use mathlib.Core.List.{List, [], _∷_, _++_, append-assoc}
+use mathlib.Core.Option.{Option, none, some}
 use lib.Dec.{leb, eqb}
-use lib.IntN.{ℤ, pos}
+use lib.IntN.{ℤ}
 use lib.ListN.{length, take, drop, length-append, length-drop}
 use lib.Seq.{take-add, length-take-le, take-at, drop-at}
 use borrow.Author.Tests.{leb-true, eqb-true, le-leb, eq-eqb}
@@ -19,7 +18,7 @@ use Rattle.stab.specs.Write.{rowLines}
 use Rattle.stab.specs.declared.Refusal.{Refusal}
 use Rattle.stab.proofs.Bools.{and-left, and-right, and-both}
 use Rattle.stab.proofs.Texts.Numbers.{same-bytes-true, same-bytes-refl}
-use Rattle.stab.proofs.Texts.Lines.{lacks, full, rowBytes, textOf, lines-row, lines-heading, numbers-row, row-numbers, text-row, text-heading}
+use Rattle.stab.proofs.Texts.Lines.{full, rowBytes, textOf, lines-row, numbers-row, row-numbers, text-row, text-heading}
 
 -- ---- steps of a reader
 
@@ -159,10 +158,10 @@ rows-back w m k (suc n) t a b c d =
     let size : length (take w t) ≡ w = length-take-le w t (omega arith) in
     ap (rowsFrom w m k) (lines-row (take w t) (rowLines w n (drop w t)))
     ∙ rows-step w m k (full (rowBytes (take w t))) (lines (rowLines w n (drop w t))) (take w t) (take (w * n) (drop w t))
-        (values-row (eqb w) k (take w t) (omega arith) (all-front fiveDigits (take w t) _ digits) (eq-eqb w _ (sym size)))
-        (omega arith)
-        (rows-back w (m - 1) (suc k) n (drop w t) a (omega (arith, length-drop w t)) (omega arith)
-            (all-back fiveDigits (take w t) (take (w * n) (drop w t)) digits))
+    (values-row (eqb w) k (take w t) (omega arith) (all-front fiveDigits (take w t) _ digits) (eq-eqb w _ (sym size)))
+    (omega arith)
+    (rows-back w (m - 1) (suc k) n (drop w t) a (omega (arith, length-drop w t)) (omega arith)
+    (all-back fiveDigits (take w t) (take (w * n) (drop w t)) digits))
     ∙ ap (λ (l : List ℤ). read l) (sym (take-row w n t))
 
 -- what lines are that give rows: as many as the lines, each of w numbers of at most five digits, and the bytes are theirs
