@@ -1,16 +1,20 @@
+-- Laws of the definitions.
 pub mod Bools
 pub mod Whole
-pub mod Trees
+pub mod Tests
 pub mod Scans
-pub mod Meanings
+pub mod Trees
 pub mod Decoded
+pub mod Meanings
+pub mod Alikes
 pub mod Bounds
+pub mod Ancestors
+-- The theorems of docs/THEOREMS.md.
+pub mod Soundness
+pub mod Exactness
+pub mod Texts
+pub mod Audit
+-- The definitions computed.
 pub mod Evaluate
 pub mod Cases
 pub mod Trials
-pub mod Alikes
-pub mod Tests
-pub mod Ancestors
-pub mod Exactness
-pub mod Soundness
-pub mod Audit
