@@ -4,7 +4,7 @@ mod Nodes
 mod Steps
 mod Checked
 mod Models
-mod Refusals
+pub mod Refusals
 use Prim.Native.Nat.{ℕ}
 use mathlib.Core.Path.{_≡_}
 use mathlib.Core.Logic.{_↔_}
@@ -58,7 +58,7 @@ of-keeps-model M = model-clears M .1
 
 -- what is found is a refusal, never an acceptance
 pub refusal-refuses : (T : Tableau) (v : Verdict) → refusal T ≡ some v → (why : Refusal) × (place : Place) × (v ≡ Refused why place)
-refusal-refuses = of-refusal
+refusal-refuses T v h = let r = of-refusal T v h in (r .0, r .1, r .2)
 
 pub model-refusal-refuses : (M : Model) (v : Verdict) → modelRefusal M ≡ some v → (why : Refusal) × (place : Place) × (v ≡ Refused why place)
-model-refusal-refuses = of-model-refusal
+model-refusal-refuses M v h = let r = of-model-refusal M v h in (r .0, r .1, r .2)

@@ -2,6 +2,7 @@
 pub mod Bools
 pub mod Whole
 pub mod Tests
+pub mod Formed
 pub mod Scans
 pub mod Trees
 pub mod Decoded
@@ -14,6 +15,7 @@ pub mod Soundness
 pub mod Exactness
 pub mod Texts
 pub mod Audit
+pub mod Packed
 -- The definitions computed.
 pub mod Evaluate
 pub mod Cases

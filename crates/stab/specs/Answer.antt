@@ -1,5 +1,5 @@
 -- The paper's numbers for every case of every answer, and the one number that provers get.
-use Prim.Native.Nat.{ℕ, _+_, _*_}
+use Prim.Native.Nat.{ℕ, _+_, _*_, _<_}
 use lib.IntN.{ℤ, pos, negℤ}
 use Rattle.stab.specs.declared.Place.{Place}
 use Rattle.stab.specs.declared.Place.the-variants.{Whole, At}
@@ -115,3 +115,9 @@ placeCode (At k) = k + 1
 unfoldable pub packed : Verdict → ℕ
 packed (Accepted nodes links) = ((0 * 8192 + 1) * 8192 + nodes) * 8192 + links
 packed (Refused why p) = ((refusalNumber why * 8192 + placeCode p) * 8192 + 0) * 8192 + 0
+
+-- no part of the one number runs into another: each is below 8192
+abbrev pub Packs : Verdict → Type 0
+Packs (Accepted nodes links) = (nodes < 8192) × (links < 8192)
+Packs (Refused why Whole) = Unit {0}
+Packs (Refused why (At k)) = k + 1 < 8192

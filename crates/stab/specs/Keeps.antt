@@ -8,7 +8,7 @@ use lib.IntN.{ℤ, pos, negℤ, _+ℤ_, _-ℤ_}
 use lib.Signed.{_≤ℤ_, _<ℤ_}
 use lib.ListN.{length}
 use Rattle.stab.specs.Basic.{nat}
-use Rattle.stab.specs.Formula.{Row, Formula, tree, size, depth, isOuter, wellFormed}
+use Rattle.stab.specs.Formula.{Row, Kind, constant, literal, junction, iteration, unknown, kindOf, Base, index, Formula, const, lit, join, iter, tree, size, depth}
 use Rattle.stab.specs.Alike.{lower, instance}
 use Rattle.stab.specs.Node.{Tableau, Bound, rows, rowCount, row, formula, node, nodeAt, set, setStart, setEnd, bound, rank, childCount}
 use Rattle.stab.specs.Rule.{unused, rule, given, indexAt}
@@ -24,8 +24,38 @@ Within lo hi z = (lo ≤ℤ z) × (z ≤ℤ hi)
 abbrev pub Below : ℕ → ℤ → Type 0
 Below n z = (pos 0 ≤ℤ z) × (z <ℤ pos n)
 
+-- a literal on i stands in it outside an iteration
+abbrev pub Loose : Formula → Type 0
+Loose (const v) = ⊥
+Loose (lit v s x c) = x ≡ index
+Loose (join o f g) = Loose f ⊎ Loose g
+Loose (iter o f b c) = ⊥
+
+-- a literal not on i, or an iteration, stands in it
+abbrev pub Fixed : Formula → Type 0
+Fixed (const v) = ⊥
+Fixed (lit v s x c) = x ≢ index
+Fixed (join o f g) = Fixed f ⊎ Fixed g
+Fixed (iter o f b c) = Unit {0}
+
+-- "A row is outer if no literal on i stands in it outside an iteration."
+abbrev pub Outer : Formula → Type 0
+Outer f = ¬ Loose f
+
+-- row r with columns w is a well-formed row of its kind
+abbrev pub FormedAs : (ℕ → Row) → ℕ → Row → Kind → Type 0
+-- "a, b, c are 0"
+FormedAs rows r w (constant v) = (w .a ≡ pos 0) × ((w .b ≡ pos 0) × (w .c ≡ pos 0))
+-- "a is the symbol 0..255"; b is 0, 1 or 2; "c is -9999..9999"
+FormedAs rows r w (literal v) = Within (pos 0) (pos 255) (w .a) × (Within (pos 0) (pos 2) (w .b) × Within (negℤ (pos 9999)) (pos 9999) (w .c))
+-- "parts a and b; c is 0"; no mixing
+FormedAs rows r w (junction o) = Below r (w .a) × (Below r (w .b) × ((w .c ≡ pos 0) × ¬ (Loose (tree rows r) × Fixed (tree rows r))))
+-- "body a, for i from b up to n - c; b and c are -9999..9999"; "A body holds no iteration and no literal with b = 1 or 0."
+FormedAs rows r w (iteration o) = Below r (w .a) × (Within (negℤ (pos 9999)) (pos 9999) (w .b) × (Within (negℤ (pos 9999)) (pos 9999) (w .c) × ¬ Fixed (tree rows (nat (w .a)))))
+FormedAs rows r w unknown = ⊥
+
 pub record KeepsRow (rows : ℕ → Row) (r : ℕ) : Type 0 where
-  pub formed : wellFormed rows r ≡ true
+  pub formed : FormedAs rows r (rows r) (kindOf (rows r .kind))
   pub small : size (tree rows r) ≤ 4096
   pub flat : depth (tree rows r) ≤ 64
 
@@ -34,7 +64,7 @@ pub record KeepsFormulas (rows : ℕ → Row) (n s : ℕ) (root least : ℤ) : T
   pub rootRow : Below s root
   pub leastRange : Within (pos 0) (pos 9999) least
   pub each : (r : ℕ) → r < n → KeepsRow rows r
-  pub rootOuter : isOuter (tree rows (nat root)) ≡ true
+  pub rootOuter : Outer (tree rows (nat root))
 
 -- "agree in shape and in all numbers"
 unfoldable pub Alike : Formula → Formula → Type 0
@@ -49,7 +79,7 @@ Ascending (x ∷ (y ∷ ys)) = (x <ℤ y) × Ascending (y ∷ ys)
 
 pub record OuterRow (T : Tableau) (z : ℤ) : Type 0 where
   pub isRow : Below (rowCount T) z
-  pub outer : isOuter (formula T z) ≡ true
+  pub outer : Outer (formula T z)
 
 pub record KeepsSet (T : Tableau) (j : ℕ) : Type 0 where
   pub follows : node T j .start ≡ setStart (T .nodes) j

@@ -5,19 +5,19 @@ use mathlib.Core.Logic.{Iff·trans}
 use mathlib.Core.List.{[], _∷_}
 use lib.IntN.{ℤ, pos, negℤ}
 use Rattle.stab.specs.Basic.{nat}
-use Rattle.stab.specs.Formula.{isOuter}
 use Rattle.stab.specs.Node.{Tableau, rowCount, isRow, formula, node, set, setStart, setEnd, setFollows, isOuterRow, setFits, parentFits, rank}
 use Rattle.stab.specs.Rule.{given, drawnFrom, drawn}
 use Rattle.stab.specs.Check.{setRefusal, parentRefusal}
 use Rattle.stab.specs.Keeps.{OuterRow, KeepsSet, KeepsParent, DrawnFrom, KeepsDrawn}
 use Rattle.stab.specs.declared.Refusal.the-variants.{Set, Parent}
-use Rattle.stab.proofs.Tests.{_tests_, itself, _&_, or-tests, _⇒_, eq-tests, leZ-tests, eqZ-tests, below-tests, has-tests, all-tests, ascending-tests, same-list-tests, _clears_, at-clears}
+use Rattle.stab.proofs.Formed.{outer-tests}
+use Rattle.stab.proofs.Tests.{_tests_, _&_, or-tests, _⇒_, eq-tests, leZ-tests, eqZ-tests, below-tests, has-tests, all-tests, ascending-tests, same-list-tests, _clears_, at-clears}
 
 outer-row-tests : (T : Tableau) (z : ℤ) → isOuterRow T z tests OuterRow T z
 unfolding isOuterRow isRow
 outer-row-tests T z =
     Iff·trans
-    (below-tests (rowCount T) z & itself (isOuter (formula T z)))
+    (below-tests (rowCount T) z & outer-tests (formula T z))
     (λ p. record { isRow = p .0; outer = p .1 }, λ k. (k .isRow, k .outer))
 
 pub set-clears : (T : Tableau) (j : ℕ) → setRefusal T j clears KeepsSet T j

@@ -1,5 +1,5 @@
--- What the check and the model check find is a refusal, never an acceptance.
-use Prim.Native.Nat.{ℕ, zero, suc}
+-- What the check and the model check find is a refusal, never an acceptance, and its place is within the limits.
+use Prim.Native.Nat.{ℕ, zero, suc, _≤_, _<_}
 use mathlib.Core.Path.{_≡_, refl}
 use native.Mathlib.Omega.{arith}
 use mathlib.Core.Bool.{Bool, true, false}
@@ -8,34 +8,41 @@ use lib.IntN.{ℤ}
 use Rattle.stab.specs.Basic.{_otherwise_, scan, unless}
 use Rattle.stab.specs.Formula.{Row}
 use Rattle.stab.specs.Node.{Tableau, rows, rowCount}
-use Rattle.stab.specs.Check.{wholeUnless, atUnless, rowRefusal, formulasRefusal, setRefusal, parentRefusal, stepRefusal, nodeRefusal, refusal, verdict}
+use Rattle.stab.specs.Check.{wholeUnless, atUnless, rowRefusal, formulasRefusal, setRefusal, parentRefusal, stepRefusal, nodeRefusal, withinLimits, refusal, verdict}
 use Rattle.stab.specs.Model.{Model, pairRefusal, schemaRow, modelRefusal}
 use Rattle.stab.specs.declared.Place.{Place}
 use Rattle.stab.specs.declared.Place.the-variants.{Whole, At}
 use Rattle.stab.specs.declared.Refusal.{Refusal}
+use Rattle.stab.specs.declared.Refusal.the-variants.{TooMany}
 use Rattle.stab.specs.declared.Verdict.{Verdict}
 use Rattle.stab.specs.declared.Verdict.the-variants.{Accepted, Refused}
+use Rattle.stab.proofs.Tests.{_&_, le-tests, whole-clears}
+
+-- a place below 4,096, or the whole record
+abbrev pub Near : Place → Type 0
+Near Whole = Unit {0}
+Near (At k) = k < 4096
 
 -- a verdict that refuses
 abbrev pub IsRefused : Verdict → Type 0
-IsRefused v = (why : Refusal) × (place : Place) × (v ≡ Refused why place)
+IsRefused v = (why : Refusal) × (place : Place) × (v ≡ Refused why place) × Near place
 
 -- whatever is found is a refusal
 abbrev FindsRefusals : Option Verdict → Type 0
 FindsRefusals x = (v : Verdict) → x ≡ some v → IsRefused v
 
-of-unless : (t : Bool) (why : Refusal) (place : Place) → FindsRefusals (unless t (Refused why place))
+of-unless : (t : Bool) (why : Refusal) (place : Place) → Near place → FindsRefusals (unless t (Refused why place))
 unfolding unless
-of-unless true why place v h = absurd (Option·none-ne-some v h)
-of-unless false why place v h = (why, place, cc)
+of-unless true why place near v h = absurd (Option·none-ne-some v h)
+of-unless false why place near v h = (why, place, cc, near)
 
 of-whole : (t : Bool) (why : Refusal) → FindsRefusals (wholeUnless t why)
 unfolding wholeUnless
-of-whole t why = of-unless t why Whole
+of-whole t why = of-unless t why Whole tt
 
-of-at : (t : Bool) (why : Refusal) (k : ℕ) → FindsRefusals (atUnless t why k)
+of-at : (t : Bool) (why : Refusal) (k : ℕ) → k < 4096 → FindsRefusals (atUnless t why k)
 unfolding atUnless
-of-at t why k = of-unless t why (At k)
+of-at t why k near = of-unless t why (At k) near
 
 infixr 25 _or-else_
 _or-else_ : {x y : Option Verdict} → FindsRefusals x → FindsRefusals y → FindsRefusals (x otherwise y)
@@ -43,44 +50,56 @@ unfolding _otherwise_
 _or-else_ {x = none} f g = g
 _or-else_ {x = some a} f g = f
 
-of-scan : (f : ℕ → Option Verdict) (n : ℕ) → ((k : ℕ) → FindsRefusals (f k)) → FindsRefusals (scan f n)
-unfolding scan
-of-scan f zero h v e = absurd (Option·none-ne-some v e)
-of-scan f (suc n) h v e = _or-else_ (of-scan f n h) (h n) v e
+-- the second finding may use that the first test passed
+once : {x y : Option Verdict} → FindsRefusals x → (x ≡ none → FindsRefusals y) → FindsRefusals (x otherwise y)
+unfolding _otherwise_
+once {x = none} f g = g refl
+once {x = some a} f g = f
 
-of-formulas : (rows : ℕ → Row) (n s : ℕ) (root least : ℤ) → FindsRefusals (formulasRefusal rows n s root least)
+of-scan : (f : ℕ → Option Verdict) (n : ℕ) → n ≤ 4096 → ((k : ℕ) → k < 4096 → FindsRefusals (f k)) → FindsRefusals (scan f n)
+unfolding scan
+of-scan f zero l h v e = absurd (Option·none-ne-some v e)
+of-scan f (suc n) l h v e = _or-else_ (of-scan f n (omega arith) h) (h n (omega arith)) v e
+
+of-formulas : (rows : ℕ → Row) (n s : ℕ) (root least : ℤ) → n ≤ 4096 → FindsRefusals (formulasRefusal rows n s root least)
 unfolding formulasRefusal rowRefusal
-of-formulas rows n s root least =
+of-formulas rows n s root least l =
     of-whole _ _ or-else
-    of-scan (rowRefusal rows) n (λ r. of-at _ _ r or-else of-at _ _ r) or-else
+    of-scan (rowRefusal rows) n l (λ r k. of-at _ _ r k or-else of-at _ _ r k) or-else
     of-whole _ _
 
-of-node : (T : Tableau) (j : ℕ) → FindsRefusals (nodeRefusal T j)
+of-node : (T : Tableau) (j : ℕ) → j < 4096 → FindsRefusals (nodeRefusal T j)
 unfolding nodeRefusal stepRefusal
-of-node T j =
-    (of-at _ _ j or-else of-at _ _ j or-else of-at _ _ j or-else of-at _ _ j or-else of-at _ _ j or-else of-at _ _ j) or-else
-    of-at _ _ j
+of-node T j l =
+    (of-at _ _ j l or-else of-at _ _ j l or-else of-at _ _ j l or-else of-at _ _ j l or-else of-at _ _ j l or-else of-at _ _ j l) or-else
+    of-at _ _ j l
 
 pub of-refusal : (T : Tableau) → FindsRefusals (refusal T)
-unfolding refusal setRefusal parentRefusal
+unfolding refusal setRefusal parentRefusal withinLimits
 of-refusal T =
     of-whole _ _ or-else
+    once (of-whole _ TooMany)
+    (λ h.
+    let limits = whole-clears TooMany (le-tests (rowCount T) 1024 & le-tests (T .nodeRows) 1024 & le-tests (T .memberCount) 8192) .0 h in
+    let few : rowCount T ≤ 4096 = omega (arith, limits .0) in
+    let nodes : T .nodeRows ≤ 4096 = omega (arith, limits .1 .0) in
+    of-formulas (rows T) (rowCount T) (T .schemaRows) (T .root) (T .least) few or-else
+    of-scan (setRefusal T) (T .nodeRows) nodes (λ j l. of-at _ _ j l) or-else
     of-whole _ _ or-else
-    of-formulas (rows T) (rowCount T) (T .schemaRows) (T .root) (T .least) or-else
-    of-scan (setRefusal T) (T .nodeRows) (λ j. of-at _ _ j) or-else
-    of-whole _ _ or-else
-    of-scan (parentRefusal T) (T .nodeRows) (λ j. of-at _ _ j) or-else
-    of-scan (nodeRefusal T) (T .nodeRows) (of-node T)
+    of-scan (parentRefusal T) (T .nodeRows) nodes (λ j l. of-at _ _ j l) or-else
+    of-scan (nodeRefusal T) (T .nodeRows) nodes (of-node T))
 
 pub of-model-refusal : (M : Model) → FindsRefusals (modelRefusal M)
 unfolding modelRefusal pairRefusal
 of-model-refusal M =
     of-whole _ _ or-else
+    once (of-whole _ TooMany)
+    (λ h.
+    let limits = whole-clears TooMany (le-tests (M .schemaRows) 1024 & le-tests (M .pairRows) 4096) .0 h in
+    of-formulas (schemaRow M) (M .schemaRows) (M .schemaRows) (M .root) (M .least) (omega (arith, limits .0)) or-else
+    of-scan (pairRefusal (M .pairs)) (M .pairRows) (omega (arith, limits .1)) (λ k l. of-at _ _ k l) or-else
     of-whole _ _ or-else
-    of-formulas (schemaRow M) (M .schemaRows) (M .schemaRows) (M .root) (M .least) or-else
-    of-scan (pairRefusal (M .pairs)) (M .pairRows) (λ k. of-at _ _ k) or-else
-    of-whole _ _ or-else
-    of-whole _ _
+    of-whole _ _)
 
 -- an acceptance is the verdict where nothing is found
 pub accepted : (x : Option Verdict) (m k n l : ℕ) → FindsRefusals x → verdict x (Accepted m k) ≡ Accepted n l → (x ≡ none) × (n ≡ m) × (l ≡ k)

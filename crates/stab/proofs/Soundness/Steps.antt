@@ -25,6 +25,7 @@ use Rattle.stab.proofs.Meanings.{Proper, unfolds, void-value, instance-
 use Rattle.stab.proofs.Decoded as D
 use Rattle.stab.proofs.Bounds.{bound-child, counted}
 use Rattle.stab.proofs.Tests.{below-tests}
+use Rattle.stab.proofs.Formed.{formed-tests}
 use Rattle.stab.proofs.Ancestors.{parent-below}
 
 -- ---- the table's entries
@@ -91,7 +92,7 @@ module _ (T : Tableau) (K : Keeps T) (σ : Assignment) where
   Holds n j = (z : ℤ) → List·Memᴰ z (set T j) → True n z
 
   formed : (r : ℕ) → r < rowCount T → wellFormed (rows T) r ≡ true
-  formed r p = K .formulas .each r p .formed
+  formed r p = formed-tests (rows T) r .1 (K .formulas .each r p .formed)
 
   row-below : (z : ℤ) → Below (rowCount T) z → nat z < rowCount T
   row-below z h = below-nat (rowCount T) z (below-tests (rowCount T) z .1 h)

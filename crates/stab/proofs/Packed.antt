@@ -1,0 +1,84 @@
+-- The one number that provers get: its parts do not run into one another, and its answer is 0 exactly for an acceptance.
+use Prim.Native.Nat.{ℕ, zero, suc, _+_, _*_, _/_, _≤_, _<_}
+use native.Mathlib.Omega.{arith}
+use mathlib.Core.Path.{_≡_, refl, sym, _∙_, ap, subst}
+use mathlib.Core.Option.{Option, none, some}
+use Rattle.stab.specs.Node.{Tableau}
+use Rattle.stab.specs.Check.{refusal, check, verdict, linkCount}
+use Rattle.stab.specs.Model.{Model, modelRefusal, checkModel}
+use Rattle.stab.specs.Keeps.{Keeps}
+use Rattle.stab.specs.Answer.{refusalNumber, placeCode, packed, Packs}
+use Rattle.stab.specs.declared.Place.{Place}
+use Rattle.stab.specs.declared.Place.the-variants.{Whole, At}
+use Rattle.stab.specs.declared.Refusal.{Refusal}
+use Rattle.stab.specs.declared.Refusal.the-variants.{TextTooLong, TableTooShort, Heading, Line, TooMany, Root, IllFormed, TooLarge, Set, Parent, Drawn, Step, Target, Bound, Partner, Lowered, Children, Pair, Width, False, Number, Output}
+use Rattle.stab.specs.declared.Verdict.{Verdict}
+use Rattle.stab.specs.declared.Verdict.the-variants.{Accepted, Refused}
+use Rattle.stab.proofs.Scans.{count-le}
+use Rattle.stab.proofs.Exactness.{keeps-of}
+use Rattle.stab.proofs.Exactness.Refusals.{Near, IsRefused, of-refusal, of-model-refusal}
+
+-- ---- a refusal's number is from 1 to 22
+
+pub number-range : (w : Refusal) → (1 ≤ refusalNumber w) × (refusalNumber w ≤ 22)
+unfolding refusalNumber
+number-range TextTooLong = (omega arith, omega arith)
+number-range TableTooShort = (omega arith, omega arith)
+number-range Heading = (omega arith, omega arith)
+number-range Line = (omega arith, omega arith)
+number-range TooMany = (omega arith, omega arith)
+number-range Root = (omega arith, omega arith)
+number-range IllFormed = (omega arith, omega arith)
+number-range TooLarge = (omega arith, omega arith)
+number-range Set = (omega arith, omega arith)
+number-range Parent = (omega arith, omega arith)
+number-range Drawn = (omega arith, omega arith)
+number-range Step = (omega arith, omega arith)
+number-range Target = (omega arith, omega arith)
+number-range Bound = (omega arith, omega arith)
+number-range Partner = (omega arith, omega arith)
+number-range Lowered = (omega arith, omega arith)
+number-range Children = (omega arith, omega arith)
+number-range Pair = (omega arith, omega arith)
+number-range Width = (omega arith, omega arith)
+number-range False = (omega arith, omega arith)
+number-range Number = (omega arith, omega arith)
+number-range Output = (omega arith, omega arith)
+
+-- ---- the verdicts pack
+
+near-packs : (why : Refusal) (place : Place) → Near place → Packs (Refused why place)
+near-packs why Whole h = tt
+near-packs why (At k) h = omega arith
+
+found-packs : (v : Verdict) → IsRefused v → Packs v
+found-packs v r = subst Packs (sym (r .2)) (near-packs (r .0) (r .1) (r .3))
+
+pub check-packs : (T : Tableau) → Packs (check T)
+unfolding check verdict linkCount
+check-packs T = go (refusal T) refl
+  where
+    go : (x : Option Verdict) → refusal T ≡ x → Packs (verdict x (Accepted (T .nodeRows) (linkCount T)))
+    go none e =
+        let k = keeps-of T e in
+        (omega (arith, k .tables .nodeLimit), omega (arith, k .tables .nodeLimit, count-le (Rattle.stab.specs.Check.isLink (T .nodes)) (T .nodeRows)))
+    go (some v) e = found-packs v (of-refusal T v e)
+
+pub model-packs : (M : Model) → Packs (checkModel M)
+unfolding checkModel verdict
+model-packs M = go (modelRefusal M) refl
+  where
+    go : (x : Option Verdict) → modelRefusal M ≡ x → Packs (verdict x (Accepted 0 0))
+    go none e = (omega arith, omega arith)
+    go (some v) e = found-packs v (of-model-refusal M v e)
+
+-- ---- the answer in the number is 0 exactly for an acceptance: 549755813888 is 8192 × 8192 × 8192
+
+pub packed-accepted : (v : Verdict) → Packs v → packed v / 549755813888 ≡ 0 → (n : ℕ) × (l : ℕ) × (v ≡ Accepted n l)
+unfolding packed
+packed-accepted (Accepted n l) p h = (n, l, refl)
+packed-accepted (Refused why place) p h = absurd (omega (arith, number-range why .0))
+
+pub accepted-packed : (n l : ℕ) → Packs (Accepted n l) → packed (Accepted n l) / 549755813888 ≡ 0
+unfolding packed
+accepted-packed n l p = omega (arith, p .0, p .1)
