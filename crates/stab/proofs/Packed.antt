@@ -21,7 +21,6 @@ use Rattle.stab.proofs.Exactness.Refusals.{Near, IsRefused, of-refusal,
 -- ---- a refusal's number is from 1 to 22
 
 pub number-range : (w : Refusal) → (1 ≤ refusalNumber w) × (refusalNumber w ≤ 22)
-unfolding refusalNumber
 number-range TextTooLong = (omega arith, omega arith)
 number-range TableTooShort = (omega arith, omega arith)
 number-range Heading = (omega arith, omega arith)
@@ -75,10 +74,8 @@ model-packs M = go (modelRefusal M) refl
 -- ---- the answer in the number is 0 exactly for an acceptance: 549755813888 is 8192 × 8192 × 8192
 
 pub packed-accepted : (v : Verdict) → Packs v → packed v / 549755813888 ≡ 0 → (n : ℕ) × (l : ℕ) × (v ≡ Accepted n l)
-unfolding packed
 packed-accepted (Accepted n l) p h = (n, l, refl)
 packed-accepted (Refused why place) p h = absurd (omega (arith, number-range why .0))
 
 pub accepted-packed : (n l : ℕ) → Packs (Accepted n l) → packed (Accepted n l) / 549755813888 ≡ 0
-unfolding packed
 accepted-packed n l p = omega (arith, p .0, p .1)

@@ -18,7 +18,7 @@ use Rattle.stab.specs.declared.Written.the-variants.{Text, Refused as Wr
 
 -- ---- numbers of refusals and places
 
-unfoldable pub refusalNumber : Refusal → ℕ
+abbrev pub refusalNumber : Refusal → ℕ
 refusalNumber TextTooLong = 1
 refusalNumber TableTooShort = 2
 refusalNumber Heading = 3
@@ -42,7 +42,7 @@ refusalNumber False = 20
 refusalNumber Number = 21
 refusalNumber Output = 22
 
-unfoldable pub placeNumber : Place → ℤ
+abbrev pub placeNumber : Place → ℤ
 placeNumber Whole = negℤ (pos 1)
 placeNumber (At k) = pos k
 
@@ -108,11 +108,11 @@ writtenNumbers (WriteRefused why p) = record { answer = refusalNumber why; place
 -- ---- the one number: "((answer × 8192 + place + 1) × 8192 + nodes) × 8192 + links"
 
 -- place + 1
-unfoldable pub placeCode : Place → ℕ
+abbrev pub placeCode : Place → ℕ
 placeCode Whole = 0
 placeCode (At k) = k + 1
 
-unfoldable pub packed : Verdict → ℕ
+abbrev pub packed : Verdict → ℕ
 packed (Accepted nodes links) = ((0 * 8192 + 1) * 8192 + nodes) * 8192 + links
 packed (Refused why p) = ((refusalNumber why * 8192 + placeCode p) * 8192 + 0) * 8192 + 0
 
