@@ -1,0 +1,68 @@
+/* Zorambi: the proved check of schema tableaux, and the model check, from C.
+ *
+ * A slice is a pointer and the count of its numbers. The counts of rows, nodes and members are those that refusals 2 and 5
+ * speak of: a table may be longer than its count. Whatever numbers stand in the tables, and whatever the counts, the answer is
+ * a verdict or a numbered refusal; nothing is read outside the slices, and nothing is written.
+ * A pointer whose count is 0 may be any pointer that is not NULL. */
+#ifndef ZORAMBI_H
+#define ZORAMBI_H
+
+#include <stddef.h>
+#include <stdint.h>
+
+#ifdef __cplusplus
+extern "C" {
+#endif
+
+/* The check: a formula row is 4 numbers (kind a b c), a node 9 (up rule on with other to by, then its set's start among the
+ * members and its length), a member 1. If the answer is ZORAMBI_ACCEPTED, the schema is false at every natural n from its
+ * least value up, under every assignment. */
+uint64_t zorambi_check(const int32_t *schema, size_t schema_len, size_t schema_rows,
+                       const int32_t *proof, size_t proof_len, size_t proof_rows,
+                       int32_t root, int32_t least,
+                       const int32_t *nodes, size_t nodes_len, size_t node_rows,
+                       const int32_t *members, size_t members_len, size_t member_count);
+
+/* The model check: a pair is 2 numbers (symbol index). If the answer is ZORAMBI_ACCEPTED, the schema is true at n where
+ * exactly the listed pairs are true. */
+uint64_t zorambi_check_model(const int32_t *schema, size_t schema_len, size_t schema_rows,
+                             int32_t root, int32_t least, int32_t n,
+                             const int32_t *pairs, size_t pairs_len, size_t pair_rows);
+
+/* The one number that comes back: ((answer * 8192 + place + 1) * 8192 + nodes) * 8192 + links. */
+static inline unsigned zorambi_answer(uint64_t packed) { return (unsigned)(packed >> 39); }
+static inline int zorambi_place(uint64_t packed) { return (int)((packed >> 26) & 8191) - 1; }
+static inline unsigned zorambi_nodes(uint64_t packed) { return (unsigned)((packed >> 13) & 8191); }
+static inline unsigned zorambi_links(uint64_t packed) { return (unsigned)(packed & 8191); }
+
+enum zorambi_answer_number {
+  ZORAMBI_ACCEPTED = 0,
+  ZORAMBI_TEXT_TOO_LONG = 1,    /* over 65,536 bytes */
+  ZORAMBI_TABLE_TOO_SHORT = 2,  /* a lent table is shorter than it has to be */
+  ZORAMBI_HEADING = 3,          /* a heading is absent or different */
+  ZORAMBI_LINE = 4,             /* not a line of the required form and number of values */
+  ZORAMBI_TOO_MANY = 5,         /* more rows, nodes, members or pairs than allowed */
+  ZORAMBI_ROOT = 6,             /* root no outer schema row, or least not 0..9999 */
+  ZORAMBI_ILL_FORMED = 7,       /* a formula row is ill-formed; place: the row */
+  ZORAMBI_TOO_LARGE = 8,        /* a formula is too large or too deep; place: the row */
+  ZORAMBI_SET = 9,              /* a set's place, order or members; from here on place: the node */
+  ZORAMBI_PARENT = 10,          /* no node (-1); a wrong parent, or node 0's set */
+  ZORAMBI_DRAWN = 11,           /* the set has a row that neither its parent nor its parent's rule gives */
+  ZORAMBI_STEP = 12,            /* no such rule, or a field, kind, symbol or by that does not fit */
+  ZORAMBI_TARGET = 13,          /* a link to no proper ancestor */
+  ZORAMBI_BOUND = 14,           /* a bound, or the index of a clash */
+  ZORAMBI_PARTNER = 15,         /* with or other of an unfolding */
+  ZORAMBI_LOWERED = 16,         /* a row of the link's target has no lowered partner */
+  ZORAMBI_CHILDREN = 17,        /* the number of children */
+  ZORAMBI_PAIR = 18,            /* a pair out of order or range; place: the pair */
+  ZORAMBI_WIDTH = 19,           /* n below least or over 9999 */
+  ZORAMBI_FALSE = 20,           /* the schema is false in the model */
+  ZORAMBI_NUMBER = 21,          /* writing: a number beyond 5 digits, or sets that do not follow one another */
+  ZORAMBI_OUTPUT = 22           /* writing: the output is too short, or the text too long */
+};
+
+#ifdef __cplusplus
+}
+#endif
+
+#endif
