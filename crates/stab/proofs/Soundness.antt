@@ -16,7 +16,7 @@ use Rattle.stab.specs.Node.{Tableau, Bound, rows, formula, node, nodeAt,
 use Rattle.stab.specs.Check.{check}
 use Rattle.stab.specs.Model.{Model, schemaRow, assignment, satisfied, checkModel}
 use Rattle.stab.specs.Keeps.{Keeps, KeepsModel}
-use Rattle.stab.specs.Refuted.{Refuted}
+use Rattle.stab.specs.Refuted.{Refuted, SameSchema, Irrefutable}
 use Rattle.stab.specs.declared.Verdict.the-variants.{Accepted}
 use Rattle.stab.proofs.Bools.{decide, if-true}
 use Rattle.stab.proofs.Whole.{atom, num, of-le, le-of, leZ-of, of-leZ, nat-pos, nonneg-minus, plus-nat}
@@ -79,22 +79,22 @@ sound T nodes links a n σ h =
     (decide (truth σ n (tree (rowAt (T .schema)) (nat (T .root)))))
 
 -- If the check accepts a tableau, the model check accepts no model of the same schema rows, root and least value.
-pub no-model : (T : Tableau) (nodes links : ℕ) → check T ≡ Accepted nodes links → (M : Model) → ((r : ℕ) → r < T .schemaRows → rowAt (T .schema) r ≡ rowAt (M .schema) r) → T .root ≡ M .root → T .least ≡ M .least → (n l : ℕ) → checkModel M ≡ Accepted n l → ⊥
+pub no-model : (M : Model) (n l : ℕ) → checkModel M ≡ Accepted n l → Irrefutable (M .schema) (M .schemaRows) (M .root) (M .least)
 unfolding satisfied schemaRow
-no-model T nodes links a M same root least n l b =
+no-model M n l b T same nodes links a =
     let K = accepts-exactly T nodes links .0 a .0 in
     let c = model-counts M n l b in
     let KM = model-accepts-exactly M .0 (b ∙ ap₂ Accepted (c .0) (c .1)) in
     let least≥0 : leZ (pos 0) (T .least) ≡ true = leZ-of (K .formulas .leastRange .0) in
-    let in-range : leZ (T .least) (M .n) ≡ true = ap (λ (z : ℤ). leZ z (M .n)) least ∙ leZ-of (KM .inRange .0) in
+    let in-range : leZ (T .least) (M .n) ≡ true = ap (λ (z : ℤ). leZ z (M .n)) (same .sameLeast) ∙ leZ-of (KM .inRange .0) in
     let e : pos (nat (M .n)) ≡ M .n =
     nat-pos (M .n) (le-of (num 0) (atom (M .n)) (omega (arith, of-le (num 0) (atom (T .least)) least≥0, of-le (atom (T .least)) (atom (M .n)) in-range))) in
     let t : tree (rowAt (T .schema)) (nat (T .root)) ≡ tree (rowAt (M .schema)) (nat (T .root)) =
-    tree-agrees (rowAt (T .schema)) (rowAt (M .schema)) (nat (T .root)) (λ r q. same r (omega (arith, root-below T K))) in
+    tree-agrees (rowAt (T .schema)) (rowAt (M .schema)) (nat (T .root)) (λ r q. same .rows r (omega (arith, root-below T K, same .count))) in
     let f : truth (assignment M) (nat (M .n)) (tree (rowAt (T .schema)) (nat (T .root))) ≡ false =
     sound T nodes links a (nat (M .n)) (assignment M) (of-leZ (ap (leZ (T .least)) e ∙ in-range)) in
     true≢false
     (sym (KM .holds)
-    ∙ ap (λ (z : ℤ). truth (assignment M) (nat (M .n)) (tree (rowAt (M .schema)) (nat z))) (sym root)
+    ∙ ap (λ (z : ℤ). truth (assignment M) (nat (M .n)) (tree (rowAt (M .schema)) (nat z))) (sym (same .sameRoot))
     ∙ ap (truth (assignment M) (nat (M .n))) (sym t)
     ∙ f)
