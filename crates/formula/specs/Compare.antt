@@ -1,7 +1,8 @@
 -- What the first of two compared formulas stands for.
 use Prim.Native.Nat.{ℕ, zero, suc}
-use lib.IntN.{ℤ}
-use Rattle.stab.specs.Formula.{Formula}
+use mathlib.Core.Bool.{true}
+use lib.IntN.{ℤ, _+ℤ_}
+use Rattle.stab.specs.Formula.{Row, Formula, lit, baseOf}
 use Rattle.stab.specs.Alike.{lower, instance}
 
 -- mode 0: the formula itself; 1: lowered by k; 2: a body's instance at n - k
@@ -9,3 +10,13 @@ unfoldable pub changed : ℕ → ℤ → Formula → Formula
 changed zero k f = f
 changed (suc zero) k f = lower k f
 changed (suc (suc m)) k f = instance k f
+
+-- what then stands for the limit n - c of an iteration
+unfoldable pub limit : ℕ → ℤ → ℤ → ℤ
+limit zero k c = c
+limit (suc zero) k c = c +ℤ k
+limit (suc (suc m)) k c = c
+
+-- a row's columns as a literal, of which there are two kinds
+unfoldable pub literalOf : Row → Formula
+literalOf w = lit true (w .a) (baseOf (w .b)) (w .c)

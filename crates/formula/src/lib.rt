@@ -1,4 +1,6 @@
 // Formula rows: which are well formed, how large they are, when two agree.
+pub mod compare;
+
 ghost use mathlib.Core.Path.{_≡_};
 ghost use Prim.Native.Nat.{_<_, _≤_, _^_};
 ghost use lib.IntN.{negℤ};

@@ -1,0 +1,67 @@
+// When two formulas agree, found by going down the two side by side.
+use crate::natural_in;
+use crate::under_in;
+ghost use mathlib.Core.Path.{_≡_};
+ghost use mathlib.Core.Bool.{true};
+ghost use Prim.Native.Nat.{_<_, _≤_, _+_, _^_};
+ghost use lib.IntN.{pos, _+ℤ_, _-ℤ_};
+ghost use lib.ListN.{getD};
+ghost use Rattle.stab.specs.Basic.{eqZ, nat, within, _and_};
+ghost use Rattle.stab.specs.Formula.{joined, tree, offset};
+ghost use Rattle.stab.specs.Alike.{lower, instance, agree};
+ghost use Rattle.formula.specs.Column.{column};
+ghost use Rattle.formula.specs.Compare.{changed, limit, literalOf};
+ghost use Rattle.formula.specs.Facts.{AllFormed};
+
+// Column l of row q is what stands at i in t.
+fn same_as(schema: &[i32], s: usize, proof: &[i32], q: usize, l: usize, t: &[i32], i: usize) -> bool
+    requires { ⌜ (q < 2 ^ 32) × (l < 4) ⌝ }
+    ensures { λ v. ⌜ v ≡ eqZ (getD (now (t .entry)) i (pos 0)) (column (joined (now (schema .entry)) s (now (proof .entry)) q) l) ⌝ }
+{
+    if q < s {
+        number::same_at(t, i, schema, 4 * q + l)
+    } else {
+        number::same_at(t, i, proof, 4 * (q - s) + l)
+    }
+}
+
+// Column k of row r is column l of row q.
+pub fn same_in(
+    schema: &[i32],
+    s: usize,
+    proof: &[i32],
+    r: usize,
+    k: usize,
+    q: usize,
+    l: usize,
+) -> bool
+    requires { ⌜ (r < 2 ^ 32) × (k < 4) ⌝ }
+    requires { ⌜ (q < 2 ^ 32) × (l < 4) ⌝ }
+    ensures { λ v. ⌜ v ≡ eqZ (column (joined (now (schema .entry)) s (now (proof .entry)) r) k) (column (joined (now (schema .entry)) s (now (proof .entry)) q) l) ⌝ }
+{
+    if r < s {
+        same_as(schema, s, proof, q, l, schema, 4 * r + k)
+    } else {
+        same_as(schema, s, proof, q, l, proof, 4 * (r - s) + k)
+    }
+}
+
+// Column c of row g is that of row f and up - down more.
+fn is_raised(
+    schema: &[i32],
+    s: usize,
+    proof: &[i32],
+    up: usize,
+    down: usize,
+    f: usize,
+    g: usize,
+) -> bool
+    requires { ⌜ (f < 2 ^ 32) × (g < 2 ^ 32) ⌝ }
+    requires { ⌜ (up < 2 ^ 32) × (down < 2 ^ 32) ⌝ }
+    requires { ⌜ offset (joined (now schema) s (now proof) f .c) ≡ true ⌝ }
+    requires { ⌜ offset (joined (now schema) s (now proof) g .c) ≡ true ⌝ }
+    ensures { λ v. ⌜ v ≡ eqZ (joined (now (schema .entry)) s (now (proof .entry)) f .c +ℤ (pos up -ℤ pos down)) (joined (now (schema .entry)) s (now (proof .entry)) g .c) ⌝ }
+{
+    natural_in(schema, s, proof, f, 3) + up + under_in(schema, s, proof, g, 3)
+        == natural_in(schema, s, proof, g, 3) + under_in(schema, s, proof, f, 3) + down
+}
