@@ -7,14 +7,14 @@ use mathlib.Core.Bool.{Bool, true, false, true≢false, false≢true}
 use lib.Dec.{eqb}
 use lib.IntN.{ℤ, pos, negsuc, negℤ, _+ℤ_, _-ℤ_}
 use lib.Signed.{leZ}
-use borrow.Author.Tests.{eqb-true, eqb-false}
+use borrow.Author.Tests.{eqb-true, eqb-false, eq-eqb, ne-eqb}
 use Rattle.stab.specs.Basic.{if_then_else_, _and_, eqZ, nat, within, below}
 use Rattle.stab.specs.Formula.{Row, Op, conj, disj, Kind, constant, literal, junction, iteration, unknown, kindOf, Base, nothing, parameter, index, baseOf, Formula, const, lit, join, iter, part, decode, tree, offset, wellFormedAs, wellFormed}
 use Rattle.stab.specs.Alike.{lower, lowerBase, instance, instanceLit, eqBool, eqOp, eqBase, agree}
-use Rattle.stab.proofs.Bools.{decide, and-left, and-right, and-both}
+use Rattle.stab.proofs.Bools.{decide, and-left, and-right, and-both, and-first-false, and-second-false, if-true, if-false}
 use Rattle.stab.proofs.Whole.{plus, minus, atom, num, _⊕_, _⊖_, less, parts, le-of, of-le, eq-of, of-eq, eqZ-true, eqZ-of, eqZ-not, eqZ-refl, plus-nat, nonneg-minus}
 use Rattle.stab.proofs.Trees.{below-nat, part-of, tree-is}
-use Rattle.formula.specs.Compare.{changed, limit, literalOf}
+use Rattle.formula.specs.Compare.{changed, limit, literalOf, InRange}
 use Rattle.formula.specs.Facts.{AllFormed}
 
 -- ---- whole numbers by their two natural parts
@@ -102,3 +102,257 @@ kind-known z =
 
     none : is 0 ≡ false → is 1 ≡ false → is 2 ≡ false → is 3 ≡ false → is 4 ≡ false → is 5 ≡ false → is 6 ≡ false → is 7 ≡ false → kindOf z ≡ unknown
     none e₀ e₁ e₂ e₃ e₄ e₅ e₆ e₇ = simp (e₀, e₁, e₂, e₃, e₄, e₅, e₆, e₇)
+
+-- ---- formulas of different kinds
+
+headOf : Formula → Kind
+headOf (const v) = constant v
+headOf (lit v s x c) = literal v
+headOf (join o f g) = junction o
+headOf (iter o f b c) = iteration o
+
+eqBool-true : (v w : Bool) → eqBool v w ≡ true → v ≡ w
+unfolding eqBool
+eqBool-true true true h = refl
+eqBool-true true false h = sym h
+eqBool-true false true h = h
+eqBool-true false false h = refl
+
+eqOp-true : (o p : Op) → eqOp o p ≡ true → o ≡ p
+unfolding eqOp
+eqOp-true conj conj h = refl
+eqOp-true conj disj h = absurd (false≢true h)
+eqOp-true disj conj h = absurd (false≢true h)
+eqOp-true disj disj h = refl
+
+agree-head : (f g : Formula) → agree f g ≡ true → headOf f ≡ headOf g
+unfolding agree headOf
+agree-head (const v) (const w) h = ap constant (eqBool-true v w h)
+agree-head (const v) (lit w t y d) h = absurd (false≢true h)
+agree-head (const v) (join p m n) h = absurd (false≢true h)
+agree-head (const v) (iter p m b d) h = absurd (false≢true h)
+agree-head (lit v s x c) (const w) h = absurd (false≢true h)
+agree-head (lit v s x c) (lit w t y d) h = ap literal (eqBool-true v w (and-left _ _ h))
+agree-head (lit v s x c) (join p m n) h = absurd (false≢true h)
+agree-head (lit v s x c) (iter p m b d) h = absurd (false≢true h)
+agree-head (join o f g) (const w) h = absurd (false≢true h)
+agree-head (join o f g) (lit w t y d) h = absurd (false≢true h)
+agree-head (join o f g) (join p m n) h = ap junction (eqOp-true o p (and-left _ _ h))
+agree-head (join o f g) (iter p m b d) h = absurd (false≢true h)
+agree-head (iter o f b c) (const w) h = absurd (false≢true h)
+agree-head (iter o f b c) (lit w t y d) h = absurd (false≢true h)
+agree-head (iter o f b c) (join p m n) h = absurd (false≢true h)
+agree-head (iter o f b c) (iter p m d e) h = ap iteration (eqOp-true o p (and-left _ _ h))
+
+-- ---- what a changed formula is made of
+
+-- a literal on the base x is moved: on the parameter by lowering, on the index by an instance
+moves : ℕ → Base → Bool
+moves zero x = false
+moves (suc zero) nothing = false
+moves (suc zero) parameter = true
+moves (suc zero) index = false
+moves (suc (suc m)) nothing = false
+moves (suc (suc m)) parameter = false
+moves (suc (suc m)) index = true
+
+changed-lit : (mode : ℕ) (k : ℤ) (v : Bool) (s : ℤ) (x : Base) (c : ℤ) → changed mode k (lit v s x c) ≡ lit v s (if moves mode x then parameter else x) (if moves mode x then c -ℤ k else c)
+unfolding changed lower lowerBase instance instanceLit moves if_then_else_
+changed-lit zero k v s x c = refl
+changed-lit (suc zero) k v s nothing c = refl
+changed-lit (suc zero) k v s parameter c = refl
+changed-lit (suc zero) k v s index c = refl
+changed-lit (suc (suc m)) k v s nothing c = refl
+changed-lit (suc (suc m)) k v s parameter c = refl
+changed-lit (suc (suc m)) k v s index c = refl
+
+changed-const : (mode : ℕ) (k : ℤ) (v : Bool) → changed mode k (const v) ≡ const v
+unfolding changed lower instance
+changed-const zero k v = refl
+changed-const (suc zero) k v = refl
+changed-const (suc (suc m)) k v = refl
+
+changed-join : (mode : ℕ) (k : ℤ) (o : Op) (f g : Formula) → changed mode k (join o f g) ≡ join o (changed mode k f) (changed mode k g)
+unfolding changed lower instance
+changed-join zero k o f g = refl
+changed-join (suc zero) k o f g = refl
+changed-join (suc (suc m)) k o f g = refl
+
+changed-iter : (mode : ℕ) (k : ℤ) (o : Op) (f : Formula) (b c : ℤ) → changed mode k (iter o f b c) ≡ iter o f b (limit mode k c)
+unfolding changed lower instance limit
+changed-iter zero k o f b c = refl
+changed-iter (suc zero) k o f b c = refl
+changed-iter (suc (suc m)) k o f b c = refl
+
+changed-head : (mode : ℕ) (k : ℤ) (f : Formula) → headOf (changed mode k f) ≡ headOf f
+unfolding headOf
+changed-head mode k (const v) = ap headOf (changed-const mode k v)
+changed-head mode k (lit v s x c) = ap headOf (changed-lit mode k v s x c)
+changed-head mode k (join o f g) = ap headOf (changed-join mode k o f g)
+changed-head mode k (iter o f b c) = ap headOf (changed-iter mode k o f b c)
+
+-- ---- two formulas of one kind agree by their parts
+
+eqBool-refl : (v : Bool) → eqBool v v ≡ true
+unfolding eqBool
+eqBool-refl true = refl
+eqBool-refl false = refl
+
+eqOp-refl : (o : Op) → eqOp o o ≡ true
+unfolding eqOp
+eqOp-refl conj = refl
+eqOp-refl disj = refl
+
+eqBase-refl : (x : Base) → eqBase x x ≡ true
+unfolding eqBase
+eqBase-refl nothing = refl
+eqBase-refl parameter = refl
+eqBase-refl index = refl
+
+true-and : (a b : Bool) → a ≡ true → (a and b) ≡ b
+unfolding _and_
+true-and true b h = refl
+true-and false b h = absurd (false≢true h)
+
+agree-lit : (v : Bool) (s t : ℤ) (x y : Base) (c d : ℤ) → agree (lit v s x c) (lit v t y d) ≡ (eqZ s t and eqBase x y and eqZ c d)
+unfolding agree
+agree-lit v s t x y c d = true-and (eqBool v v) _ (eqBool-refl v)
+
+agree-join : (o : Op) (f g h k : Formula) → agree (join o f g) (join o h k) ≡ (agree f h and agree g k)
+unfolding agree
+agree-join o f g h k = true-and (eqOp o o) _ (eqOp-refl o)
+
+agree-iter : (o : Op) (f h : Formula) (b c d e : ℤ) → agree (iter o f b c) (iter o h d e) ≡ (agree f h and (eqZ b d and eqZ c e))
+unfolding agree
+agree-iter o f h b c d e = true-and (eqOp o o) _ (eqOp-refl o)
+
+-- a formula agrees with itself
+pub agree-refl : (f : Formula) → agree f f ≡ true
+unfolding agree
+agree-refl (const v) = eqBool-refl v
+agree-refl (lit v s x c) = agree-lit v s s x x c c ∙ and-both _ _ (eqZ-refl s) (and-both _ _ (eqBase-refl x) (eqZ-refl c))
+agree-refl (join o f g) = agree-join o f g f g ∙ and-both _ _ (agree-refl f) (agree-refl g)
+agree-refl (iter o f b c) = agree-iter o f f b c b c ∙ and-both _ _ (agree-refl f) (and-both _ _ (eqZ-refl b) (eqZ-refl c))
+
+-- ---- literals: their bases by number
+
+baseNumber : Base → ℕ
+baseNumber nothing = 0
+baseNumber parameter = 1
+baseNumber index = 2
+
+base-nat : (z : ℤ) → within (pos 0) (pos 2) z ≡ true → nat z ≡ baseNumber (baseOf z)
+unfolding within baseOf baseNumber if_then_else_ eqZ nat
+base-nat (pos zero) h = refl
+base-nat (pos (suc zero)) h = refl
+base-nat (pos (suc (suc zero))) h = refl
+base-nat (pos (suc (suc (suc n)))) h = absurd (omega (arith, of-le (num (suc (suc (suc n)))) (num 2) (and-right (leZ (pos 0) (pos (suc (suc (suc n))))) _ h)))
+base-nat (negsuc n) h = absurd (false≢true (and-left _ _ h))
+
+eqBase-number : (x y : Base) → eqBase x y ≡ eqb (baseNumber x) (baseNumber y)
+unfolding eqBase baseNumber
+eqBase-number nothing nothing = refl
+eqBase-number nothing parameter = refl
+eqBase-number nothing index = refl
+eqBase-number parameter nothing = refl
+eqBase-number parameter parameter = refl
+eqBase-number parameter index = refl
+eqBase-number index nothing = refl
+eqBase-number index parameter = refl
+eqBase-number index index = refl
+
+-- by mode 1 the base 1 is moved, by mode 2 the base 2
+moves-true : (mode : ℕ) (x : Base) → mode ≤ 2 → 0 < mode → baseNumber x ≡ mode → moves mode x ≡ true
+unfolding moves baseNumber
+moves-true zero x l p e = absurd (omega arith)
+moves-true (suc zero) nothing l p e = absurd (omega arith)
+moves-true (suc zero) parameter l p e = refl
+moves-true (suc zero) index l p e = absurd (omega arith)
+moves-true (suc (suc m)) nothing l p e = absurd (omega arith)
+moves-true (suc (suc m)) parameter l p e = absurd (omega arith)
+moves-true (suc (suc m)) index l p e = refl
+
+moves-false : (mode : ℕ) (x : Base) → mode ≤ 2 → (0 < mode → baseNumber x ≡ mode → ⊥) → moves mode x ≡ false
+unfolding moves baseNumber
+moves-false zero x l h = refl
+moves-false (suc zero) nothing l h = refl
+moves-false (suc zero) parameter l h = absurd (h (omega arith) refl)
+moves-false (suc zero) index l h = refl
+moves-false (suc (suc m)) nothing l h = refl
+moves-false (suc (suc m)) parameter l h = refl
+moves-false (suc (suc m)) index l h = absurd (h (omega arith) (omega arith))
+
+module _ (mode : ℕ) (k : ℤ) (w v : Row) where
+  base-to : Base
+  base-to = if moves mode (baseOf (w .b)) then parameter else baseOf (w .b)
+
+  added-to : ℤ
+  added-to = if moves mode (baseOf (w .b)) then w .c -ℤ k else w .c
+
+  literals-by : agree (changed mode k (literalOf w)) (literalOf v) ≡ (eqZ (w .a) (v .a) and eqBase base-to (baseOf (v .b)) and eqZ added-to (v .c))
+  unfolding literalOf base-to added-to
+  literals-by =
+      ap (λ (f : Formula). agree f (literalOf v)) (changed-lit mode k true (w .a) (baseOf (w .b)) (w .c))
+      ∙ agree-lit true (w .a) (v .a) base-to (baseOf (v .b)) added-to (v .c)
+
+  -- different symbols
+  pub symbols-differ : eqZ (w .a) (v .a) ≡ false → agree (changed mode k (literalOf w)) (literalOf v) ≡ false
+  symbols-differ h = literals-by ∙ and-first-false _ _ h
+
+  bases-differ : (baseNumber base-to ≡ baseNumber (baseOf (v .b)) → ⊥) → agree (changed mode k (literalOf w)) (literalOf v) ≡ false
+  bases-differ h = literals-by ∙ and-second-false (eqZ (w .a) (v .a)) _ (and-first-false _ _ (eqBase-number base-to (baseOf (v .b)) ∙ ne-eqb _ _ h))
+
+  bases-same : eqZ (w .a) (v .a) ≡ true → baseNumber base-to ≡ baseNumber (baseOf (v .b)) → agree (changed mode k (literalOf w)) (literalOf v) ≡ eqZ added-to (v .c)
+  bases-same h e = literals-by ∙ true-and _ _ h ∙ true-and _ _ (eqBase-number base-to (baseOf (v .b)) ∙ eq-eqb _ _ e)
+
+  module _ (rw : InRange w) (rv : InRange v) (l : mode ≤ 2) where
+    moved-base : 0 < mode → nat (w .b) ≡ mode → moves mode (baseOf (w .b)) ≡ true
+    moved-base p e = moves-true mode (baseOf (w .b)) l p (sym (base-nat (w .b) (rw .base)) ∙ e)
+
+    kept-base : (0 < mode → nat (w .b) ≡ mode → ⊥) → moves mode (baseOf (w .b)) ≡ false
+    kept-base h = moves-false mode (baseOf (w .b)) l (λ p e. h p (base-nat (w .b) (rw .base) ∙ e))
+
+    -- a moved literal stands on the parameter
+    pub moved-differ : 0 < mode → nat (w .b) ≡ mode → (nat (v .b) ≡ 1 → ⊥) → agree (changed mode k (literalOf w)) (literalOf v) ≡ false
+    unfolding base-to baseNumber
+    moved-differ p e h =
+        bases-differ (λ q. h (base-nat (v .b) (rv .base) ∙ sym q ∙ ap baseNumber (if-true _ parameter (baseOf (w .b)) (moved-base p e))))
+
+    pub moved-agree : eqZ (w .a) (v .a) ≡ true → 0 < mode → nat (w .b) ≡ mode → nat (v .b) ≡ 1 → agree (changed mode k (literalOf w)) (literalOf v) ≡ eqZ (w .c -ℤ k) (v .c)
+    unfolding base-to added-to baseNumber
+    moved-agree h p e q =
+        bases-same h (ap baseNumber (if-true _ parameter (baseOf (w .b)) (moved-base p e)) ∙ sym q ∙ base-nat (v .b) (rv .base))
+        ∙ ap (λ (z : ℤ). eqZ z (v .c)) (if-true _ (w .c -ℤ k) (w .c) (moved-base p e))
+
+    -- any other agrees as it is
+    pub kept-differ : (0 < mode → nat (w .b) ≡ mode → ⊥) → (nat (w .b) ≡ nat (v .b) → ⊥) → agree (changed mode k (literalOf w)) (literalOf v) ≡ false
+    unfolding base-to
+    kept-differ m h =
+        bases-differ (λ q. h (base-nat (w .b) (rw .base) ∙ ap baseNumber (sym (if-false _ parameter (baseOf (w .b)) (kept-base m))) ∙ q ∙ sym (base-nat (v .b) (rv .base))))
+
+    pub kept-agree : eqZ (w .a) (v .a) ≡ true → (0 < mode → nat (w .b) ≡ mode → ⊥) → nat (w .b) ≡ nat (v .b) → agree (changed mode k (literalOf w)) (literalOf v) ≡ eqZ (w .c) (v .c)
+    unfolding base-to added-to
+    kept-agree h m q =
+        bases-same h (ap baseNumber (if-false _ parameter (baseOf (w .b)) (kept-base m)) ∙ sym (base-nat (w .b) (rw .base)) ∙ q ∙ base-nat (v .b) (rv .base))
+        ∙ ap (λ (z : ℤ). eqZ z (v .c)) (if-false _ (w .c -ℤ k) (w .c) (kept-base m))
+
+-- ---- ranges of iterations
+
+limit-lowered : (mode : ℕ) (k c : ℤ) → mode ≡ 1 → limit mode k c ≡ (c +ℤ k)
+unfolding limit
+limit-lowered zero k c e = absurd (omega arith)
+limit-lowered (suc zero) k c e = refl
+limit-lowered (suc (suc m)) k c e = absurd (omega arith)
+
+limit-kept : (mode : ℕ) (k c : ℤ) → (mode ≡ 1 → ⊥) → limit mode k c ≡ c
+unfolding limit
+limit-kept zero k c h = refl
+limit-kept (suc zero) k c h = absurd (h refl)
+limit-kept (suc (suc m)) k c h = refl
+
+module _ (mode : ℕ) (k b c d e : ℤ) (h : eqZ b d ≡ true) where
+  pub ranges-lowered : mode ≡ 1 → (eqZ b d and eqZ (limit mode k c) e) ≡ eqZ (c +ℤ k) e
+  ranges-lowered m = true-and (eqZ b d) _ h ∙ ap (λ (z : ℤ). eqZ z e) (limit-lowered mode k c m)
+
+  pub ranges-kept : (mode ≡ 1 → ⊥) → (eqZ b d and eqZ (limit mode k c) e) ≡ eqZ c e
+  ranges-kept m = true-and (eqZ b d) _ h ∙ ap (λ (z : ℤ). eqZ z e) (limit-kept mode k c m)

@@ -1,8 +1,10 @@
 -- What the first of two compared formulas stands for.
 use Prim.Native.Nat.{ℕ, zero, suc}
+use mathlib.Core.Path.{_≡_}
 use mathlib.Core.Bool.{true}
-use lib.IntN.{ℤ, _+ℤ_}
-use Rattle.stab.specs.Formula.{Row, Formula, lit, baseOf}
+use lib.IntN.{ℤ, pos, _+ℤ_}
+use Rattle.stab.specs.Basic.{within}
+use Rattle.stab.specs.Formula.{Row, Formula, lit, baseOf, offset}
 use Rattle.stab.specs.Alike.{lower, instance}
 
 -- mode 0: the formula itself; 1: lowered by k; 2: a body's instance at n - k
@@ -20,3 +22,8 @@ limit (suc (suc m)) k c = c
 -- a row's columns as a literal, of which there are two kinds
 unfoldable pub literalOf : Row → Formula
 literalOf w = lit true (w .a) (baseOf (w .b)) (w .c)
+
+-- the base and what is added to it, as a well-formed literal has them
+pub record InRange (w : Row) : Type 0 where
+  pub base : within (pos 0) (pos 2) (w .b) ≡ true
+  pub added : offset (w .c) ≡ true

@@ -10,7 +10,7 @@ ghost use Rattle.stab.specs.Basic.{eqZ, nat, within, _and_};
 ghost use Rattle.stab.specs.Formula.{joined, tree, offset};
 ghost use Rattle.stab.specs.Alike.{lower, instance, agree};
 ghost use Rattle.formula.specs.Column.{column};
-ghost use Rattle.formula.specs.Compare.{changed, limit, literalOf};
+ghost use Rattle.formula.specs.Compare.{changed, limit, literalOf, InRange};
 ghost use Rattle.formula.specs.Facts.{AllFormed};
 
 // Column l of row q is what stands at i in t.
@@ -64,4 +64,67 @@ fn is_raised(
 {
     natural_in(schema, s, proof, f, 3) + up + under_in(schema, s, proof, g, 3)
         == natural_in(schema, s, proof, g, 3) + under_in(schema, s, proof, f, 3) + down
+}
+
+// Two literals of one kind agree, the first changed. By mode 1 the base 1 is moved, by mode 2 the base 2, onto the parameter.
+fn literals_agree(
+    schema: &[i32],
+    s: usize,
+    proof: &[i32],
+    mode: usize,
+    up: usize,
+    down: usize,
+    f: usize,
+    g: usize,
+) -> bool
+    requires { ⌜ (f < 2 ^ 32) × (g < 2 ^ 32) ⌝ }
+    requires { ⌜ (up < 2 ^ 32) × (down < 2 ^ 32) ⌝ }
+    requires { ⌜ mode ≤ 2 ⌝ }
+    requires { ⌜ InRange (joined (now schema) s (now proof) f) ⌝ }
+    requires { ⌜ InRange (joined (now schema) s (now proof) g) ⌝ }
+    ensures { λ v. ⌜ v ≡ agree (changed mode (pos up -ℤ pos down) (literalOf (joined (now (schema .entry)) s (now (proof .entry)) f))) (literalOf (joined (now (schema .entry)) s (now (proof .entry)) g)) ⌝ }
+{
+    if !same_in(schema, s, proof, f, 1, g, 1) {
+        return false;
+    }
+    let x = natural_in(schema, s, proof, f, 2);
+    let y = natural_in(schema, s, proof, g, 2);
+    if 0 < mode {
+        if x == mode {
+            if y != 1 {
+                return false;
+            }
+            return is_raised(schema, s, proof, down, up, f, g);
+        }
+    }
+    if x != y {
+        return false;
+    }
+    same_in(schema, s, proof, f, 3, g, 3)
+}
+
+// The ranges of two iterations agree, the first's limit changed.
+fn ranges_agree(
+    schema: &[i32],
+    s: usize,
+    proof: &[i32],
+    mode: usize,
+    up: usize,
+    down: usize,
+    f: usize,
+    g: usize,
+) -> bool
+    requires { ⌜ (f < 2 ^ 32) × (g < 2 ^ 32) ⌝ }
+    requires { ⌜ (up < 2 ^ 32) × (down < 2 ^ 32) ⌝ }
+    requires { ⌜ offset (joined (now schema) s (now proof) f .c) ≡ true ⌝ }
+    requires { ⌜ offset (joined (now schema) s (now proof) g .c) ≡ true ⌝ }
+    ensures { λ v. ⌜ v ≡ (eqZ (joined (now (schema .entry)) s (now (proof .entry)) f .b) (joined (now (schema .entry)) s (now (proof .entry)) g .b) and eqZ (limit mode (pos up -ℤ pos down) (joined (now (schema .entry)) s (now (proof .entry)) f .c)) (joined (now (schema .entry)) s (now (proof .entry)) g .c)) ⌝ }
+{
+    if !same_in(schema, s, proof, f, 2, g, 2) {
+        return false;
+    }
+    if mode == 1 {
+        return is_raised(schema, s, proof, up, down, f, g);
+    }
+    same_in(schema, s, proof, f, 3, g, 3)
 }
