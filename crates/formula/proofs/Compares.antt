@@ -209,10 +209,15 @@ eqBase-refl nothing = refl
 eqBase-refl parameter = refl
 eqBase-refl index = refl
 
-true-and : (a b : Bool) → a ≡ true → (a and b) ≡ b
+pub true-and : (a b : Bool) → a ≡ true → (a and b) ≡ b
 unfolding _and_
 true-and true b h = refl
 true-and false b h = absurd (false≢true h)
+
+pub and-true : (a b : Bool) → b ≡ true → (a and b) ≡ a
+unfolding _and_
+and-true true b h = h
+and-true false b h = refl
 
 agree-lit : (v : Bool) (s t : ℤ) (x y : Base) (c d : ℤ) → agree (lit v s x c) (lit v t y d) ≡ (eqZ s t and eqBase x y and eqZ c d)
 unfolding agree
@@ -356,3 +361,214 @@ module _ (mode : ℕ) (k b c d e : ℤ) (h : eqZ b d ≡ true) where
 
   pub ranges-kept : (mode ≡ 1 → ⊥) → (eqZ b d and eqZ (limit mode k c) e) ≡ eqZ c e
   ranges-kept m = true-and (eqZ b d) _ h ∙ ap (λ (z : ℤ). eqZ z e) (limit-kept mode k c m)
+
+-- ---- which kind a number stands for
+
+constant-kind : (k : Kind) → kindNumber k < 2 → (v : Bool) × (k ≡ constant v)
+unfolding kindNumber
+constant-kind (constant v) l = (v, refl)
+constant-kind (literal v) l = absurd (omega arith)
+constant-kind (junction o) l = absurd (omega arith)
+constant-kind (iteration o) l = absurd (omega arith)
+constant-kind unknown l = absurd (omega arith)
+
+literal-kind : (k : Kind) → 2 ≤ kindNumber k → kindNumber k < 4 → (v : Bool) × (k ≡ literal v)
+unfolding kindNumber
+literal-kind (constant v) p l = absurd (omega (arith, rank-small v))
+literal-kind (literal v) p l = (v, refl)
+literal-kind (junction o) p l = absurd (omega arith)
+literal-kind (iteration o) p l = absurd (omega arith)
+literal-kind unknown p l = absurd (omega arith)
+
+junction-kind : (k : Kind) → 4 ≤ kindNumber k → kindNumber k < 6 → (o : Op) × (k ≡ junction o)
+unfolding kindNumber
+junction-kind (constant v) p l = absurd (omega (arith, rank-small v))
+junction-kind (literal v) p l = absurd (omega (arith, rank-small v))
+junction-kind (junction o) p l = (o, refl)
+junction-kind (iteration o) p l = absurd (omega arith)
+junction-kind unknown p l = absurd (omega arith)
+
+iteration-kind : (k : Kind) → 6 ≤ kindNumber k → kindNumber k < 8 → (o : Op) × (k ≡ iteration o)
+unfolding kindNumber
+iteration-kind (constant v) p l = absurd (omega (arith, rank-small v))
+iteration-kind (literal v) p l = absurd (omega (arith, rank-small v))
+iteration-kind (junction o) p l = absurd (omega (arith, opRank-small o))
+iteration-kind (iteration o) p l = (o, refl)
+iteration-kind unknown p l = absurd (omega arith)
+
+-- ---- a well-formed row by its kind's number
+
+decode-head : (r : ℕ) (w : Row) (k : Kind) (t : ℕ → Formula) → (k ≡ unknown → ⊥) → headOf (decode r w k t) ≡ k
+unfolding decode headOf
+decode-head r w (constant v) t h = refl
+decode-head r w (literal v) t h = refl
+decode-head r w (junction o) t h = refl
+decode-head r w (iteration o) t h = refl
+decode-head r w unknown t h = absurd (h refl)
+
+kind-small : (k : Kind) → (k ≡ unknown → ⊥) → kindNumber k < 8
+unfolding kindNumber
+kind-small (constant v) h = omega (arith, rank-small v)
+kind-small (literal v) h = omega (arith, rank-small v)
+kind-small (junction o) h = omega (arith, opRank-small o)
+kind-small (iteration o) h = omega (arith, opRank-small o)
+kind-small unknown h = absurd (h refl)
+
+module _ (rows : ℕ → Row) (r : ℕ) (h : wellFormed rows r ≡ true) where
+  formed-as : (k : Kind) → kindOf (rows r .kind) ≡ k → wellFormedAs rows r (rows r) k ≡ true
+  unfolding wellFormed
+  formed-as k e = subst (λ (x : Kind). wellFormedAs rows r (rows r) x ≡ true) e h
+
+  formed-known : kindOf (rows r .kind) ≡ unknown → ⊥
+  unfolding wellFormedAs
+  formed-known e = false≢true (formed-as unknown e)
+
+  kind-is : rows r .kind ≡ pos (kindNumber (kindOf (rows r .kind)))
+  kind-is = ⊎-elim (λ e. absurd (formed-known e)) (λ e. e) (kind-known (rows r .kind))
+
+  kind-nat : nat (rows r .kind) ≡ kindNumber (kindOf (rows r .kind))
+  unfolding nat
+  kind-nat = ap nat kind-is
+
+  tree-head : headOf (tree rows r) ≡ kindOf (rows r .kind)
+  tree-head = ap headOf (tree-is rows r) ∙ decode-head r (rows r) (kindOf (rows r .kind)) (tree rows) formed-known
+
+  tree-as : (k : Kind) → kindOf (rows r .kind) ≡ k → tree rows r ≡ decode r (rows r) k (tree rows)
+  tree-as k e = tree-is rows r ∙ ap (λ (x : Kind). decode r (rows r) x (tree rows)) e
+
+  -- the formula of a row, with its parts
+  pub tree-const : (v : Bool) → kindOf (rows r .kind) ≡ constant v → tree rows r ≡ const v
+  unfolding decode
+  tree-const v e = tree-as (constant v) e
+
+  pub tree-lit : (v : Bool) → kindOf (rows r .kind) ≡ literal v → tree rows r ≡ lit v (rows r .a) (baseOf (rows r .b)) (rows r .c)
+  unfolding decode
+  tree-lit v e = tree-as (literal v) e
+
+  join-parts : (o : Op) → kindOf (rows r .kind) ≡ junction o → (below r (rows r .a) ≡ true) × (below r (rows r .b) ≡ true)
+  unfolding wellFormedAs
+  join-parts o e = let w = formed-as (junction o) e in (and-left _ _ w, and-left _ _ (and-right (below r (rows r .a)) _ w))
+
+  iter-part : (o : Op) → kindOf (rows r .kind) ≡ iteration o → below r (rows r .a) ≡ true
+  unfolding wellFormedAs
+  iter-part o e = and-left _ _ (formed-as (iteration o) e)
+
+  pub tree-join : (o : Op) → kindOf (rows r .kind) ≡ junction o → tree rows r ≡ join o (tree rows (nat (rows r .a))) (tree rows (nat (rows r .b)))
+  unfolding decode
+  tree-join o e =
+      tree-as (junction o) e
+      ∙ ap₂ (join o) (part-of r (tree rows) (rows r .a) (join-parts o e .0)) (part-of r (tree rows) (rows r .b) (join-parts o e .1))
+
+  pub tree-iter : (o : Op) → kindOf (rows r .kind) ≡ iteration o → tree rows r ≡ iter o (tree rows (nat (rows r .a))) (rows r .b) (rows r .c)
+  unfolding decode
+  tree-iter o e =
+      tree-as (iteration o) e ∙ ap (λ (f : Formula). iter o f (rows r .b) (rows r .c)) (part-of r (tree rows) (rows r .a) (iter-part o e))
+
+  -- which kind it is
+  kind-constant : nat (rows r .kind) < 2 → (v : Bool) × (kindOf (rows r .kind) ≡ constant v)
+  kind-constant l = constant-kind (kindOf (rows r .kind)) (omega (arith, kind-nat))
+
+  kind-literal : 2 ≤ nat (rows r .kind) → nat (rows r .kind) < 4 → (v : Bool) × (kindOf (rows r .kind) ≡ literal v)
+  kind-literal p l = literal-kind (kindOf (rows r .kind)) (omega (arith, kind-nat)) (omega (arith, kind-nat))
+
+  kind-junction : 4 ≤ nat (rows r .kind) → nat (rows r .kind) < 6 → (o : Op) × (kindOf (rows r .kind) ≡ junction o)
+  kind-junction p l = junction-kind (kindOf (rows r .kind)) (omega (arith, kind-nat)) (omega (arith, kind-nat))
+
+  kind-iteration : 6 ≤ nat (rows r .kind) → (o : Op) × (kindOf (rows r .kind) ≡ iteration o)
+  kind-iteration p = iteration-kind (kindOf (rows r .kind)) (omega (arith, kind-nat)) (kind-small _ formed-known)
+
+  -- what its columns then are
+  pub literal-range : 2 ≤ nat (rows r .kind) → nat (rows r .kind) < 4 → InRange (rows r)
+  unfolding wellFormedAs
+  literal-range p l =
+      let k = kind-literal p l in
+      let w = formed-as (literal (k .0)) (k .1) in
+      let u = and-right (within (pos 0) (pos 255) (rows r .a)) _ w in
+      record { base = and-left _ _ u; added = and-right (within (pos 0) (pos 2) (rows r .b)) _ u }
+
+  pub limit-offset : 6 ≤ nat (rows r .kind) → offset (rows r .c) ≡ true
+  unfolding wellFormedAs
+  limit-offset p =
+      let k = kind-iteration p in
+      let w = formed-as (iteration (k .0)) (k .1) in
+      and-left _ _ (and-right (offset (rows r .b)) _ (and-right (below r (rows r .a)) _ w))
+
+  pub junction-falls : 4 ≤ nat (rows r .kind) → nat (rows r .kind) < 6 → (nat (rows r .a) < r) × (nat (rows r .b) < r)
+  junction-falls p l =
+      let k = kind-junction p l in
+      let b = join-parts (k .0) (k .1) in
+      (below-nat r (rows r .a) (b .0), below-nat r (rows r .b) (b .1))
+
+  pub iteration-falls : 6 ≤ nat (rows r .kind) → nat (rows r .a) < r
+  iteration-falls p = let k = kind-iteration p in below-nat r (rows r .a) (iter-part (k .0) (k .1))
+
+-- ---- two well-formed rows side by side
+
+module _ (rows : ℕ → Row) (mode : ℕ) (k : ℤ) (f g : ℕ) (wf : wellFormed rows f ≡ true) (wg : wellFormed rows g ≡ true) where
+  alike : Bool
+  alike = agree (changed mode k (tree rows f)) (tree rows g)
+
+  kinds-agree : alike ≡ true → nat (rows f .kind) ≡ nat (rows g .kind)
+  unfolding alike
+  kinds-agree e =
+      kind-nat rows f wf
+      ∙ ap kindNumber (sym (tree-head rows f wf) ∙ sym (changed-head mode k (tree rows f)) ∙ agree-head (changed mode k (tree rows f)) (tree rows g) e ∙ tree-head rows g wg)
+      ∙ sym (kind-nat rows g wg)
+
+  pub kinds-differ : (nat (rows f .kind) ≡ nat (rows g .kind) → ⊥) → agree (changed mode k (tree rows f)) (tree rows g) ≡ false
+  unfolding alike
+  kinds-differ h = ⊎-elim (λ e. absurd (h (kinds-agree e))) (λ e. e) (decide alike)
+
+  module _ (same : nat (rows f .kind) ≡ nat (rows g .kind)) where
+    other-kind : (x : Kind) → kindOf (rows f .kind) ≡ x → kindOf (rows g .kind) ≡ x
+    other-kind x e =
+        ap kindOf (kind-is rows g wg ∙ ap pos (sym (kind-nat rows g wg) ∙ sym same ∙ kind-nat rows f wf) ∙ sym (kind-is rows f wf)) ∙ e
+
+    pub constants-agree : nat (rows f .kind) < 2 → agree (changed mode k (tree rows f)) (tree rows g) ≡ true
+    unfolding agree
+    constants-agree l =
+        let e = kind-constant rows f wf l in
+        ap₂ agree
+        (ap (changed mode k) (tree-const rows f wf (e .0) (e .1)) ∙ changed-const mode k (e .0))
+        (tree-const rows g wg (e .0) (other-kind _ (e .1)))
+        ∙ eqBool-refl (e .0)
+
+    pub literals-agree : 2 ≤ nat (rows f .kind) → nat (rows f .kind) < 4 → agree (changed mode k (tree rows f)) (tree rows g) ≡ agree (changed mode k (literalOf (rows f))) (literalOf (rows g))
+    unfolding literalOf
+    literals-agree p l =
+        let e = kind-literal rows f wf p l in
+        ap₂ agree (ap (changed mode k) (tree-lit rows f wf (e .0) (e .1))) (tree-lit rows g wg (e .0) (other-kind _ (e .1)))
+        ∙ polarity (e .0) (rows f .a) (baseOf (rows f .b)) (rows f .c) (rows g .a) (baseOf (rows g .b)) (rows g .c)
+      where
+        polarity : (v : Bool) (s : ℤ) (x : Base) (c : ℤ) (t : ℤ) (y : Base) (d : ℤ) → agree (changed mode k (lit v s x c)) (lit v t y d) ≡ agree (changed mode k (lit true s x c)) (lit true t y d)
+        polarity v s x c t y d =
+            ap (λ (m : Formula). agree m (lit v t y d)) (changed-lit mode k v s x c)
+            ∙ agree-lit v s t _ y _ d
+            ∙ sym (agree-lit true s t _ y _ d)
+            ∙ sym (ap (λ (m : Formula). agree m (lit true t y d)) (changed-lit mode k true s x c))
+
+    pub junctions-agree : 4 ≤ nat (rows f .kind) → nat (rows f .kind) < 6 → agree (changed mode k (tree rows f)) (tree rows g) ≡ (agree (changed mode k (tree rows (nat (rows f .a)))) (tree rows (nat (rows g .a))) and agree (changed mode k (tree rows (nat (rows f .b)))) (tree rows (nat (rows g .b))))
+    junctions-agree p l =
+        let e = kind-junction rows f wf p l in
+        ap₂ agree
+        (ap (changed mode k) (tree-join rows f wf (e .0) (e .1)) ∙ changed-join mode k (e .0) _ _)
+        (tree-join rows g wg (e .0) (other-kind _ (e .1)))
+        ∙ agree-join (e .0) _ _ _ _
+
+    pub iterations-agree : 6 ≤ nat (rows f .kind) → agree (changed mode k (tree rows f)) (tree rows g) ≡ (agree (tree rows (nat (rows f .a))) (tree rows (nat (rows g .a))) and (eqZ (rows f .b) (rows g .b) and eqZ (limit mode k (rows f .c)) (rows g .c)))
+    iterations-agree p =
+        let e = kind-iteration rows f wf p in
+        ap₂ agree
+        (ap (changed mode k) (tree-iter rows f wf (e .0) (e .1)) ∙ changed-iter mode k (e .0) _ _ _)
+        (tree-iter rows g wg (e .0) (other-kind _ (e .1)))
+        ∙ agree-iter (e .0) _ _ _ _ _ _
+
+-- a row that is not changed agrees with itself
+pub row-agrees : (rows : ℕ → Row) (mode : ℕ) (k : ℤ) (f g : ℕ) → mode ≡ 0 → f ≡ g → agree (changed mode k (tree rows f)) (tree rows g) ≡ true
+unfolding changed
+row-agrees rows zero k f g e h = ap (λ (x : ℕ). agree (tree rows f) (tree rows x)) (sym h) ∙ agree-refl (tree rows f)
+row-agrees rows (suc m) k f g e h = absurd (omega arith)
+
+-- what is known of the rows up to n is known up to a smaller number
+pub fewer-formed : (rows : ℕ → Row) (m n : ℕ) → m < n → AllFormed rows (n + 1) → AllFormed rows (m + 1)
+fewer-formed rows m n p h r q = h r (omega arith)

@@ -128,3 +128,61 @@ fn ranges_agree(
     }
     same_in(schema, s, proof, f, 3, g, 3)
 }
+
+// Row g agrees with row f, changed by the mode: 0 not at all, 1 lowered by k, 2 a body's instance at n - k, for k = up - down.
+// The first row number falls at each part.
+pub fn agrees(
+    schema: &[i32],
+    s: usize,
+    proof: &[i32],
+    mode: usize,
+    up: usize,
+    down: usize,
+    f: usize,
+    g: usize,
+) -> bool
+    requires { ⌜ (f < 2 ^ 32) × (g < 2 ^ 32) ⌝ }
+    requires { ⌜ (up < 2 ^ 32) × (down < 2 ^ 32) ⌝ }
+    requires { ⌜ mode ≤ 2 ⌝ }
+    requires { ⌜ AllFormed (joined (now schema) s (now proof)) (f + 1) ⌝ }
+    requires { ⌜ AllFormed (joined (now schema) s (now proof)) (g + 1) ⌝ }
+    ensures { λ r. ⌜ r ≡ agree (changed mode (pos up -ℤ pos down) (tree (joined (now (schema .entry)) s (now (proof .entry))) f)) (tree (joined (now (schema .entry)) s (now (proof .entry))) g) ⌝ }
+{
+    if mode == 0 {
+        if f == g {
+            return true;
+        }
+    }
+    let kind = natural_in(schema, s, proof, f, 0);
+    if kind != natural_in(schema, s, proof, g, 0) {
+        return false;
+    }
+    if kind < 2 {
+        return true;
+    }
+    if kind < 4 {
+        return literals_agree(schema, s, proof, mode, up, down, f, g);
+    }
+    let left = natural_in(schema, s, proof, f, 1);
+    let other = natural_in(schema, s, proof, g, 1);
+    if kind < 6 {
+        if !agrees(schema, s, proof, mode, up, down, left, other) {
+            return false;
+        }
+        let right = natural_in(schema, s, proof, f, 2);
+        return agrees(
+            schema,
+            s,
+            proof,
+            mode,
+            up,
+            down,
+            right,
+            natural_in(schema, s, proof, g, 2),
+        );
+    }
+    if !ranges_agree(schema, s, proof, mode, up, down, f, g) {
+        return false;
+    }
+    agrees(schema, s, proof, 0, up, down, left, other)
+}
