@@ -1,5 +1,5 @@
 -- When two formulas agree, by the columns of their rows.
-use Prim.Native.Nat.{ℕ, zero, suc, _+_, _<_, _≤_}
+use Prim.Native.Nat.{ℕ, zero, suc, _+_, _<_, _≤_, _^_}
 use native.Mathlib.Omega.{arith}
 use mathlib.Core.Path.{_≡_, refl, sym, _∙_, ap, ap₂, subst}
 use mathlib.Core.Logic.{_⊎_, inl, inr, ⊎-elim}
@@ -7,6 +7,8 @@ use mathlib.Core.Bool.{Bool, true, false, true≢false, false≢true}
 use lib.Dec.{eqb}
 use lib.IntN.{ℤ, pos, negsuc, negℤ, _+ℤ_, _-ℤ_}
 use lib.Signed.{leZ}
+use mir.Syntax.{w32}
+use mir.Val.{SFits}
 use borrow.Author.Tests.{eqb-true, eqb-false, eq-eqb, ne-eqb}
 use Rattle.stab.specs.Basic.{if_then_else_, _and_, eqZ, nat, within, below}
 use Rattle.stab.specs.Formula.{Row, Op, conj, disj, Kind, constant, literal, junction, iteration, unknown, kindOf, Base, nothing, parameter, index, baseOf, Formula, const, lit, join, iter, part, decode, tree, offset, wellFormedAs, wellFormed}
@@ -29,6 +31,13 @@ minus-nat (negsuc n) =
 -- a whole number is the difference of its two parts
 pub whole-parts : (k : ℤ) → (pos (nat k) -ℤ pos (nat (negℤ k))) ≡ k
 whole-parts k = eq-of (num (nat k) ⊖ num (nat (negℤ k))) (atom k) (omega (arith, plus-nat k, minus-nat k))
+
+-- a number of 32 bits has a negative part of 32 bits
+pub under-small : (z : ℤ) → SFits w32 z → nat (negℤ z) < 2 ^ 32
+unfolding nat
+under-small (pos zero) f = omega arith
+under-small (pos (suc n)) f = omega arith
+under-small (negsuc n) f = omega (arith, f .sfits)
 
 -- c - (up - down) is c + (down - up)
 pub less-is-more : (c : ℤ) (up down : ℕ) → (c +ℤ (pos down -ℤ pos up)) ≡ (c -ℤ (pos up -ℤ pos down))

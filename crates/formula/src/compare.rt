@@ -46,7 +46,7 @@ pub fn same_in(
     }
 }
 
-// Column c of row g is that of row f and up - down more.
+// Column c of row g is that of row f, and up - down more.
 fn is_raised(
     schema: &[i32],
     s: usize,
@@ -66,7 +66,8 @@ fn is_raised(
         == natural_in(schema, s, proof, g, 3) + under_in(schema, s, proof, f, 3) + down
 }
 
-// Two literals of one kind agree, the first changed. By mode 1 the base 1 is moved, by mode 2 the base 2, onto the parameter.
+// Two literals of one kind agree, the first changed: by mode 1 the literals on the parameter are moved, whose base has the
+// number 1, by mode 2 those on the index, whose base has the number 2. A moved literal stands on the parameter.
 fn literals_agree(
     schema: &[i32],
     s: usize,
@@ -130,7 +131,7 @@ fn ranges_agree(
 }
 
 // Row g agrees with row f, changed by the mode: 0 not at all, 1 lowered by k, 2 a body's instance at n - k, for k = up - down.
-// The first row number falls at each part.
+// The first row number falls at each part. Bodies agree exactly, and most are the very same row.
 pub fn agrees(
     schema: &[i32],
     s: usize,
@@ -163,26 +164,59 @@ pub fn agrees(
     if kind < 4 {
         return literals_agree(schema, s, proof, mode, up, down, f, g);
     }
-    let left = natural_in(schema, s, proof, f, 1);
-    let other = natural_in(schema, s, proof, g, 1);
+    let part = natural_in(schema, s, proof, f, 1);
+    let twin = natural_in(schema, s, proof, g, 1);
     if kind < 6 {
-        if !agrees(schema, s, proof, mode, up, down, left, other) {
+        if !agrees(schema, s, proof, mode, up, down, part, twin) {
             return false;
         }
         let right = natural_in(schema, s, proof, f, 2);
-        return agrees(
-            schema,
-            s,
-            proof,
-            mode,
-            up,
-            down,
-            right,
-            natural_in(schema, s, proof, g, 2),
-        );
+        let right_twin = natural_in(schema, s, proof, g, 2);
+        return agrees(schema, s, proof, mode, up, down, right, right_twin);
     }
     if !ranges_agree(schema, s, proof, mode, up, down, f, g) {
         return false;
     }
-    agrees(schema, s, proof, 0, up, down, left, other)
+    agrees(schema, s, proof, 0, up, down, part, twin)
+}
+
+// Row x is row z lowered by k.
+pub fn is_lowered(schema: &[i32], s: usize, proof: &[i32], k: i32, z: usize, x: usize) -> bool
+    requires { ⌜ (z < 2 ^ 32) × (x < 2 ^ 32) ⌝ }
+    requires { ⌜ AllFormed (joined (now schema) s (now proof)) (z + 1) ⌝ }
+    requires { ⌜ AllFormed (joined (now schema) s (now proof)) (x + 1) ⌝ }
+    ensures { λ r. ⌜ r ≡ agree (lower k (tree (joined (now (schema .entry)) s (now (proof .entry))) z)) (tree (joined (now (schema .entry)) s (now (proof .entry))) x) ⌝ }
+{
+    agrees(
+        schema,
+        s,
+        proof,
+        1,
+        number::natural(k),
+        number::under(k),
+        z,
+        x,
+    )
+}
+
+// Row z is the instance at n - c of the body of the iteration in row `on`.
+pub fn is_instance(schema: &[i32], s: usize, proof: &[i32], on: usize, z: usize) -> bool
+    requires { ⌜ (on < 2 ^ 32) × (z < 2 ^ 32) ⌝ }
+    requires { ⌜ 6 ≤ nat (joined (now schema) s (now proof) on .kind) ⌝ }
+    requires { ⌜ AllFormed (joined (now schema) s (now proof)) (on + 1) ⌝ }
+    requires { ⌜ AllFormed (joined (now schema) s (now proof)) (z + 1) ⌝ }
+    ensures { λ r. ⌜ r ≡ agree (instance (joined (now (schema .entry)) s (now (proof .entry)) on .c) (tree (joined (now (schema .entry)) s (now (proof .entry))) (nat (joined (now (schema .entry)) s (now (proof .entry)) on .a)))) (tree (joined (now (schema .entry)) s (now (proof .entry))) z) ⌝ }
+{
+    let up = natural_in(schema, s, proof, on, 3);
+    let down = under_in(schema, s, proof, on, 3);
+    agrees(
+        schema,
+        s,
+        proof,
+        2,
+        up,
+        down,
+        natural_in(schema, s, proof, on, 1),
+        z,
+    )
 }

@@ -164,14 +164,23 @@ module _ (t : ℕ) where
       (omega (arith, part-f p, falls-f s (p .before .before .if5 .left) (c .if6 .taken)))
       (omega (arith, part-g p, falls-g s (p .before .before .if5 .left) (c .if6 .taken)))
 
-  -- a junction's rows agree by their two parts
-  both : (c : agrees-lts.Then6 (calls t) (agrees-at t) agrees.Post) → alike (start (met (c .before))) (start (met (c .before)) .args .mode) (start (met (c .before)) .args .f) (start (met (c .before)) .args .g) ≡ (alike (start (met (c .before))) (start (met (c .before)) .args .mode) (c .before .before .natural-in3 .result) (c .before .natural-in4 .result) and alike (start (met (c .before))) (start (met (c .before)) .args .mode) (nat (rows (start (met (c .before))) (start (met (c .before)) .args .f) .b)) (nat (rows (start (met (c .before))) (start (met (c .before)) .args .g) .b)))
+  -- a junction's rows agree by their two parts, of which the first are at hand
+  abbrev left : Parts → Bool
+  left c = let b = start (met c) in alike b (b .args .mode) (c .before .natural-in3 .result) (c .natural-in4 .result)
+
+  abbrev right : Same → Bool
+  right c = let b = start c in alike b (b .args .mode) (nat (rows b (b .args .f) .b)) (nat (rows b (b .args .g) .b))
+
+  abbrev whole : Same → Bool
+  whole c = let b = start c in alike b (b .args .mode) (b .args .f) (b .args .g)
+
+  both : (c : agrees-lts.Then6 (calls t) (agrees-at t) agrees.Post) → whole (met (c .before)) ≡ (left (c .before) and right (met (c .before)))
   both c =
       let p = c .before in
       let s = met p in
       let b = start s in
       junctions-agree (rows b) _ _ _ _ (formed-f b) (formed-g b) (same s) (omega (arith, kind-f s)) (omega (arith, kind-f s))
-      ∙ ap₂ (λ (m n : ℕ). alike b (b .args .mode) m n and alike b (b .args .mode) (nat (rows b (b .args .f) .b)) (nat (rows b (b .args .g) .b))) (sym (part-f p)) (sym (part-g p))
+      ∙ ap₂ (λ (m n : ℕ). alike b (b .args .mode) m n and right s) (sym (part-f p)) (sym (part-g p))
 
   agrees-returns-5 : agrees-lts.Need-returns-5 (calls t) (agrees-at t) agrees.Post
   agrees-returns-5 c = sym (both (c .before .before) ∙ and-first-false _ _ (sym (c .before .agrees .ensures) ∙ false-of-not _ (c .if7 .taken)))
