@@ -3,7 +3,7 @@ use Prim.Native.Nat.{ℕ, zero, suc, _+_, _<_, _≤_, _^_}
 use native.Mathlib.Omega.{arith}
 use mathlib.Core.Path.{_≡_, refl, sym, _∙_, ap, ap₂, subst}
 use mathlib.Core.Logic.{_⊎_, inl, inr, ⊎-elim}
-use mathlib.Core.Bool.{Bool, true, false, true≢false, false≢true}
+use mathlib.Core.Bool.{Bool, true, false, false≢true}
 use lib.Dec.{eqb}
 use lib.IntN.{ℤ, pos, negsuc, negℤ, _+ℤ_, _-ℤ_}
 use lib.Signed.{leZ}
@@ -11,10 +11,10 @@ use mir.Syntax.{w32}
 use mir.Val.{SFits}
 use borrow.Author.Tests.{eqb-true, eqb-false, eq-eqb, ne-eqb}
 use Rattle.stab.specs.Basic.{if_then_else_, _and_, eqZ, nat, within, below}
-use Rattle.stab.specs.Formula.{Row, Op, conj, disj, Kind, constant, literal, junction, iteration, unknown, kindOf, Base, nothing, parameter, index, baseOf, Formula, const, lit, join, iter, part, decode, tree, offset, wellFormedAs, wellFormed}
+use Rattle.stab.specs.Formula.{Row, Op, conj, disj, Kind, constant, literal, junction, iteration, unknown, kindOf, Base, nothing, parameter, index, baseOf, Formula, const, lit, join, iter, decode, tree, offset, wellFormedAs, wellFormed}
 use Rattle.stab.specs.Alike.{lower, lowerBase, instance, instanceLit, eqBool, eqOp, eqBase, agree}
 use Rattle.stab.proofs.Bools.{decide, and-left, and-right, and-both, and-first-false, and-second-false, if-true, if-false}
-use Rattle.stab.proofs.Whole.{plus, minus, atom, num, _⊕_, _⊖_, less, parts, le-of, of-le, eq-of, of-eq, eqZ-true, eqZ-of, eqZ-not, eqZ-refl, plus-nat, nonneg-minus}
+use Rattle.stab.proofs.Whole.{minus, atom, num, _⊕_, _⊖_, less, parts, le-of, of-le, eq-of, of-eq, eqZ-true, eqZ-of, eqZ-not, eqZ-refl, plus-nat, nonneg-minus}
 use Rattle.stab.proofs.Trees.{below-nat, part-of, tree-is}
 use Rattle.formula.specs.Compare.{changed, limit, literalOf, InRange}
 use Rattle.formula.specs.Facts.{AllFormed}

@@ -6,7 +6,7 @@ ghost use mathlib.Core.Bool.{true};
 ghost use Prim.Native.Nat.{_<_, _≤_, _+_, _^_};
 ghost use lib.IntN.{pos, _+ℤ_, _-ℤ_};
 ghost use lib.ListN.{getD};
-ghost use Rattle.stab.specs.Basic.{eqZ, nat, within, _and_};
+ghost use Rattle.stab.specs.Basic.{eqZ, nat, _and_};
 ghost use Rattle.stab.specs.Formula.{joined, tree, offset};
 ghost use Rattle.stab.specs.Alike.{lower, instance, agree};
 ghost use Rattle.formula.specs.Column.{column};

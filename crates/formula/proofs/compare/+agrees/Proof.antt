@@ -1,8 +1,8 @@
 -- The cycle of calls {agrees}. The measure is the first row number.
 use Prim.Native.Nat.{ℕ, _+_, _^_, _<_, _≤_}
 use native.Mathlib.Omega.{arith}
-use mathlib.Core.Path.{_≡_, refl, sym, _∙_, ap, ap₂}
-use mathlib.Core.Bool.{Bool, true, false}
+use mathlib.Core.Path.{_≡_, sym, _∙_, ap₂}
+use mathlib.Core.Bool.{Bool, true}
 use lib.IntN.{pos, _-ℤ_}
 use borrow.Author.Needs.{needs}
 use borrow.Fn.Kinds.{In}
@@ -231,7 +231,7 @@ module _ (t : ℕ) where
       let p = c .before .before .before in
       let s = met p in
       let b = start s in
-      part-asks b 0 _ _ (omega arith)
+      part-asks b _ _ _ (omega (arith, b .pre .1 .1 .1 .0))
       (omega (arith, part-f p, iteration-falls (rows b) (b .args .f) (formed-f b) (omega (arith, kind-f s))))
       (omega (arith, part-g p, iteration-falls (rows b) (b .args .g) (formed-g b) (omega (arith, kind-f s, same s))))
 

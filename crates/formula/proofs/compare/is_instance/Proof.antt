@@ -4,7 +4,6 @@ use native.Mathlib.Omega.{arith}
 use mathlib.Core.Path.{_≡_, _∙_, ap₂}
 use mathlib.Core.Bool.{true}
 use lib.IntN.{ℤ, pos, _-ℤ_}
-use Rattle.stab.specs.Basic.{nat}
 use Rattle.stab.specs.Formula.{Row, joined, tree, wellFormed}
 use Rattle.stab.specs.Alike.{instance, agree}
 use Rattle.formula.specs.Column.{column}
