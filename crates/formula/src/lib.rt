@@ -8,6 +8,8 @@ ghost use Rattle.stab.specs.Basic.{eqZ, nat};
 ghost use Rattle.stab.specs.Formula.{joined};
 ghost use Rattle.formula.specs.Column.{column};
 
+pub mod rows;
+
 // The natural part of column k of row r, schema rows first.
 pub fn natural_in(schema: &[i32], s: usize, proof: &[i32], r: usize, k: usize) -> usize
     requires { ⌜ (r < 2 ^ 32) × (k < 4) ⌝ }

@@ -1,0 +1,39 @@
+-- What the pass over formula rows works out for a row, and what holds of rows that passed.
+use Prim.Native.Nat.{ℕ, _+_, _*_, _<_}
+use mathlib.Core.Path.{_≡_}
+use mathlib.Core.Bool.{Bool, true, false}
+use mathlib.Core.List.{List}
+use lib.ListN.{getD, set}
+use Rattle.stab.specs.Basic.{if_then_else_}
+use Rattle.stab.specs.Formula as F
+use Rattle.stab.specs.Formula.{Row, Formula, tree, wellFormed, smallEnough}
+use Rattle.formula.specs.Facts.{bit, AllKnown, AllFormed}
+use Rattle.formula.specs.declared.rows.Facts.{Facts}
+use Rattle.formula.specs.declared.rows.Judged.{Judged}
+use Rattle.formula.specs.declared.rows.Judged.the-variants.{Ill, Formed}
+
+-- the four numbers of a formula
+unfoldable pub factsOf : Formula → Facts
+factsOf f = record { size = F.size f; depth = F.depth f; loose = bit (F.loose f); fixed = bit (F.fixed f) }
+
+-- those that are kept for row r
+unfoldable pub factsAt : List ℕ → ℕ → Facts
+factsAt facts r = record { size = getD facts (4 * r) 0; depth = getD facts (4 * r + 1) 0; loose = getD facts (4 * r + 2) 0; fixed = getD facts (4 * r + 3) 0 }
+
+-- the table with four numbers kept for row r
+unfoldable pub kept : List ℕ → ℕ → Facts → List ℕ
+kept facts r f = set (set (set (set facts (4 * r) (f .size)) (4 * r + 1) (f .depth)) (4 * r + 2) (f .loose)) (4 * r + 3) (f .fixed)
+
+-- row r is ill-formed, or has these four numbers
+unfoldable pub judged : (ℕ → Row) → ℕ → Judged
+judged rows r = if wellFormed rows r then Formed (factsOf (tree rows r)) else Ill
+
+-- the first n rows are small enough
+abbrev pub AllSmall : (ℕ → Row) → ℕ → Type 0
+AllSmall rows n = (r : ℕ) → r < n → smallEnough rows r ≡ true
+
+-- what holds of n rows that passed
+pub record Passed (rows : ℕ → Row) (facts : List ℕ) (n : ℕ) : Type 0 where
+  pub known : AllKnown rows facts n
+  pub formed : AllFormed rows n
+  pub small : AllSmall rows n
