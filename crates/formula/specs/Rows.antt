@@ -1,9 +1,9 @@
 -- What the pass over formula rows works out for a row, and what holds of rows that passed.
-use Prim.Native.Nat.{ℕ, _+_, _*_, _<_}
+use Prim.Native.Nat.{ℕ, _+_, _*_, _<_, _≤_}
 use mathlib.Core.Path.{_≡_}
 use mathlib.Core.Bool.{Bool, true, false}
 use mathlib.Core.List.{List}
-use lib.ListN.{getD, set}
+use lib.ListN.{length, getD, set}
 use Rattle.stab.specs.Basic.{if_then_else_}
 use Rattle.stab.specs.Formula as F
 use Rattle.stab.specs.Formula.{Row, Formula, tree, wellFormed, smallEnough}
@@ -32,8 +32,9 @@ judged rows r = if wellFormed rows r then Formed (factsOf (tree rows r)) else Il
 abbrev pub AllSmall : (ℕ → Row) → ℕ → Type 0
 AllSmall rows n = (r : ℕ) → r < n → smallEnough rows r ≡ true
 
--- what holds of n rows that passed
+-- what holds of n rows that passed, and of the table that was lent for their numbers
 pub record Passed (rows : ℕ → Row) (facts : List ℕ) (n : ℕ) : Type 0 where
+  pub room : 4 * n ≤ length facts
   pub known : AllKnown rows facts n
   pub formed : AllFormed rows n
   pub small : AllSmall rows n

@@ -1,17 +1,17 @@
 // The pass over formula rows: which are well formed and small enough. What is worked out for a row, its size, its depth and
 // the two facts about mixing, is kept in a lent table, four numbers a row, so that each row looks at its parts' numbers alone.
 ghost use mathlib.Core.Path.{_≡_};
-ghost use mathlib.Core.Bool.{Bool};
+ghost use mathlib.Core.Bool.{Bool, true};
 ghost use mathlib.Core.Option.{none};
-ghost use Prim.Native.Nat.{_+_, _*_, _<_, _≤_, _^_};
+ghost use Prim.Native.Nat.{ℕ, _+_, _*_, _<_, _≤_, _^_, max};
 ghost use lib.ListN.{length};
-ghost use lib.IntN.{pos};
-ghost use Rattle.stab.specs.Basic.{below, scan};
-ghost use Rattle.stab.specs.Formula.{joined, offset, kindOf, constant, literal, junction, iteration, Op, baseOf, onIndex};
+ghost use lib.IntN.{ℤ, pos};
+ghost use Rattle.stab.specs.Basic.{nat, below, scan};
+ghost use Rattle.stab.specs.Formula.{joined, offset, kindOf, constant, literal, junction, iteration, Op, baseOf, onIndex, Formula, join, iter, tree};
 ghost use Rattle.stab.specs.Check.{rowRefusal, rootFits, formulasRefusal, finding};
 ghost use Rattle.formula.specs.Column.{column};
 ghost use Rattle.formula.specs.Facts.{bit, AllKnown};
-ghost use Rattle.formula.specs.Rows.{factsAt, kept, judged, Passed};
+ghost use Rattle.formula.specs.Rows.{factsOf, factsAt, kept, judged, Passed};
 
 use crate::{natural_in, under_in, is_in};
 use stab::{Finding, Refusal, Place};
@@ -64,4 +64,184 @@ fn kind_in(schema: &[i32], s: usize, proof: &[i32], r: usize) -> usize
         return 8;
     }
     natural_in(schema, s, proof, r, 0)
+}
+
+// 1 where a literal of row r is on i.
+fn on_index(schema: &[i32], s: usize, proof: &[i32], r: usize) -> u32
+    requires { ⌜ r < 2 ^ 32 ⌝ }
+    ensures { λ v. ⌜ v ≡ bit (onIndex (baseOf (joined (now (schema .entry)) s (now (proof .entry)) r .b))) ⌝ }
+{
+    if is_in(schema, s, proof, r, 2, 0) {
+        return 0;
+    }
+    if is_in(schema, s, proof, r, 2, 1) {
+        return 0;
+    }
+    1
+}
+
+// ---- what is kept
+
+// The four numbers that are kept for row r.
+fn known(facts: &[u32], r: usize) -> Facts
+    requires { ⌜ 4 * r + 3 < length (now facts) ⌝ }
+    ensures { λ v. ⌜ v ≡ factsAt (now (facts .entry)) r ⌝ }
+{
+    let at = 4 * r;
+    Facts {
+        size: facts[at],
+        depth: facts[at + 1],
+        loose: facts[at + 2],
+        fixed: facts[at + 3],
+    }
+}
+
+// Four numbers are kept for row r.
+fn keep(facts: &mut [u32], r: usize, f: Facts)
+    requires { ⌜ 4 * r + 3 < length (now facts) ⌝ }
+    ensures { λ _. ⌜ now (facts .exit) ≡ kept (now (facts .entry)) r f ⌝ }
+{
+    let at = 4 * r;
+    facts[at] = f.size;
+    facts[at + 1] = f.depth;
+    facts[at + 2] = f.loose;
+    facts[at + 3] = f.fixed;
+}
+
+fn larger(a: u32, b: u32) -> u32
+    ensures { λ v. ⌜ v ≡ max a b ⌝ }
+{
+    if a < b { b } else { a }
+}
+
+// The numbers of an and or an or, by those of its parts.
+fn both(f: Facts, g: Facts) -> Facts
+    requires { ⌜ (f .size ≤ 4096) × (g .size ≤ 4096) × (f .depth ≤ 64) × (g .depth ≤ 64) ⌝ }
+    ensures { λ v. ⌜ ((o : Op) (x y : Formula) → f ≡ factsOf x → g ≡ factsOf y → v ≡ factsOf (join o x y)) ⌝ }
+{
+    Facts {
+        size: 1 + f.size + g.size,
+        depth: 1 + larger(f.depth, g.depth),
+        loose: larger(f.loose, g.loose),
+        fixed: larger(f.fixed, g.fixed),
+    }
+}
+
+// Those of an iteration, by its body's.
+fn over(f: Facts) -> Facts
+    requires { ⌜ (f .size ≤ 4096) × (f .depth ≤ 64) ⌝ }
+    ensures { λ v. ⌜ ((o : Op) (x : Formula) (b c : ℤ) → f ≡ factsOf x → v ≡ factsOf (iter o x b c)) ⌝ }
+{
+    Facts {
+        size: 1 + f.size,
+        depth: 1 + f.depth,
+        loose: 0,
+        fixed: 1,
+    }
+}
+
+// ---- one row
+
+// Row r is true or false: a, b, c are 0.
+fn constant(schema: &[i32], s: usize, proof: &[i32], r: usize) -> Judged
+    requires { ⌜ (r < 1024) × ((v : Bool) × (kindOf (joined (now schema) s (now proof) r .kind) ≡ constant v)) ⌝ }
+    ensures { λ v. ⌜ v ≡ judged (joined (now (schema .entry)) s (now (proof .entry))) r ⌝ }
+{
+    if !is_in(schema, s, proof, r, 1, 0) {
+        return Judged::Ill;
+    }
+    if !is_in(schema, s, proof, r, 2, 0) {
+        return Judged::Ill;
+    }
+    if !is_in(schema, s, proof, r, 3, 0) {
+        return Judged::Ill;
+    }
+    Judged::Formed(Facts {
+        size: 1,
+        depth: 1,
+        loose: 0,
+        fixed: 0,
+    })
+}
+
+// A literal: a is 0..255, b 0..2, c -9999..9999.
+fn literal(schema: &[i32], s: usize, proof: &[i32], r: usize) -> Judged
+    requires { ⌜ (r < 1024) × ((v : Bool) × (kindOf (joined (now schema) s (now proof) r .kind) ≡ literal v)) ⌝ }
+    ensures { λ v. ⌜ v ≡ judged (joined (now (schema .entry)) s (now (proof .entry))) r ⌝ }
+{
+    if !below_in(schema, s, proof, r, 1, 256) {
+        return Judged::Ill;
+    }
+    if !below_in(schema, s, proof, r, 2, 3) {
+        return Judged::Ill;
+    }
+    if !offset_in(schema, s, proof, r, 3) {
+        return Judged::Ill;
+    }
+    let loose = on_index(schema, s, proof, r);
+    Judged::Formed(Facts {
+        size: 1,
+        depth: 1,
+        loose: loose,
+        fixed: 1 - loose,
+    })
+}
+
+// The numbers of the smaller row that column k of row r points to.
+fn part(schema: &[i32], s: usize, proof: &[i32], r: usize, k: usize, facts: &[u32]) -> Facts
+    requires { ⌜ (r < 1024) × (k < 4) × (below r (column (joined (now schema) s (now proof) r) k) ≡ true) ⌝ }
+    requires { ⌜ Passed (joined (now schema) s (now proof)) (now facts) r ⌝ }
+    ensures { λ v. ⌜ v ≡ factsOf (tree (joined (now (schema .entry)) s (now (proof .entry))) (nat (column (joined (now (schema .entry)) s (now (proof .entry)) r) k))) ⌝ }
+    ensures { λ v. ⌜ (v .size ≤ 4096) × (v .depth ≤ 64) ⌝ }
+{
+    known(facts, natural_in(schema, s, proof, r, k))
+}
+
+// An and or an or: a and b are smaller rows, c is 0, and the parts do not mix.
+fn junction(schema: &[i32], s: usize, proof: &[i32], r: usize, facts: &[u32]) -> Judged
+    requires { ⌜ (r < 1024) × ((o : Op) × (kindOf (joined (now schema) s (now proof) r .kind) ≡ junction o)) ⌝ }
+    requires { ⌜ Passed (joined (now schema) s (now proof)) (now facts) r ⌝ }
+    ensures { λ v. ⌜ v ≡ judged (joined (now (schema .entry)) s (now (proof .entry))) r ⌝ }
+{
+    if !below_in(schema, s, proof, r, 1, r) {
+        return Judged::Ill;
+    }
+    if !below_in(schema, s, proof, r, 2, r) {
+        return Judged::Ill;
+    }
+    if !is_in(schema, s, proof, r, 3, 0) {
+        return Judged::Ill;
+    }
+    let a = part(schema, s, proof, r, 1, facts);
+    let b = part(schema, s, proof, r, 2, facts);
+    let f = both(a, b);
+    if f.loose == 0 {
+        return Judged::Formed(f);
+    }
+    if f.fixed == 0 {
+        return Judged::Formed(f);
+    }
+    Judged::Ill
+}
+
+// An iteration: a is a smaller row that is a body, b and c are -9999..9999.
+fn iteration(schema: &[i32], s: usize, proof: &[i32], r: usize, facts: &[u32]) -> Judged
+    requires { ⌜ (r < 1024) × ((o : Op) × (kindOf (joined (now schema) s (now proof) r .kind) ≡ iteration o)) ⌝ }
+    requires { ⌜ Passed (joined (now schema) s (now proof)) (now facts) r ⌝ }
+    ensures { λ v. ⌜ v ≡ judged (joined (now (schema .entry)) s (now (proof .entry))) r ⌝ }
+{
+    if !below_in(schema, s, proof, r, 1, r) {
+        return Judged::Ill;
+    }
+    if !offset_in(schema, s, proof, r, 2) {
+        return Judged::Ill;
+    }
+    if !offset_in(schema, s, proof, r, 3) {
+        return Judged::Ill;
+    }
+    let f = part(schema, s, proof, r, 1, facts);
+    if f.fixed == 0 {
+        return Judged::Formed(over(f));
+    }
+    Judged::Ill
 }
