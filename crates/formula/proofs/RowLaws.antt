@@ -3,19 +3,29 @@ use Prim.Native.Nat.{ℕ, zero, suc, _+_, _-_, _*_, _<_, _≤_, max}
 use native.Mathlib.Omega.{arith}
 use mathlib.Core.Path.{_≡_, refl, sym, _∙_, ap, ap₂, subst}
 use mathlib.Core.Bool.{Bool, true, false, not}
+use mathlib.Core.Logic.{_⊎_, inl, inr, ⊎-elim}
 use mathlib.Core.List.{List}
+use mathlib.Core.Option.{Option, none, some, Option·some-ne-none}
 use lib.Dec.{leb, ltb, leb·zero, leb·suc-suc}
+use lib.ListN.{length, getD, set, length-set}
+use lib.Seq.{getD-set-same, getD-set-other}
 use lib.IntN.{ℤ, pos, negsuc, negℤ}
 use lib.Signed.{leZ, ltZ}
 use borrow.Author.Tests.{le-leb, lt-leb, leb-true}
 use Rattle.stab.specs.Basic.{if_then_else_, _and_, _or_, eqZ, within, nat, below}
 use Rattle.stab.specs.Formula as F
-use Rattle.stab.specs.Formula.{Row, Op, Kind, constant, literal, junction, iteration, unknown, kindOf, Base, nothing, parameter, index, baseOf, Formula, lit, join, iter, decode, tree, onIndex, offset, wellFormedAs, wellFormed, smallEnough}
-use Rattle.stab.proofs.Bools.{and-both, and-left, and-right, and-first-false, if-true, if-false, false-of-not, true-of-not}
-use Rattle.stab.proofs.Whole.{nat-pos}
+use Rattle.stab.specs.Formula.{Row, Op, conj, disj, Kind, constant, literal, junction, iteration, unknown, kindOf, Base, nothing, parameter, index, baseOf, Formula, lit, join, iter, decode, tree, onIndex, offset, wellFormedAs, wellFormed, smallEnough}
+use Rattle.stab.specs.Check.{atUnless, rowRefusal}
+use Rattle.stab.specs.declared.Place.the-variants.{At}
+use Rattle.stab.specs.declared.Refusal.the-variants.{IllFormed, TooLarge}
+use Rattle.stab.specs.declared.Verdict.{Verdict}
+use Rattle.stab.specs.declared.Verdict.the-variants.{Refused}
+use Rattle.stab.proofs.Bools.{and-both, and-left, and-right, and-first-false, and-second-false, if-true, if-false, false-of-not, true-of-not, otherwise-none, otherwise-some, none-unless, some-unless}
+use Rattle.stab.proofs.Whole.{num, of-eq, eqZ-not, nat-pos}
+use Rattle.stab.proofs.Scans.{below-suc}
 use Rattle.stab.proofs.Trees.{part-of, tree-is}
-use Rattle.formula.specs.Facts.{bit}
-use Rattle.formula.specs.Rows.{factsOf, factsAt, judged, Passed}
+use Rattle.formula.specs.Facts.{bit, Known}
+use Rattle.formula.specs.Rows.{factsOf, factsAt, kept, judged, Passed}
 use Rattle.formula.specs.declared.rows.Facts.{Facts}
 use Rattle.formula.specs.declared.rows.Judged.{Judged}
 use Rattle.formula.specs.declared.rows.Judged.the-variants.{Ill, Formed}
@@ -79,6 +89,49 @@ kind-negative (negsuc n) h = refl
 
 pub kind-natural : (z : ℤ) → nat (negℤ z) ≤ 0 → kindOf (pos (nat z)) ≡ kindOf z
 kind-natural z h = ap kindOf (nat-pos z (nonneg z h))
+
+two : (k n : ℕ) → n ≤ k → k < n + 2 → (k ≡ n) ⊎ (k ≡ n + 1)
+two k n l h = ⊎-elim (λ p. inl (omega arith)) (λ e. inr (omega arith)) (below-suc k (suc n) (omega arith))
+
+-- the kinds come in pairs
+by-two : (k n : ℕ) {A : Type 0} (f : A → Kind) (x y : A) → kindOf (pos n) ≡ f x → kindOf (pos (n + 1)) ≡ f y → n ≤ k → k < n + 2
+    → (v : A) × (kindOf (pos k) ≡ f v)
+by-two k n f x y p q l h =
+    ⊎-elim
+    (λ e. (x, ap (λ (m : ℕ). kindOf (pos m)) e ∙ p))
+    (λ e. (y, ap (λ (m : ℕ). kindOf (pos m)) e ∙ q))
+    (two k n l h)
+
+pub constant-kind : (k : ℕ) → k < 2 → (v : Bool) × (kindOf (pos k) ≡ constant v)
+unfolding kindOf eqZ if_then_else_
+constant-kind k h = by-two k 0 constant true false refl refl (omega arith) (omega arith)
+
+pub literal-kind : (k : ℕ) → 2 ≤ k → k < 4 → (v : Bool) × (kindOf (pos k) ≡ literal v)
+unfolding kindOf eqZ if_then_else_
+literal-kind k l h = by-two k 2 literal true false refl refl l h
+
+pub junction-kind : (k : ℕ) → 4 ≤ k → k < 6 → (o : Op) × (kindOf (pos k) ≡ junction o)
+unfolding kindOf eqZ if_then_else_
+junction-kind k l h = by-two k 4 junction conj disj refl refl l h
+
+pub iteration-kind : (k : ℕ) → 6 ≤ k → k < 8 → (o : Op) × (kindOf (pos k) ≡ iteration o)
+unfolding kindOf eqZ if_then_else_
+iteration-kind k l h = by-two k 6 iteration conj disj refl refl l h
+
+apart : (k n : ℕ) → n < k → eqZ (pos k) (pos n) ≡ false
+apart k n h = eqZ-not (pos k) (pos n) (λ e. omega (arith, of-eq (num k) (num n) e))
+
+pub unknown-kind : (k : ℕ) → 8 ≤ k → kindOf (pos k) ≡ unknown
+unfolding kindOf
+unknown-kind k h =
+    if-false (eqZ (pos k) (pos 0)) _ _ (apart k 0 (omega arith))
+    ∙ if-false (eqZ (pos k) (pos 1)) _ _ (apart k 1 (omega arith))
+    ∙ if-false (eqZ (pos k) (pos 2)) _ _ (apart k 2 (omega arith))
+    ∙ if-false (eqZ (pos k) (pos 3)) _ _ (apart k 3 (omega arith))
+    ∙ if-false (eqZ (pos k) (pos 4)) _ _ (apart k 4 (omega arith))
+    ∙ if-false (eqZ (pos k) (pos 5)) _ _ (apart k 5 (omega arith))
+    ∙ if-false (eqZ (pos k) (pos 6)) _ _ (apart k 6 (omega arith))
+    ∙ if-false (eqZ (pos k) (pos 7)) _ _ (apart k 7 (omega arith))
 
 -- what a literal is on, by two tests of b
 pub on-index-is : (z : ℤ) (t u : Bool) → eqZ z (pos 0) ≡ t → eqZ z (pos 1) ≡ u → bit (onIndex (baseOf z)) ≡ bit (onIndex (if t then nothing else if u then parameter else index))
@@ -226,3 +279,152 @@ module _ {rows : ℕ → Row} {facts : List ℕ} {n : ℕ} (passed : Passed rows
   pub kept-depth : factsAt facts a .depth ≤ 64
   unfolding factsAt
   kept-depth = omega (arith, passed .known a less .depth, small-depth rows a (passed .small a less))
+
+-- ---- what is found at a row
+
+module _ (rows : ℕ → Row) (r : ℕ) where
+  judged-ill : Ill ≡ judged rows r → wellFormed rows r ≡ false
+  unfolding judged if_then_else_
+  judged-ill h = go (wellFormed rows r) h
+    where
+      go : (w : Bool) → Ill ≡ (if w then Formed (factsOf (tree rows r)) else Ill) → w ≡ false
+      go true e = cc
+      go false e = refl
+
+  judged-formed : {f : Facts} → Formed f ≡ judged rows r → (wellFormed rows r ≡ true) × (f ≡ factsOf (tree rows r))
+  unfolding judged if_then_else_
+  judged-formed {f} h = go (wellFormed rows r) h
+    where
+      go : (w : Bool) → Formed f ≡ (if w then Formed (factsOf (tree rows r)) else Ill) → (w ≡ true) × (f ≡ factsOf (tree rows r))
+      go true e = (refl, cc)
+      go false e = (cc, cc)
+
+  pub row-ill : Ill ≡ judged rows r → some (Refused IllFormed (At r)) ≡ rowRefusal rows r
+  unfolding rowRefusal atUnless
+  row-ill h = sym (otherwise-some _ _ _ (some-unless (wellFormed rows r) _ (judged-ill h)))
+
+  module _ {f : Facts} (h : Formed f ≡ judged rows r) where
+    row-large : smallEnough rows r ≡ false → some (Refused TooLarge (At r)) ≡ rowRefusal rows r
+    unfolding rowRefusal atUnless
+    row-large s =
+        sym (otherwise-none _ _ (none-unless (wellFormed rows r) _ (judged-formed h .0)) ∙ some-unless (smallEnough rows r) _ s)
+
+    abbrev size-is : f .size ≡ F.size (tree rows r)
+    unfolding factsOf
+    size-is = ap (λ (g : Facts). g .size) (judged-formed h .1)
+
+    abbrev depth-is : f .depth ≡ F.depth (tree rows r)
+    unfolding factsOf
+    depth-is = ap (λ (g : Facts). g .depth) (judged-formed h .1)
+
+    pub row-wide : 4096 < f .size → some (Refused TooLarge (At r)) ≡ rowRefusal rows r
+    unfolding smallEnough
+    row-wide l = row-large (and-first-false _ _ (lt-leb (F.size (tree rows r)) 4096 (omega (arith, size-is))))
+
+    pub row-deep : 64 < f .depth → some (Refused TooLarge (At r)) ≡ rowRefusal rows r
+    unfolding smallEnough
+    row-deep l = row-large (and-second-false _ _ (lt-leb (F.depth (tree rows r)) 64 (omega (arith, depth-is))))
+
+    row-small : f .size ≤ 4096 → f .depth ≤ 64 → smallEnough rows r ≡ true
+    unfolding smallEnough
+    row-small p q =
+        and-both _ _
+        (le-leb (F.size (tree rows r)) 4096 (omega (arith, size-is)))
+        (le-leb (F.depth (tree rows r)) 64 (omega (arith, depth-is)))
+
+    pub row-nothing : f .size ≤ 4096 → f .depth ≤ 64 → none ≡ rowRefusal rows r
+    unfolding rowRefusal atUnless
+    row-nothing p q =
+        sym
+        (otherwise-none _ _ (none-unless (wellFormed rows r) _ (judged-formed h .0))
+        ∙ none-unless (smallEnough rows r) _ (row-small p q))
+
+-- ---- one row more
+
+module _ (facts : List ℕ) (r : ℕ) (f : Facts) where
+  length-kept : length (kept facts r f) ≡ length facts
+  unfolding kept
+  length-kept = simp length-set
+
+  -- the table after the first store, the second and the third
+  abbrev once : List ℕ
+  once = set facts (4 * r) (f .size)
+
+  abbrev twice : List ℕ
+  twice = set once (4 * r + 1) (f .depth)
+
+  abbrev thrice : List ℕ
+  thrice = set twice (4 * r + 2) (f .loose)
+
+  -- what is kept for other rows stays
+  kept-other : (i : ℕ) → i < 4 * r → getD (kept facts r f) i 0 ≡ getD facts i 0
+  unfolding kept
+  kept-other i h =
+      getD-set-other thrice (4 * r + 3) i (f .fixed) 0 (omega arith)
+      ∙ getD-set-other twice (4 * r + 2) i (f .loose) 0 (omega arith)
+      ∙ getD-set-other once (4 * r + 1) i (f .depth) 0 (omega arith)
+      ∙ getD-set-other facts (4 * r) i (f .size) 0 (omega arith)
+
+  facts-other : (a : ℕ) → a < r → factsAt (kept facts r f) a ≡ factsAt facts a
+  unfolding factsAt
+  facts-other a h =
+      facts-same
+      (kept-other (4 * a) (omega arith))
+      (kept-other (4 * a + 1) (omega arith))
+      (kept-other (4 * a + 2) (omega arith))
+      (kept-other (4 * a + 3) (omega arith))
+
+  facts-here : 4 * r + 3 < length facts → factsAt (kept facts r f) r ≡ f
+  unfolding factsAt kept
+  facts-here h =
+      facts-same
+      (getD-set-other thrice (4 * r + 3) (4 * r) (f .fixed) 0 (omega arith)
+      ∙ getD-set-other twice (4 * r + 2) (4 * r) (f .loose) 0 (omega arith)
+      ∙ getD-set-other once (4 * r + 1) (4 * r) (f .depth) 0 (omega arith)
+      ∙ getD-set-same facts (4 * r) (f .size) 0 (omega arith))
+      (getD-set-other thrice (4 * r + 3) (4 * r + 1) (f .fixed) 0 (omega arith)
+      ∙ getD-set-other twice (4 * r + 2) (4 * r + 1) (f .loose) 0 (omega arith)
+      ∙ getD-set-same once (4 * r + 1) (f .depth) 0 (simp length-set (omega arith)))
+      (getD-set-other thrice (4 * r + 3) (4 * r + 2) (f .fixed) 0 (omega arith)
+      ∙ getD-set-same twice (4 * r + 2) (f .loose) 0 (simp length-set (omega arith)))
+      (getD-set-same thrice (4 * r + 3) (f .fixed) 0 (simp length-set (omega arith)))
+
+known-of : (rows : ℕ → Row) (facts : List ℕ) (r : ℕ) → factsAt facts r ≡ factsOf (tree rows r) → Known rows facts r
+unfolding factsAt factsOf
+known-of rows facts r e =
+    record {
+      size = ap (λ (g : Facts). g .size) e;
+      depth = ap (λ (g : Facts). g .depth) e;
+      loose = ap (λ (g : Facts). g .loose) e;
+      fixed = ap (λ (g : Facts). g .fixed) e;
+    }
+
+-- what holds of each row below r, and of r, holds of each below r + 1
+each-more : {P : ℕ → Type 0} (r : ℕ) → ((a : ℕ) → a < r → P a) → P r → (a : ℕ) → a < r + 1 → P a
+each-more {P} r h k a l = ⊎-elim (λ p. h a p) (λ e. subst P (sym e) k) (below-suc a r (omega arith))
+
+pub passed-none : (rows : ℕ → Row) (facts : List ℕ) → Passed rows facts 0
+passed-none rows facts =
+    record {
+      room = omega arith;
+      known = λ a l. absurd (omega arith);
+      formed = λ a l. absurd (omega arith);
+      small = λ a l. absurd (omega arith);
+    }
+
+pub passed-more : (rows : ℕ → Row) (facts : List ℕ) (r : ℕ) (f : Facts) → Passed rows facts r → 4 * r + 3 < length facts
+    → Formed f ≡ judged rows r → f .size ≤ 4096 → f .depth ≤ 64 → Passed rows (kept facts r f) (r + 1)
+passed-more rows facts r f passed room h p q =
+    record {
+      room = omega (arith, length-kept facts r f);
+      known =
+        each-more r
+        (λ a l. known-of rows (kept facts r f) a (facts-other facts r f a l ∙ kept-facts passed a l))
+        (known-of rows (kept facts r f) r (facts-here facts r f room ∙ judged-formed rows r h .1));
+      formed = each-more r (passed .formed) (judged-formed rows r h .0);
+      small = each-more r (passed .small) (row-small rows r h p q);
+    }
+
+-- a refusal is not nothing
+pub never : {A : Type 0} {o : Option Verdict} {x : Verdict} → some x ≡ o → o ≡ none → A
+never {A} {o} {x} p q = absurd (Option·some-ne-none x (p ∙ q))

@@ -245,3 +245,73 @@ fn iteration(schema: &[i32], s: usize, proof: &[i32], r: usize, facts: &[u32]) -
     }
     Judged::Ill
 }
+
+// Row r, judged by its kind.
+pub fn row(schema: &[i32], s: usize, proof: &[i32], r: usize, facts: &[u32]) -> Judged
+    requires { ⌜ r < 1024 ⌝ }
+    requires { ⌜ Passed (joined (now schema) s (now proof)) (now facts) r ⌝ }
+    ensures { λ v. ⌜ v ≡ judged (joined (now (schema .entry)) s (now (proof .entry))) r ⌝ }
+{
+    let k = kind_in(schema, s, proof, r);
+    if k < 2 {
+        return constant(schema, s, proof, r);
+    }
+    if k < 4 {
+        return literal(schema, s, proof, r);
+    }
+    if k < 6 {
+        return junction(schema, s, proof, r, facts);
+    }
+    if k < 8 {
+        return iteration(schema, s, proof, r, facts);
+    }
+    Judged::Ill
+}
+
+// ---- every row
+
+// What is found at row r; its numbers are kept where that is nothing.
+fn step(schema: &[i32], s: usize, proof: &[i32], r: usize, facts: &mut [u32]) -> Finding
+    requires { ⌜ (r < 1024) × (4 * r + 3 < length (now facts)) ⌝ }
+    requires { ⌜ Passed (joined (now schema) s (now proof)) (now facts) r ⌝ }
+    ensures { λ v. ⌜ finding v ≡ rowRefusal (joined (now (schema .entry)) s (now (proof .entry))) r ⌝ }
+    ensures { λ v. ⌜ (rowRefusal (joined (now (schema .entry)) s (now (proof .entry))) r ≡ none → Passed (joined (now (schema .entry)) s (now (proof .entry))) (now (facts .exit)) (r + 1)) ⌝ }
+{
+    let Judged::Formed(f) = row(schema, s, proof, r, facts) else {
+        return Finding::Found {
+            why: Refusal::IllFormed,
+            place: Place::At(r),
+        };
+    };
+    if 4096 < f.size {
+        return Finding::Found {
+            why: Refusal::TooLarge,
+            place: Place::At(r),
+        };
+    }
+    if 64 < f.depth {
+        return Finding::Found {
+            why: Refusal::TooLarge,
+            place: Place::At(r),
+        };
+    }
+    keep(facts, r, f);
+    Finding::Nothing
+}
+
+// What is found first among n rows. Where that is nothing, the table holds the numbers of each.
+pub fn each(schema: &[i32], s: usize, proof: &[i32], n: usize, facts: &mut [u32]) -> Finding
+    requires { ⌜ (n ≤ 1024) × (4 * n ≤ length (now facts)) ⌝ }
+    ensures { λ v. ⌜ finding v ≡ scan (rowRefusal (joined (now (schema .entry)) s (now (proof .entry)))) n ⌝ }
+    ensures { λ v. ⌜ (scan (rowRefusal (joined (now (schema .entry)) s (now (proof .entry)))) n ≡ none → Passed (joined (now (schema .entry)) s (now (proof .entry))) (now (facts .exit)) n) ⌝ }
+{
+    let mut r = 0;
+    while r < n {
+        let found = step(schema, s, proof, r, facts);
+        let Finding::Nothing = found else {
+            return found;
+        };
+        r += 1;
+    }
+    Finding::Nothing
+}
