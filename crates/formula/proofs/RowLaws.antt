@@ -12,15 +12,15 @@ use lib.Seq.{getD-set-same, getD-set-other}
 use lib.IntN.{ℤ, pos, negsuc, negℤ}
 use lib.Signed.{leZ, ltZ}
 use borrow.Author.Tests.{le-leb, lt-leb, leb-true}
-use Rattle.stab.specs.Basic.{if_then_else_, _and_, _or_, eqZ, within, nat, below}
+use Rattle.stab.specs.Basic.{if_then_else_, _and_, _or_, eqZ, within, nat, below, _otherwise_, scan}
 use Rattle.stab.specs.Formula as F
-use Rattle.stab.specs.Formula.{Row, Op, conj, disj, Kind, constant, literal, junction, iteration, unknown, kindOf, Base, nothing, parameter, index, baseOf, Formula, lit, join, iter, decode, tree, onIndex, offset, wellFormedAs, wellFormed, smallEnough}
-use Rattle.stab.specs.Check.{atUnless, rowRefusal}
-use Rattle.stab.specs.declared.Place.the-variants.{At}
-use Rattle.stab.specs.declared.Refusal.the-variants.{IllFormed, TooLarge}
+use Rattle.stab.specs.Formula.{Row, Op, conj, disj, Kind, constant, literal, junction, iteration, unknown, kindOf, Base, nothing, parameter, index, baseOf, Formula, lit, join, iter, decode, tree, onIndex, isOuter, offset, wellFormedAs, wellFormed, smallEnough}
+use Rattle.stab.specs.Check.{atUnless, wholeUnless, rowRefusal, rootFits, formulasRefusal}
+use Rattle.stab.specs.declared.Place.the-variants.{Whole, At}
+use Rattle.stab.specs.declared.Refusal.the-variants.{Root, IllFormed, TooLarge}
 use Rattle.stab.specs.declared.Verdict.{Verdict}
 use Rattle.stab.specs.declared.Verdict.the-variants.{Refused}
-use Rattle.stab.proofs.Bools.{and-both, and-left, and-right, and-first-false, and-second-false, if-true, if-false, false-of-not, true-of-not, otherwise-none, otherwise-some, none-unless, some-unless}
+use Rattle.stab.proofs.Bools.{and-both, and-left, and-right, and-first-false, and-second-false, if-true, if-false, not-of-false, not-of-true, false-of-not, true-of-not, otherwise-none, otherwise-some, none-unless, some-unless}
 use Rattle.stab.proofs.Whole.{num, of-eq, eqZ-not, nat-pos}
 use Rattle.stab.proofs.Scans.{below-suc}
 use Rattle.stab.proofs.Trees.{part-of, tree-is}
@@ -37,6 +37,10 @@ fails v e h = sym e ∙ false-of-not v h
 
 pub passes : (v : Bool) {t : Bool} → v ≡ t → not v ≡ false → t ≡ true
 passes v e h = sym e ∙ true-of-not v h
+
+pub and-true : (a b : Bool) → a ≡ true → (a and b) ≡ b
+unfolding _and_
+and-true a b h = ap (λ (t : Bool). t and b) h
 
 -- ---- a whole number by its two naturals
 
@@ -428,3 +432,27 @@ passed-more rows facts r f passed room h p q =
 -- a refusal is not nothing
 pub never : {A : Type 0} {o : Option Verdict} {x : Verdict} → some x ≡ o → o ≡ none → A
 never {A} {o} {x} p q = absurd (Option·some-ne-none x (p ∙ q))
+
+-- ---- the formulas together
+
+module _ (rows : ℕ → Row) (n s : ℕ) (root least : ℤ) where
+  pub formulas-root : rootFits s root least ≡ false → some (Refused Root Whole) ≡ formulasRefusal rows n s root least
+  unfolding formulasRefusal wholeUnless
+  formulas-root h = sym (otherwise-some _ _ _ (some-unless (rootFits s root least) _ h))
+
+  module _ (fits : rootFits s root least ≡ true) where
+    after-root : formulasRefusal rows n s root least ≡ (scan (rowRefusal rows) n otherwise wholeUnless (isOuter (tree rows (nat root))) Root)
+    unfolding formulasRefusal wholeUnless
+    after-root = otherwise-none _ _ (none-unless (rootFits s root least) _ fits)
+
+    pub formulas-row : {x : Verdict} → some x ≡ scan (rowRefusal rows) n → some x ≡ formulasRefusal rows n s root least
+    formulas-row h = sym (after-root ∙ otherwise-some _ _ _ (sym h))
+
+    module _ (none-found : scan (rowRefusal rows) n ≡ none) where
+      pub formulas-loose : F.loose (tree rows (nat root)) ≡ true → some (Refused Root Whole) ≡ formulasRefusal rows n s root least
+      unfolding wholeUnless isOuter
+      formulas-loose h = sym (after-root ∙ otherwise-none _ _ none-found ∙ some-unless (isOuter (tree rows (nat root))) _ (not-of-true _ h))
+
+      pub formulas-none : F.loose (tree rows (nat root)) ≡ false → none ≡ formulasRefusal rows n s root least
+      unfolding wholeUnless isOuter
+      formulas-none h = sym (after-root ∙ otherwise-none _ _ none-found ∙ none-unless (isOuter (tree rows (nat root))) _ (not-of-false _ h))

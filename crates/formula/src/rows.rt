@@ -315,3 +315,52 @@ pub fn each(schema: &[i32], s: usize, proof: &[i32], n: usize, facts: &mut [u32]
     }
     Finding::Nothing
 }
+
+// ---- the root
+
+// z is one of 0 .. m - 1.
+fn below(m: usize, z: i32) -> bool
+    ensures { λ v. ⌜ v ≡ below m z ⌝ }
+{
+    if 0 < number::under(z) {
+        return false;
+    }
+    number::natural(z) < m
+}
+
+// The root is one of s schema rows, and the least value is 0..9999.
+pub fn root_fits(s: usize, root: i32, least: i32) -> bool
+    ensures { λ v. ⌜ v ≡ rootFits s root least ⌝ }
+{
+    if !below(s, root) {
+        return false;
+    }
+    below(10000, least)
+}
+
+// What is found of the formulas: the root and the least value, then every row, then that the root is outer.
+// Where that is nothing, the table holds the numbers of each row.
+pub fn formulas(schema: &[i32], s: usize, proof: &[i32], n: usize, root: i32, least: i32, facts: &mut [u32]) -> Finding
+    requires { ⌜ (s ≤ n) × (n ≤ 1024) × (4 * n ≤ length (now facts)) ⌝ }
+    ensures { λ v. ⌜ finding v ≡ formulasRefusal (joined (now (schema .entry)) s (now (proof .entry))) n s root least ⌝ }
+    ensures { λ v. ⌜ (formulasRefusal (joined (now (schema .entry)) s (now (proof .entry))) n s root least ≡ none → Passed (joined (now (schema .entry)) s (now (proof .entry))) (now (facts .exit)) n) ⌝ }
+{
+    if !root_fits(s, root, least) {
+        return Finding::Found {
+            why: Refusal::Root,
+            place: Place::Whole,
+        };
+    }
+    let found = each(schema, s, proof, n, facts);
+    let Finding::Nothing = found else {
+        return found;
+    };
+    let f = known(facts, number::natural(root));
+    if f.loose == 0 {
+        return Finding::Nothing;
+    }
+    Finding::Found {
+        why: Refusal::Root,
+        place: Place::Whole,
+    }
+}
