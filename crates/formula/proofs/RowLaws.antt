@@ -422,9 +422,9 @@ passed-more rows facts r f passed room h p q =
     record {
       room = omega (arith, length-kept facts r f);
       known =
-        each-more r
-        (λ a l. known-of rows (kept facts r f) a (facts-other facts r f a l ∙ kept-facts passed a l))
-        (known-of rows (kept facts r f) r (facts-here facts r f room ∙ judged-formed rows r h .1));
+          each-more r
+          (λ a l. known-of rows (kept facts r f) a (facts-other facts r f a l ∙ kept-facts passed a l))
+          (known-of rows (kept facts r f) r (facts-here facts r f room ∙ judged-formed rows r h .1));
       formed = each-more r (passed .formed) (judged-formed rows r h .0);
       small = each-more r (passed .small) (row-small rows r h p q);
     }

@@ -3,18 +3,21 @@
 ghost use mathlib.Core.Path.{_≡_};
 ghost use mathlib.Core.Bool.{Bool, true};
 ghost use mathlib.Core.Option.{none};
-ghost use Prim.Native.Nat.{ℕ, _+_, _*_, _<_, _≤_, _^_, max};
+ghost use Prim.Native.Nat.{_+_, _*_, _<_, _≤_, _^_, max};
 ghost use lib.ListN.{length};
 ghost use lib.IntN.{ℤ, pos};
 ghost use Rattle.stab.specs.Basic.{nat, below, scan};
 ghost use Rattle.stab.specs.Formula.{joined, offset, kindOf, constant, literal, junction, iteration, Op, baseOf, onIndex, Formula, join, iter, tree};
 ghost use Rattle.stab.specs.Check.{rowRefusal, rootFits, formulasRefusal, finding};
 ghost use Rattle.formula.specs.Column.{column};
-ghost use Rattle.formula.specs.Facts.{bit, AllKnown};
+ghost use Rattle.formula.specs.Facts.{bit};
 ghost use Rattle.formula.specs.Rows.{factsOf, factsAt, kept, judged, Passed};
-
-use crate::{natural_in, under_in, is_in};
-use stab::{Finding, Refusal, Place};
+use crate::is_in;
+use crate::natural_in;
+use crate::under_in;
+use stab::Finding;
+use stab::Place;
+use stab::Refusal;
 
 // What is worked out for a row. loose and fixed are 1 where a literal on i stands outside an iteration, and where a literal
 // not on i, or an iteration, stands in it; else 0.
@@ -182,7 +185,7 @@ fn literal(schema: &[i32], s: usize, proof: &[i32], r: usize) -> Judged
     Judged::Formed(Facts {
         size: 1,
         depth: 1,
-        loose: loose,
+        loose,
         fixed: 1 - loose,
     })
 }
@@ -340,7 +343,15 @@ pub fn root_fits(s: usize, root: i32, least: i32) -> bool
 
 // What is found of the formulas: the root and the least value, then every row, then that the root is outer.
 // Where that is nothing, the table holds the numbers of each row.
-pub fn formulas(schema: &[i32], s: usize, proof: &[i32], n: usize, root: i32, least: i32, facts: &mut [u32]) -> Finding
+pub fn formulas(
+    schema: &[i32],
+    s: usize,
+    proof: &[i32],
+    n: usize,
+    root: i32,
+    least: i32,
+    facts: &mut [u32],
+) -> Finding
     requires { ⌜ (s ≤ n) × (n ≤ 1024) × (4 * n ≤ length (now facts)) ⌝ }
     ensures { λ v. ⌜ finding v ≡ formulasRefusal (joined (now (schema .entry)) s (now (proof .entry))) n s root least ⌝ }
     ensures { λ v. ⌜ (formulasRefusal (joined (now (schema .entry)) s (now (proof .entry))) n s root least ≡ none → Passed (joined (now (schema .entry)) s (now (proof .entry))) (now (facts .exit)) n) ⌝ }

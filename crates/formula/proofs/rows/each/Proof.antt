@@ -70,9 +70,10 @@ returns-2 c =
     let a = c .before .before .before .args in
     let i = c .before .loop .inv in
     let rows = joined (a .schema .now) (a .s) (a .proof .now) in
-    let e : c .before .loop .r ≡ a .n = omega arith in
-    ( sym (subst (λ (m : ℕ). scan (rowRefusal rows) m ≡ none) e (i .2))
-    , λ _. subst (λ (m : ℕ). Passed rows (c .before .loop .facts) m) e (i .3))
+    let e : c .before .loop .r ≡ a .n = omega arith in (
+      sym (subst (λ (m : ℕ). scan (rowRefusal rows) m ≡ none) e (i .2)),
+      λ _. subst (λ (m : ℕ). Passed rows (c .before .loop .facts) m) e (i .3),
+    )
 
 pub each-spec : {M : Type 1} → statement M
 each-spec =

@@ -92,9 +92,10 @@ returns-3 : tie.Need-returns-3
 unfolding finding
 returns-3 c =
     let k = c .before .before in
-    let b = k .before in
-    ( formulas-none _ _ _ _ _ (fits b) (nothing b) (loose-none _ (known k) (c .if2 .taken))
-    , λ _. passed b .each .ensures .1 (nothing b))
+    let b = k .before in (
+      formulas-none _ _ _ _ _ (fits b) (nothing b) (loose-none _ (known k) (c .if2 .taken)),
+      λ _. passed b .each .ensures .1 (nothing b),
+    )
 
 same-length-3 : tie.Need-same-length-3
 same-length-3 c = search needs

@@ -43,15 +43,17 @@ returns-3 c =
 
 part-requires : tie.Need-part-requires
 part-requires c κs =
-    let d = c .before .before .before .before in
-    ( (search needs, search needs, passes _ (d .before .below-in .ensures) (d .if1 .left))
-    , d .before .before .before .pre .1)
+    let d = c .before .before .before .before in (
+      (search needs, search needs, passes _ (d .before .below-in .ensures) (d .if1 .left)),
+      d .before .before .before .pre .1,
+    )
 
 part-requires-2 : tie.Need-part-requires-2
 part-requires-2 c κs =
-    let d = c .before .before .before in
-    ( (search needs, search needs, passes _ (d .before .below-in2 .ensures) (d .if2 .left))
-    , d .before .before .before .before .before .pre .1)
+    let d = c .before .before .before in (
+      (search needs, search needs, passes _ (d .before .below-in2 .ensures) (d .if2 .left)),
+      d .before .before .before .before .before .pre .1,
+    )
 
 both-requires : tie.Need-both-requires
 both-requires c κs = search needs

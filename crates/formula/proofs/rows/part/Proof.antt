@@ -24,10 +24,13 @@ returns : tie.Need-returns
 returns c =
     let p = c .before .before .before .pre in
     let less = below-nat _ _ (p .0 .2) in
-    let e = c .known .ensures ∙ ap (factsAt _) (c .before .natural-in .ensures) in
-    (e ∙ kept-facts (p .1) _ less
-    , ( subst (λ (f : Facts). f .size ≤ 4096) (sym e) (kept-size (p .1) _ less)
-    , subst (λ (f : Facts). f .depth ≤ 64) (sym e) (kept-depth (p .1) _ less)))
+    let e = c .known .ensures ∙ ap (factsAt _) (c .before .natural-in .ensures) in (
+      e ∙ kept-facts (p .1) _ less,
+      (
+        subst (λ (f : Facts). f .size ≤ 4096) (sym e) (kept-size (p .1) _ less),
+        subst (λ (f : Facts). f .depth ≤ 64) (sym e) (kept-depth (p .1) _ less),
+      ),
+    )
 
 pub part-spec : {M : Type 1} → statement M
 part-spec = tie.close (tie.spec natural-in-requires known-requires returns)

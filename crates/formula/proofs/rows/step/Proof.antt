@@ -65,9 +65,10 @@ returns-4 c =
     let e = c .before .before .before .before in
     let d = e .before .before .before .before .before in
     let a = start d .args in
-    let rows = joined (a .schema .now) (a .s) (a .proof .now) in
-    ( row-nothing _ _ (found d) (e .before .before .if1 .left) (e .if2 .left)
-    , λ _. subst (λ (l : List _). Passed rows l (a .r + 1)) (sym (c .before .before .keep .ensures)) (passed-more _ _ _ _ (start d .pre .1) (start d .pre .0 .1) (found d) (e .before .before .if1 .left) (e .if2 .left)))
+    let rows = joined (a .schema .now) (a .s) (a .proof .now) in (
+      row-nothing _ _ (found d) (e .before .before .if1 .left) (e .if2 .left),
+      λ _. subst (λ (l : List _). Passed rows l (a .r + 1)) (sym (c .before .before .keep .ensures)) (passed-more _ _ _ _ (start d .pre .1) (start d .pre .0 .1) (found d) (e .before .before .if1 .left) (e .if2 .left)),
+    )
 
 pub step-spec : {M : Type 1} → statement M
 step-spec =
