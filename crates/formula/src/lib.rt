@@ -1,5 +1,6 @@
 // Formula rows: which are well formed, how large they are, when two agree.
 pub mod compare;
+pub mod rows;
 
 ghost use mathlib.Core.Path.{_≡_};
 ghost use Prim.Native.Nat.{_<_, _≤_, _^_};
@@ -7,8 +8,6 @@ ghost use lib.IntN.{negℤ};
 ghost use Rattle.stab.specs.Basic.{eqZ, nat};
 ghost use Rattle.stab.specs.Formula.{joined};
 ghost use Rattle.formula.specs.Column.{column};
-
-pub mod rows;
 
 // The natural part of column k of row r, schema rows first.
 pub fn natural_in(schema: &[i32], s: usize, proof: &[i32], r: usize, k: usize) -> usize
