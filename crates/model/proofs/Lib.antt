@@ -1,0 +1,4 @@
+pub mod Parts
+pub mod Keys
+pub mod Values
+pub mod Passes

@@ -1,0 +1,180 @@
+-- The laws of the passes that the model check is made of.
+use Prim.Native.Nat.{ℕ, zero, suc, _+_, _-_, _*_, _/_, _≤_, _<_, _^_}
+use native.Mathlib.Omega.{arith}
+use native.Mathlib.Nat.{le-div-iff-mul-le}
+use native.Mathlib.Decide.{decLt}
+use mathlib.Core.Path.{_≡_, refl, sym, _∙_, ap, fun-ext}
+use mathlib.Core.Bool.{Bool, true, false}
+use mathlib.Core.List.{List}
+use mathlib.Core.Option.{Option, none, some}
+use lib.Dec.{leb}
+use lib.IntN.{ℤ, pos, negsuc, negℤ}
+use lib.ListN.{length, getD, take, drop, length-drop}
+use lib.Seq.{take-all, getD-drop}
+use lib.Signed.{leZ}
+use mir.Syntax.{w32}
+use mir.Val.{SFits}
+use borrow.Author.Tests.{leb-true, le-leb}
+use Rattle.stab.specs.Basic.{_and_, nat, below, _otherwise_, scan}
+use Rattle.stab.specs.Formula.{Row, rowAt, joined}
+use Rattle.stab.specs.Model.{Model, pairRefusal, modelRefusal, satisfied, assignment, schemaRow}
+use Rattle.stab.specs.Check.{finding, wholeUnless, holds, rootFits, formulasRefusal, verdict}
+use Rattle.stab.specs.declared.Place.{Place}
+use Rattle.stab.specs.declared.Place.the-variants.{Whole}
+use Rattle.stab.specs.declared.Refusal.{Refusal}
+use Rattle.stab.specs.declared.Refusal.the-variants.{TableTooShort}
+use Rattle.stab.specs.declared.Finding.{Finding}
+use Rattle.stab.specs.declared.Finding.the-variants.{Nothing, Found}
+use Rattle.stab.specs.declared.Verdict.{Verdict}
+use Rattle.stab.specs.declared.Verdict.the-variants.{Accepted, Refused}
+use Rattle.stab.proofs.Bools.{and-left, and-right, same-test, none-unless, unless-none, some-unless, otherwise-first, otherwise-second, otherwise-none, otherwise-some}
+use Rattle.stab.proofs.Trees.{below-nat}
+use Rattle.stab.proofs.Whole.{atom, le-of, of-le, plus-nat}
+use Rattle.formula.proofs.Columns.{joined-schema, joined-proof}
+use Rattle.model.specs.Passes.{tablesRefusal, truthRefusal}
+use Rattle.model.proofs.Parts.{minus-nat, high-is}
+
+-- ---- tests
+
+-- n rows of w numbers fit into l numbers
+pub rows-fit : (w n l : ℕ) → 0 < w → leb n (l / w) ≡ leb (w * n) l
+rows-fit w n l h =
+    same-test _ _
+    (λ e. le-leb (w * n) l (omega (arith, le-div-iff-mul-le h .0 (leb-true n (l / w) e))))
+    (λ e. le-leb n (l / w) (le-div-iff-mul-le h .1 (omega (arith, leb-true (w * n) l e))))
+
+-- an order of whole numbers by their parts
+pub order-is : (a b : ℤ) → leZ a b ≡ leb (nat a + nat (negℤ b)) (nat b + nat (negℤ a))
+order-is a b =
+    same-test _ _
+    (λ e. le-leb (nat a + nat (negℤ b)) (nat b + nat (negℤ a)) (omega (arith, of-le (atom a) (atom b) e, plus-nat a, plus-nat b, minus-nat a, minus-nat b)))
+    (λ e. le-of (atom a) (atom b) (omega (arith, leb-true (nat a + nat (negℤ b)) (nat b + nat (negℤ a)) e, plus-nat a, plus-nat b, minus-nat a, minus-nat b)))
+
+-- n is not over 9999
+pub n-small : (least n : ℤ) → (leZ least n and leZ n (pos 9999)) ≡ true → nat n ≤ 9999
+n-small least n h = leb-true (nat n) 9999 (sym (high-is 9999 n) ∙ and-right (leZ least n) _ h)
+
+-- how far a number of 32 bits can lie below 0
+pub under-small : (z : ℤ) → SFits w32 z → nat (negℤ z) < 2 ^ 32
+unfolding nat
+under-small (pos zero) f = omega arith
+under-small (pos (suc n)) f = omega arith
+under-small (negsuc n) f = omega (arith, f .sfits)
+
+-- ---- refusals of the whole record
+
+module _ (ok : Bool) (why : Refusal) where
+  pub whole-none : ok ≡ true → wholeUnless ok why ≡ none
+  unfolding wholeUnless
+  whole-none h = none-unless ok _ h
+
+  whole-some : ok ≡ false → wholeUnless ok why ≡ some (Refused why Whole)
+  unfolding wholeUnless
+  whole-some h = some-unless ok _ h
+
+  -- the test fails, and its refusal is what is found
+  pub found-last : (r : Finding) → r ≡ Found why Whole → ok ≡ false → finding r ≡ wholeUnless ok why
+  unfolding finding
+  found-last r e h = ap finding e ∙ sym (whole-some h)
+
+  pub found-here : (rest : Option Verdict) (r : Finding) → r ≡ Found why Whole → ok ≡ false → finding r ≡ (wholeUnless ok why otherwise rest)
+  unfolding finding
+  found-here rest r e h = ap finding e ∙ sym (otherwise-some (wholeUnless ok why) rest (Refused why Whole) (whole-some h))
+
+  -- the test passes, and what is found is found later
+  pub found-later : (rest x : Option Verdict) → ok ≡ true → x ≡ rest → x ≡ (wholeUnless ok why otherwise rest)
+  found-later rest x h e = e ∙ sym (otherwise-none (wholeUnless ok why) rest (whole-none h))
+
+-- three numbers at once
+pub same₃ : {B : Type 0} (f : ℤ → ℤ → ℤ → B) {x x′ y y′ z z′ : ℤ} → x ≡ x′ → y ≡ y′ → z ≡ z′ → f x y z ≡ f x′ y′ z′
+same₃ f p q r = λ i. f (p i) (q i) (r i)
+
+-- ---- passes one after the other
+
+pub otherwise-assoc : {A : Type 0} (x y z : Option A) → ((x otherwise y) otherwise z) ≡ (x otherwise (y otherwise z))
+unfolding _otherwise_
+otherwise-assoc none y z = refl
+otherwise-assoc (some a) y z = refl
+
+-- a pass that found something, and one that found nothing
+pub stays : (f : Finding) (x rest : Option Verdict) (why : Refusal) (p : Place) → finding f ≡ x → f ≡ Found why p → finding f ≡ (x otherwise rest)
+unfolding finding
+stays f x rest why p e h = ap finding h ∙ sym (otherwise-some x rest (Refused why p) (sym e ∙ ap finding h))
+
+pub nothing-found : (f : Finding) (x : Option Verdict) → finding f ≡ x → f ≡ Nothing → x ≡ none
+unfolding finding
+nothing-found f x e h = sym e ∙ ap finding h
+
+pub later : (x rest y : Option Verdict) → x ≡ none → y ≡ rest → y ≡ (x otherwise rest)
+later x rest y h e = e ∙ sym (otherwise-none x rest h)
+
+-- ---- the schema rows
+
+-- the rest of a table after s rows, read from row s on
+rest-at : (t : List ℤ) (s r k : ℕ) → s ≤ r → getD (drop (4 * s) t) (4 * (r - s) + k) (pos 0) ≡ getD t (4 * r + k) (pos 0)
+rest-at t s r k h =
+    let e : 4 * s + (4 * (r - s) + k) ≡ 4 * r + k = omega arith in
+    getD-drop (4 * s) t (4 * (r - s) + k) (pos 0) ∙ ap (λ (i : ℕ). getD t i (pos 0)) e
+
+rest-first : (t : List ℤ) (s r : ℕ) → s ≤ r → getD (drop (4 * s) t) (4 * (r - s)) (pos 0) ≡ getD t (4 * r) (pos 0)
+rest-first t s r h =
+    let e : 4 * s + 4 * (r - s) ≡ 4 * r = omega arith in
+    getD-drop (4 * s) t (4 * (r - s)) (pos 0) ∙ ap (λ (i : ℕ). getD t i (pos 0)) e
+
+rest-row : (t : List ℤ) (s r : ℕ) → s ≤ r → rowAt (drop (4 * s) t) (r - s) ≡ rowAt t r
+unfolding rowAt
+rest-row t s r h =
+    λ i. record { kind = rest-first t s r h i; a = rest-at t s r 1 h i; b = rest-at t s r 2 h i; c = rest-at t s r 3 h i }
+
+-- the rows of a table, from its first s rows and the rest of it
+pub joined-rest : (t : List ℤ) (s : ℕ) → joined t s (drop (4 * s) t) ≡ rowAt t
+joined-rest t s = fun-ext (λ r. go r (decLt r s))
+  where
+    go : (r : ℕ) → Dec (r < s) → joined t s (drop (4 * s) t) r ≡ rowAt t r
+    go r (yes h) = joined-schema t s (drop (4 * s) t) r h
+    go r (no h) = joined-proof t s (drop (4 * s) t) r (omega arith) ∙ rest-row t s r (omega arith)
+
+-- the same where the rest is a part of the slice
+pub joined-part : (t : List ℤ) (s : ℕ) → joined t s (take (length t - 4 * s) (drop (4 * s) t)) ≡ rowAt t
+joined-part t s = ap (joined t s) (take-all (length t - 4 * s) (drop (4 * s) t) (omega (arith, length-drop (4 * s) t))) ∙ joined-rest t s
+
+-- ---- what passed
+
+module _ (rows : ℕ → Row) (s : ℕ) (root least : ℤ) (h : formulasRefusal rows s s root least ≡ none) where
+  pub passed-root : nat root < s
+  unfolding formulasRefusal wholeUnless rootFits
+  passed-root = below-nat s root (and-left (below s root) _ (unless-none (rootFits s root least) _ (otherwise-first _ _ h)))
+
+-- ---- the whole check
+
+pub model-is : (M : Model) → modelRefusal M ≡ (tablesRefusal (M .schema) (M .schemaRows) (M .pairs) (M .pairRows) otherwise (formulasRefusal (rowAt (M .schema)) (M .schemaRows) (M .schemaRows) (M .root) (M .least) otherwise (scan (pairRefusal (M .pairs)) (M .pairRows) otherwise truthRefusal (M .schema) (M .root) (M .least) (M .n) (M .pairs) (M .pairRows))))
+unfolding modelRefusal tablesRefusal truthRefusal satisfied assignment schemaRow
+model-is M = sym (otherwise-assoc _ _ _)
+
+module _ (s k : ℕ) (schema pairs : List ℤ) (h : tablesRefusal schema s pairs k ≡ none) where
+  tables-held : (holds schema 4 s and holds pairs 2 k) ≡ true
+  unfolding tablesRefusal wholeUnless
+  tables-held = unless-none _ _ (otherwise-first _ _ h)
+
+  tables-few : (leb s 1024 and leb k 4096) ≡ true
+  unfolding tablesRefusal wholeUnless
+  tables-few = unless-none _ _ (otherwise-second (wholeUnless (holds schema 4 s and holds pairs 2 k) TableTooShort) _ h)
+
+  pub schema-held : 4 * s ≤ length schema
+  unfolding holds
+  schema-held = leb-true (4 * s) (length schema) (and-left _ (holds pairs 2 k) tables-held)
+
+  pub rows-few : s ≤ 1024
+  rows-few = leb-true s 1024 (and-left _ (leb k 4096) tables-few)
+
+  pub pairs-few : k ≤ 4096
+  pairs-few = leb-true k 4096 (and-right (leb s 1024) _ tables-few)
+
+-- the verdict of what was found
+pub accepted-is : (x : Option Verdict) (f : Finding) → finding f ≡ x → f ≡ Nothing → Accepted 0 0 ≡ verdict x (Accepted 0 0)
+unfolding finding verdict
+accepted-is x f e h = ap (λ (y : Option Verdict). verdict y (Accepted 0 0)) (sym (ap finding h) ∙ e)
+
+pub refused-is : (x : Option Verdict) (f : Finding) (why : Refusal) (p : Place) → finding f ≡ x → f ≡ Found why p → Refused why p ≡ verdict x (Accepted 0 0)
+unfolding finding verdict
+refused-is x f why p e h = ap (λ (y : Option Verdict). verdict y (Accepted 0 0)) (sym (ap finding h) ∙ e)

@@ -1,0 +1,46 @@
+use mathlib.Core.Path.{_≡_, _∙_}
+use lib.IntN.{ℤ}
+use mir.Facts.{toZ-ofZ}
+use denote.Ref.{now}
+use borrow.Author.Needs.{needs}
+use Rattle.stab.specs.Check.{finding}
+use Rattle.stab.specs.Model.{Model, modelRefusal, checkModel}
+use Rattle.model.proofs.Passes.{same₃, accepted-is, refused-is}
+use Rattle.model.proofs.check_model.Statement.{statement}
+use Rattle.model.proofs.check_model.Tie as tie
+
+abbrev model : tie.Start → ℤ → ℤ → ℤ → Model
+model c root least n =
+    record { schema = now (c .args .schema); schemaRows = c .args .schema-rows; root = root; least = least; n = n; pairs = now (c .args .pairs); pairRows = c .args .pair-rows }
+
+-- a signed number is kept as bits, and read back from them
+model-known : (c : tie.After-model-pass) →
+    let start = c .before in
+    finding (c .model-pass .result) ≡ modelRefusal (model start (start .args .root) (start .args .least) (start .args .n))
+model-known c =
+    let start = c .before in
+    c .model-pass .ensures
+    ∙ same₃ (λ (r l m : ℤ). modelRefusal (model start r l m)) (toZ-ofZ (start .fits .root)) (toZ-ofZ (start .fits .least)) (toZ-ofZ (start .fits .n))
+
+model-pass-requires : tie.Need-model-pass-requires
+model-pass-requires c κs = search needs
+
+enum-known-found : tie.Need-enum-known-found
+enum-known-found c = search needs
+
+enum-told : tie.Need-enum-told
+enum-told c = search needs
+
+returns : tie.Need-returns
+unfolding checkModel
+returns c =
+    refused-is _ _ _ _ (model-known (c .before .before .before)) (c .before .found .given .1)
+
+returns-2 : tie.Need-returns-2
+unfolding checkModel
+returns-2 c =
+    accepted-is _ _ (model-known (c .before .before)) (c .enum-told .given .1)
+
+pub check-model-spec : {M : Type 1} → statement M
+check-model-spec =
+    tie.close (tie.spec model-pass-requires enum-known-found enum-told returns returns-2)

@@ -1,0 +1,141 @@
+use native.Mathlib.Omega.{arith}
+use mathlib.Core.Path.{_≡_, sym, _∙_, ap, ap₂}
+use mathlib.Core.Option.{none}
+use lib.IntN.{ℤ}
+use mir.Facts.{toZ-ofZ}
+use denote.Ref.{now}
+use borrow.Author.Needs.{needs}
+use Rattle.stab.specs.Basic.{nat, scan}
+use Rattle.stab.specs.Formula.{rowAt}
+use Rattle.stab.specs.Check.{finding, formulasRefusal}
+use Rattle.stab.specs.Model.{Model, pairRefusal}
+use Rattle.formula.specs.Facts.{AllFormed}
+use Rattle.model.specs.Passes.{tablesRefusal, truthRefusal}
+use Rattle.model.proofs.Keys.{scan-sorted}
+use Rattle.model.proofs.Passes.{same₃, stays, nothing-found, later, passed-root, model-is, schema-held, rows-few, pairs-few}
+use Rattle.model.proofs.model_pass.Statement.{statement}
+use Rattle.model.proofs.model_pass.Tie as tie
+
+abbrev model : tie.Start → Model
+model c =
+    record { schema = now (c .args .schema); schemaRows = c .args .schema-rows; root = c .args .root; least = c .args .least; n = c .args .n; pairs = now (c .args .pairs); pairRows = c .args .pair-rows }
+
+-- nothing was found in the tables' sizes, in the formula rows, in the pairs
+tables-passed : (c : tie.After-enum-told) →
+    let a = c .before .before .before .args in
+    tablesRefusal (now (a .schema)) (a .schema-rows) (now (a .pairs)) (a .pair-rows) ≡ none
+tables-passed c = nothing-found _ _ (c .before .before .tables-pass .ensures) (c .enum-told .given .1)
+
+formulas-are : (c : tie.After-formulas-pass) →
+    let start = c .before .before .before .before in
+    finding (c .formulas-pass .result) ≡ formulasRefusal (rowAt (now (start .args .schema))) (start .args .schema-rows) (start .args .schema-rows) (start .args .root) (start .args .least)
+formulas-are c =
+    let start = c .before .before .before .before in
+    c .formulas-pass .ensures .0
+    ∙ ap₂ (formulasRefusal (rowAt (now (start .args .schema))) (start .args .schema-rows) (start .args .schema-rows)) (toZ-ofZ (start .fits .root)) (toZ-ofZ (start .fits .least))
+
+formulas-passed : (c : tie.After-enum-told3) →
+    let a = c .before .before .before .before .before .before .args in
+    formulasRefusal (rowAt (now (a .schema))) (a .schema-rows) (a .schema-rows) (a .root) (a .least) ≡ none
+formulas-passed c = nothing-found _ _ (formulas-are (c .before .before)) (c .enum-told3 .given .1)
+
+all-formed : (c : tie.After-enum-told3) →
+    let a = c .before .before .before .before .before .before .args in
+    AllFormed (rowAt (now (a .schema))) (a .schema-rows)
+all-formed c =
+    c .before .before .formulas-pass .ensures .1 (nothing-found _ _ (c .before .before .formulas-pass .ensures .0) (c .enum-told3 .given .1))
+
+pairs-passed : (c : tie.After-enum-told5) →
+    let a = c .before .before .before .before .before .before .before .before .before .args in
+    scan (pairRefusal (now (a .pairs))) (a .pair-rows) ≡ none
+pairs-passed c = nothing-found _ _ (c .before .before .pairs-pass .ensures) (c .enum-told5 .given .1)
+
+tables-pass-requires : tie.Need-tables-pass-requires
+tables-pass-requires c κs = search needs
+
+enum-told : tie.Need-enum-told
+enum-told c = search needs
+
+enum-told-2 : tie.Need-enum-told-2
+enum-told-2 c = search needs
+
+returns : tie.Need-returns
+returns c =
+    stays _ _ _ _ _ (c .before .before .tables-pass .ensures) (c .enum-told2 .given .1) ∙ sym (model-is (model (c .before .before .before)))
+
+formulas-pass-requires : tie.Need-formulas-pass-requires
+formulas-pass-requires c κs =
+    let e = tables-passed c in
+    (rows-few _ _ _ _ e, schema-held _ _ _ _ e)
+
+enum-told-3 : tie.Need-enum-told-3
+enum-told-3 c = search needs
+
+enum-told-4 : tie.Need-enum-told-4
+enum-told-4 c = search needs
+
+returns-2 : tie.Need-returns-2
+returns-2 c =
+    later _ _ _ (tables-passed (c .before .before .before))
+    (stays _ _ _ _ _ (formulas-are (c .before .before)) (c .enum-told4 .given .1))
+    ∙ sym (model-is (model (c .before .before .before .before .before .before)))
+
+pairs-pass-requires : tie.Need-pairs-pass-requires
+pairs-pass-requires c κs =
+    pairs-few _ _ _ _ (tables-passed (c .before .before .before))
+
+enum-told-5 : tie.Need-enum-told-5
+enum-told-5 c = search needs
+
+enum-told-6 : tie.Need-enum-told-6
+enum-told-6 c = search needs
+
+returns-3 : tie.Need-returns-3
+returns-3 c =
+    later _ _ _ (tables-passed (c .before .before .before .before .before .before))
+    (later _ _ _ (formulas-passed (c .before .before .before))
+    (stays _ _ _ _ _ (c .before .before .pairs-pass .ensures) (c .enum-told6 .given .1)))
+    ∙ sym (model-is (model (c .before .before .before .before .before .before .before .before .before)))
+
+truth-pass-requires : tie.Need-truth-pass-requires
+truth-pass-requires c κs =
+    let start = c .before .before .before .before .before .before .before .before .before in
+    let tables = tables-passed (c .before .before .before .before .before .before) in
+    let formulas = formulas-passed (c .before .before .before) in
+    let root = passed-root _ _ _ _ formulas in
+    let e = ap nat (toZ-ofZ (start .fits .root)) in
+    record {
+      row = omega (arith, e, root, rows-few _ _ _ _ tables);
+      formed = λ r p. all-formed (c .before .before .before) r (omega (arith, e, root));
+      few = pairs-few _ _ _ _ tables;
+      sorted = scan-sorted _ _ (pairs-passed c);
+    }
+
+returns-4 : tie.Need-returns-4
+returns-4 c =
+    let start = c .before .before .before .before .before .before .before .before .before .before in
+    later _ _ _ (tables-passed (c .before .before .before .before .before .before .before))
+    (later _ _ _ (formulas-passed (c .before .before .before .before))
+    (later _ _ _ (pairs-passed (c .before))
+    (c .truth-pass .ensures
+    ∙ same₃ (λ (r l m : ℤ). truthRefusal (now (start .args .schema)) r l m (now (start .args .pairs)) (start .args .pair-rows)) (toZ-ofZ (start .fits .root)) (toZ-ofZ (start .fits .least)) (toZ-ofZ (start .fits .n)))))
+    ∙ sym (model-is (model start))
+
+pub model-pass-spec : {M : Type 1} → statement M
+model-pass-spec =
+    tie.close
+    (tie.spec
+    tables-pass-requires
+    enum-told
+    enum-told-2
+    returns
+    formulas-pass-requires
+    enum-told-3
+    enum-told-4
+    returns-2
+    pairs-pass-requires
+    enum-told-5
+    enum-told-6
+    returns-3
+    truth-pass-requires
+    returns-4)

@@ -1,0 +1,4 @@
+pub mod Index
+pub mod Pairs
+pub mod Reading
+pub mod Passes

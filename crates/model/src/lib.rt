@@ -1,0 +1,366 @@
+// The value of a formula under a list of true pairs, and the model check.
+use stab::Finding;
+use stab::Place;
+use stab::Refusal;
+use stab::Verdict;
+ghost use mathlib.Core.Path.{_≡_};
+ghost use Prim.Native.Nat.{_+_, _*_, _<_, _≤_, _^_};
+ghost use lib.IntN.{pos, negℤ, _+ℤ_, _-ℤ_};
+ghost use mathlib.Core.Bool.{true};
+ghost use mathlib.Core.Option.{none};
+ghost use lib.Signed.{leZ};
+ghost use lib.ListN.{length, getD};
+ghost use Rattle.stab.specs.Basic.{_and_, within, scan};
+ghost use Rattle.stab.specs.Formula.{rowAt, baseOf, tree};
+ghost use Rattle.stab.specs.Meaning.{base, rangeSize, over, value};
+ghost use Rattle.stab.specs.Check.{finding, holds, formulasRefusal};
+ghost use Rattle.stab.specs.declared.Finding.the-variants.{Found};
+ghost use Rattle.stab.specs.declared.Place.the-variants.{Whole};
+ghost use Rattle.stab.specs.Model.{listed, pairInRange, pairFollows, pairRefusal, modelRefusal, checkModel};
+ghost use Rattle.formula.specs.Facts.{AllFormed};
+ghost use Rattle.model.specs.Index.{unbiased, Movable, Reached, ReachedRange};
+ghost use Rattle.model.specs.Pairs.{AllInRange, Sorted, keyAt};
+ghost use Rattle.model.specs.Reading.{Readable, IsLiteral, Iterates, opOf};
+ghost use Rattle.model.specs.Passes.{tablesRefusal, truthRefusal, RootReadable};
+
+// ---- pairs
+
+// What x stands for, and what stands at i in a lent table, added up.
+fn moved(x: usize, t: &[i32], i: usize) -> usize
+    requires { ⌜ Movable x (getD (now t) i (pos 0)) ⌝ }
+    ensures { λ r. ⌜ unbiased r ≡ (unbiased x +ℤ getD (now (t .entry)) i (pos 0)) ⌝ }
+{
+    x + number::natural_at(t, i) - number::under_at(t, i)
+}
+
+// The key of pair k.
+fn key_at(pairs: &[i32], k: usize) -> usize
+    requires { ⌜ (k < 2 ^ 32) × (pairInRange (now pairs) k ≡ true) ⌝ }
+    ensures { λ r. ⌜ r ≡ keyAt (now (pairs .entry)) k ⌝ }
+{
+    number::natural_at(pairs, 2 * k) * 131072 + moved(65536, pairs, 2 * k + 1)
+}
+
+// The pair of a symbol and the index that x stands for is among the first pairs.
+fn lists(pairs: &[i32], count: usize, symbol: usize, x: usize) -> bool
+    requires { ⌜ (count ≤ 4096) × (symbol ≤ 255) × (x < 131072) × Sorted (now pairs) count ⌝ }
+    ensures { λ r. ⌜ r ≡ listed (now (pairs .entry)) count (pos symbol) (unbiased x) ⌝ }
+{
+    let key = symbol * 131072 + x;
+    let mut lo = 0;
+    let mut hi = count;
+    while lo < hi {
+        let mid = lo + (hi - lo) / 2;
+        let there = key_at(pairs, mid);
+        if there == key {
+            return true;
+        }
+        if there < key {
+            lo = mid + 1;
+        } else {
+            hi = mid;
+        }
+    }
+    false
+}
+
+// What stands at i lies in -low .. high.
+fn within_at(t: &[i32], i: usize, low: usize, high: usize) -> bool
+    ensures { λ r. ⌜ r ≡ within (negℤ (pos low)) (pos high) (getD (now (t .entry)) i (pos 0)) ⌝ }
+{
+    if number::under_at(t, i) <= low {
+        return number::natural_at(t, i) <= high;
+    }
+    false
+}
+
+// The symbol and the index of pair k are in range.
+fn pair_in_range(pairs: &[i32], k: usize) -> bool
+    requires { ⌜ k < 2 ^ 32 ⌝ }
+    ensures { λ r. ⌜ r ≡ pairInRange (now (pairs .entry)) k ⌝ }
+{
+    if within_at(pairs, 2 * k, 0, 255) {
+        return within_at(pairs, 2 * k + 1, 29997, 29997);
+    }
+    false
+}
+
+// Pair k stands after the one before it.
+fn pair_follows(pairs: &[i32], k: usize) -> bool
+    requires { ⌜ (k < 2 ^ 32) × AllInRange (now pairs) (k + 1) ⌝ }
+    ensures { λ r. ⌜ r ≡ pairFollows (now (pairs .entry)) k ⌝ }
+{
+    if k == 0 {
+        return true;
+    }
+    key_at(pairs, k - 1) < key_at(pairs, k)
+}
+
+// Pair k is in range and stands after the one before it.
+fn pair_fits(pairs: &[i32], k: usize) -> bool
+    requires { ⌜ (k < 2 ^ 32) × AllInRange (now pairs) k ⌝ }
+    ensures { λ r. ⌜ r ≡ (pairInRange (now (pairs .entry)) k and pairFollows (now (pairs .entry)) k) ⌝ }
+{
+    if pair_in_range(pairs, k) {
+        return pair_follows(pairs, k);
+    }
+    false
+}
+
+// The first of the pairs that is out of order or range.
+fn pairs_pass(pairs: &[i32], count: usize) -> Finding
+    requires { ⌜ count ≤ 4096 ⌝ }
+    ensures { λ r. ⌜ finding r ≡ scan (pairRefusal (now (pairs .entry))) count ⌝ }
+{
+    let mut k = 0;
+    while k < count {
+        if !pair_fits(pairs, k) {
+            return Finding::Found {
+                why: Refusal::Pair,
+                place: Place::At(k),
+            };
+        }
+        k += 1;
+    }
+    Finding::Nothing
+}
+
+// ---- the value of a formula
+
+// What a literal's c is added to, by column b of row f: nothing, n, or what i stands for.
+fn base_of(schema: &[i32], f: usize, n: usize, i: usize) -> usize
+    requires { ⌜ (f < 1024) × (n ≤ 9999) × Reached i ⌝ }
+    ensures { λ r. ⌜ Reached r × (unbiased r ≡ base n (unbiased i) (baseOf (rowAt (now (schema .entry)) f .b))) ⌝ }
+{
+    if number::is_at(schema, 4 * f + 2, 0) {
+        return 65536;
+    }
+    if number::is_at(schema, 4 * f + 2, 1) {
+        return 65536 + n;
+    }
+    i
+}
+
+// The value of row f, a literal, at n and i.
+fn literal_value(schema: &[i32], f: usize, n: usize, i: usize, pairs: &[i32], count: usize) -> bool
+    requires { ⌜ Readable (now schema) f n (now pairs) count × Reached i × IsLiteral (now schema) f ⌝ }
+    ensures { λ r. ⌜ r ≡ value (listed (now (pairs .entry)) count) n (tree (rowAt (now (schema .entry))) f) (unbiased i) ⌝ }
+{
+    let x = moved(base_of(schema, f, n, i), schema, 4 * f + 3);
+    let holds = lists(pairs, count, number::natural_at(schema, 4 * f + 1), x);
+    if number::natural_at(schema, 4 * f) == 2 {
+        return holds;
+    }
+    !holds
+}
+
+// How many i there are from b up to n - c, for the columns of row f, an iteration.
+fn range_size(schema: &[i32], f: usize, n: usize) -> usize
+    requires { ⌜ (f < 1024) × (n ≤ 9999) × Iterates (now schema) f ⌝ }
+    ensures { λ r. ⌜ r ≡ rangeSize (rowAt (now (schema .entry)) f .b) (pos n -ℤ rowAt (now (schema .entry)) f .c) ⌝ }
+{
+    let up = n + 1 + number::under_at(schema, 4 * f + 2) + number::under_at(schema, 4 * f + 3);
+    let down = number::natural_at(schema, 4 * f + 2) + number::natural_at(schema, 4 * f + 3);
+    if up < down { 0 } else { up - down }
+}
+
+// The value of row f at n and i.
+fn formula_value(schema: &[i32], f: usize, n: usize, i: usize, pairs: &[i32], count: usize) -> bool
+    requires { ⌜ Readable (now schema) f n (now pairs) count × Reached i ⌝ }
+    ensures { λ r. ⌜ r ≡ value (listed (now (pairs .entry)) count) n (tree (rowAt (now (schema .entry))) f) (unbiased i) ⌝ }
+{
+    let kind = number::natural_at(schema, 4 * f);
+    if kind < 2 {
+        return kind == 0;
+    }
+    if kind < 4 {
+        return literal_value(schema, f, n, i, pairs, count);
+    }
+    let a = number::natural_at(schema, 4 * f + 1);
+    if 6 <= kind {
+        let first = moved(65536, schema, 4 * f + 2);
+        let left = range_size(schema, f, n);
+        return range_value(schema, a, n, kind == 7, first, left, pairs, count);
+    }
+    let any = kind == 5;
+    let held = formula_value(schema, a, n, i, pairs, count);
+    if held == any {
+        return held;
+    }
+    let b = number::natural_at(schema, 4 * f + 2);
+    formula_value(schema, b, n, i, pairs, count)
+}
+
+// The values of the body at `first` and the `left - 1` numbers after it, joined: by or where `any`, else by and.
+fn range_value(
+    schema: &[i32],
+    body: usize,
+    n: usize,
+    any: bool,
+    first: usize,
+    left: usize,
+    pairs: &[i32],
+    count: usize,
+) -> bool
+    requires { ⌜ Readable (now schema) body n (now pairs) count × ReachedRange first left ⌝ }
+    ensures { λ r. ⌜ r ≡ over (opOf any) (value (listed (now (pairs .entry)) count) n (tree (rowAt (now (schema .entry))) body)) (unbiased first) left ⌝ }
+{
+    if left == 0 {
+        return !any;
+    }
+    if left == 1 {
+        return formula_value(schema, body, n, first, pairs, count);
+    }
+    let half = left / 2;
+    let held = range_value(schema, body, n, any, first, half, pairs, count);
+    if held == any {
+        return held;
+    }
+    range_value(
+        schema,
+        body,
+        n,
+        any,
+        first + half,
+        left - half,
+        pairs,
+        count,
+    )
+}
+
+// ---- the check
+
+// A table holds n rows of w numbers.
+fn holds_rows(t: &[i32], w: usize, n: usize) -> bool
+    requires { ⌜ 0 < w ⌝ }
+    ensures { λ r. ⌜ r ≡ holds (now (t .entry)) w n ⌝ }
+{
+    n <= t.len() / w
+}
+
+// A refusal of the whole record.
+fn whole(why: Refusal) -> Finding
+    ensures { λ r. ⌜ r ≡ Found why Whole ⌝ }
+{
+    Finding::Found {
+        why,
+        place: Place::Whole,
+    }
+}
+
+// Refusals 2 and 5.
+fn tables_pass(schema: &[i32], schema_rows: usize, pairs: &[i32], pair_rows: usize) -> Finding
+    ensures { λ r. ⌜ finding r ≡ tablesRefusal (now (schema .entry)) «schema_rows» (now (pairs .entry)) «pair_rows» ⌝ }
+{
+    if !holds_rows(schema, 4, schema_rows) {
+        return whole(Refusal::TableTooShort);
+    }
+    if !holds_rows(pairs, 2, pair_rows) {
+        return whole(Refusal::TableTooShort);
+    }
+    if 1024 < schema_rows {
+        return whole(Refusal::TooMany);
+    }
+    if 4096 < pair_rows {
+        return whole(Refusal::TooMany);
+    }
+    Finding::Nothing
+}
+
+// Refusals 6, 7, 8 and 6 again, over the schema rows. The rest of the table stands where a proof's rows would.
+fn formulas_pass(schema: &[i32], schema_rows: usize, root: i32, least: i32) -> Finding
+    requires { ⌜ («schema_rows» ≤ 1024) × (4 * «schema_rows» ≤ length (now schema)) ⌝ }
+    ensures { λ r. ⌜ finding r ≡ formulasRefusal (rowAt (now (schema .entry))) «schema_rows» «schema_rows» root least ⌝ }
+    ensures { λ r. ⌜ (formulasRefusal (rowAt (now (schema .entry))) «schema_rows» «schema_rows» root least ≡ none → AllFormed (rowAt (now (schema .entry))) «schema_rows») ⌝ }
+{
+    let mut facts = [0u32; 4096];
+    let end = 4 * schema_rows;
+    formula::rows::formulas(
+        schema,
+        schema_rows,
+        &schema[end..],
+        schema_rows,
+        root,
+        least,
+        &mut facts,
+    )
+}
+
+// n is not below the least value, nor over 9999.
+fn width_fits(least: i32, n: i32) -> bool
+    ensures { λ r. ⌜ r ≡ (leZ least n and leZ n (pos 9999)) ⌝ }
+{
+    if number::natural(least) + number::under(n) <= number::natural(n) + number::under(least) {
+        return number::natural(n) <= 9999;
+    }
+    false
+}
+
+// Refusals 19 and 20, for a record that has passed so far.
+fn truth_pass(
+    schema: &[i32],
+    root: i32,
+    least: i32,
+    n: i32,
+    pairs: &[i32],
+    pair_rows: usize,
+) -> Finding
+    requires { ⌜ RootReadable (now schema) root (now pairs) «pair_rows» ⌝ }
+    ensures { λ r. ⌜ finding r ≡ truthRefusal (now (schema .entry)) root least n (now (pairs .entry)) «pair_rows» ⌝ }
+{
+    if !width_fits(least, n) {
+        return whole(Refusal::Width);
+    }
+    let f = number::natural(root);
+    let m = number::natural(n);
+    if !formula_value(schema, f, m, 65536, pairs, pair_rows) {
+        return whole(Refusal::False);
+    }
+    Finding::Nothing
+}
+
+// What is found first in a record.
+fn model_pass(
+    schema: &[i32],
+    schema_rows: usize,
+    root: i32,
+    least: i32,
+    n: i32,
+    pairs: &[i32],
+    pair_rows: usize,
+) -> Finding
+    ensures { λ r. ⌜ finding r ≡ modelRefusal (record { schema = now (schema .entry); schemaRows = «schema_rows»; root = root; least = least; n = n; pairs = now (pairs .entry); pairRows = «pair_rows» }) ⌝ }
+{
+    let found = tables_pass(schema, schema_rows, pairs, pair_rows);
+    let Finding::Nothing = found else {
+        return found;
+    };
+    let found = formulas_pass(schema, schema_rows, root, least);
+    let Finding::Nothing = found else {
+        return found;
+    };
+    let found = pairs_pass(pairs, pair_rows);
+    let Finding::Nothing = found else {
+        return found;
+    };
+    truth_pass(schema, root, least, n, pairs, pair_rows)
+}
+
+// The model check's answer.
+pub fn check_model(
+    schema: &[i32],
+    schema_rows: usize,
+    root: i32,
+    least: i32,
+    n: i32,
+    pairs: &[i32],
+    pair_rows: usize,
+) -> Verdict
+    ensures { λ r. ⌜ r ≡ checkModel (record { schema = now (schema .entry); schemaRows = «schema_rows»; root = root; least = least; n = n; pairs = now (pairs .entry); pairRows = «pair_rows» }) ⌝ }
+{
+    let found = model_pass(schema, schema_rows, root, least, n, pairs, pair_rows);
+    match found {
+        Finding::Found { why, place } => Verdict::Refused { why, place },
+        Finding::Nothing => Verdict::Accepted { nodes: 0, links: 0 },
+    }
+}
