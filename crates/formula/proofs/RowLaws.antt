@@ -10,7 +10,7 @@ use lib.Dec.{leb, ltb, leb·zero, leb·suc-suc}
 use lib.ListN.{length, getD, set, length-set}
 use lib.Seq.{getD-set-same, getD-set-other}
 use lib.IntN.{ℤ, pos, negsuc, negℤ}
-use lib.Signed.{leZ, ltZ}
+use lib.Signed.{leZ}
 use borrow.Author.Tests.{le-leb, lt-leb, leb-true}
 use Rattle.stab.specs.Basic.{if_then_else_, _and_, _or_, eqZ, within, nat, below, _otherwise_, scan}
 use Rattle.stab.specs.Formula as F
@@ -219,44 +219,41 @@ module _ (x : Formula) {f : Facts} (e : f ≡ factsOf x) where
 
 -- ---- one row, by its kind
 
--- the parts of an and or an or, and of an iteration, where they are smaller rows
+module _ (rows : ℕ → Row) (r : ℕ) (k : Kind) (kind : kindOf (rows r .kind) ≡ k) where
+  pub tree-as : tree rows r ≡ decode r (rows r) k (tree rows)
+  tree-as = tree-is rows r ∙ ap (λ (j : Kind). decode r (rows r) j (tree rows)) kind
+
+  pub formed-as : wellFormed rows r ≡ wellFormedAs rows r (rows r) k
+  unfolding wellFormed
+  formed-as = ap (wellFormedAs rows r (rows r)) kind
+
+  pub ill : wellFormedAs rows r (rows r) k ≡ false → Ill ≡ judged rows r
+  unfolding judged
+  ill h = sym (if-false (wellFormed rows r) _ _ (formed-as ∙ h))
+
+  pub formed-tree : wellFormedAs rows r (rows r) k ≡ true → {f : Facts} → f ≡ factsOf (tree rows r) → Formed f ≡ judged rows r
+  unfolding judged
+  formed-tree h p = ap Formed p ∙ sym (if-true (wellFormed rows r) _ _ (formed-as ∙ h))
+
+  -- the same, by what the row is decoded to
+  pub formed : wellFormedAs rows r (rows r) k ≡ true → {f : Facts} → f ≡ factsOf (decode r (rows r) k (tree rows)) → Formed f ≡ judged rows r
+  formed h p = formed-tree h (p ∙ ap factsOf (sym tree-as))
+
+-- the formula of an and or an or, and of an iteration, where the parts are smaller rows
 module _ (rows : ℕ → Row) (r : ℕ) (o : Op) where
   pub tree-junction : kindOf (rows r .kind) ≡ junction o → below r (rows r .a) ≡ true → below r (rows r .b) ≡ true
       → tree rows r ≡ join o (tree rows (nat (rows r .a))) (tree rows (nat (rows r .b)))
   unfolding decode
   tree-junction kind p q =
-      tree-is rows r
-      ∙ ap (λ (j : Kind). decode r (rows r) j (tree rows)) kind
+      tree-as rows r (junction o) kind
       ∙ ap₂ (join o) (part-of r (tree rows) (rows r .a) p) (part-of r (tree rows) (rows r .b) q)
 
   pub tree-iteration : kindOf (rows r .kind) ≡ iteration o → below r (rows r .a) ≡ true
       → tree rows r ≡ iter o (tree rows (nat (rows r .a))) (rows r .b) (rows r .c)
   unfolding decode
   tree-iteration kind p =
-      tree-is rows r
-      ∙ ap (λ (j : Kind). decode r (rows r) j (tree rows)) kind
+      tree-as rows r (iteration o) kind
       ∙ ap (λ (x : Formula). iter o x (rows r .b) (rows r .c)) (part-of r (tree rows) (rows r .a) p)
-
-module _ (rows : ℕ → Row) (r : ℕ) (k : Kind) (kind : kindOf (rows r .kind) ≡ k) where
-  formed-as : wellFormed rows r ≡ wellFormedAs rows r (rows r) k
-  unfolding wellFormed
-  formed-as = ap (wellFormedAs rows r (rows r)) kind
-
-  pub tree-as : tree rows r ≡ decode r (rows r) k (tree rows)
-  tree-as = tree-is rows r ∙ ap (λ (j : Kind). decode r (rows r) j (tree rows)) kind
-
-  pub ill : wellFormedAs rows r (rows r) k ≡ false → Ill ≡ judged rows r
-  unfolding judged
-  ill h = sym (if-false (wellFormed rows r) _ _ (formed-as ∙ h))
-
-  pub formed : wellFormedAs rows r (rows r) k ≡ true → {f : Facts} → f ≡ factsOf (decode r (rows r) k (tree rows)) → Formed f ≡ judged rows r
-  unfolding judged
-  formed h p = ap Formed (p ∙ ap factsOf (sym tree-as)) ∙ sym (if-true (wellFormed rows r) _ _ (formed-as ∙ h))
-
-  -- the same, for a row whose numbers are known otherwise
-  pub formed-tree : wellFormedAs rows r (rows r) k ≡ true → {f : Facts} → f ≡ factsOf (tree rows r) → Formed f ≡ judged rows r
-  unfolding judged
-  formed-tree h p = ap Formed p ∙ sym (if-true (wellFormed rows r) _ _ (formed-as ∙ h))
 
 -- ---- rows that passed
 

@@ -1,7 +1,7 @@
 -- What the pass over formula rows works out for a row, and what holds of rows that passed.
 use Prim.Native.Nat.{ℕ, _+_, _*_, _<_, _≤_}
 use mathlib.Core.Path.{_≡_}
-use mathlib.Core.Bool.{Bool, true, false}
+use mathlib.Core.Bool.{true}
 use mathlib.Core.List.{List}
 use lib.ListN.{length, getD, set}
 use Rattle.stab.specs.Basic.{if_then_else_}

@@ -86,7 +86,7 @@ fn on_index(schema: &[i32], s: usize, proof: &[i32], r: usize) -> u32
 // ---- what is kept
 
 // The four numbers that are kept for row r.
-fn known(facts: &[u32], r: usize) -> Facts
+pub fn known(facts: &[u32], r: usize) -> Facts
     requires { ⌜ 4 * r + 3 < length (now facts) ⌝ }
     ensures { λ v. ⌜ v ≡ factsAt (now (facts .entry)) r ⌝ }
 {
@@ -332,7 +332,7 @@ fn below(m: usize, z: i32) -> bool
 }
 
 // The root is one of s schema rows, and the least value is 0..9999.
-pub fn root_fits(s: usize, root: i32, least: i32) -> bool
+fn root_fits(s: usize, root: i32, least: i32) -> bool
     ensures { λ v. ⌜ v ≡ rootFits s root least ⌝ }
 {
     if !below(s, root) {
