@@ -4,7 +4,7 @@ use stab::Place;
 use stab::Refusal;
 use stab::Verdict;
 ghost use mathlib.Core.Path.{_≡_};
-ghost use Prim.Native.Nat.{_+_, _*_, _<_, _≤_, _^_};
+ghost use Prim.Native.Nat.{ℕ, _+_, _*_, _<_, _≤_, _^_};
 ghost use lib.IntN.{pos, negℤ, _+ℤ_, _-ℤ_};
 ghost use mathlib.Core.Bool.{true};
 ghost use mathlib.Core.Option.{none};
@@ -16,7 +16,9 @@ ghost use Rattle.stab.specs.Meaning.{base, rangeSize, over, value};
 ghost use Rattle.stab.specs.Check.{finding, holds, formulasRefusal};
 ghost use Rattle.stab.specs.declared.Finding.the-variants.{Found};
 ghost use Rattle.stab.specs.declared.Place.the-variants.{Whole};
+ghost use Rattle.stab.specs.declared.Verdict.the-variants.{Accepted};
 ghost use Rattle.stab.specs.Model.{listed, pairInRange, pairFollows, pairRefusal, modelRefusal, checkModel};
+ghost use Rattle.stab.specs.Refuted.{Irrefutable};
 ghost use Rattle.formula.specs.Facts.{AllFormed};
 ghost use Rattle.model.specs.Index.{unbiased, Movable, Reached, ReachedRange};
 ghost use Rattle.model.specs.Pairs.{AllInRange, Sorted, keyAt};
@@ -346,7 +348,7 @@ fn model_pass(
     truth_pass(schema, root, least, n, pairs, pair_rows)
 }
 
-// The model check's answer.
+// The model check's answer. Where it accepts, no tableau of the same schema rows, root and least value is accepted.
 pub fn check_model(
     schema: &[i32],
     schema_rows: usize,
@@ -357,6 +359,7 @@ pub fn check_model(
     pair_rows: usize,
 ) -> Verdict
     ensures { λ r. ⌜ r ≡ checkModel (record { schema = now (schema .entry); schemaRows = «schema_rows»; root = root; least = least; n = n; pairs = now (pairs .entry); pairRows = «pair_rows» }) ⌝ }
+    ensures { λ r. ⌜ ((nodes links : ℕ) → r ≡ Accepted nodes links → Irrefutable (now (schema .entry)) «schema_rows» root least) ⌝ }
 {
     let found = model_pass(schema, schema_rows, root, least, n, pairs, pair_rows);
     match found {

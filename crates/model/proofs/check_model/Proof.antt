@@ -1,9 +1,14 @@
-use mathlib.Core.Path.{_≡_, _∙_}
+use Prim.Native.Nat.{ℕ}
+use mathlib.Core.Path.{_≡_, sym, _∙_}
 use lib.IntN.{ℤ}
 use mir.Facts.{toZ-ofZ}
 use denote.Ref.{now}
 use borrow.Author.Needs.{needs}
 use Rattle.stab.specs.Check.{finding}
+use Rattle.stab.specs.Refuted.{Irrefutable}
+use Rattle.stab.specs.declared.Verdict.{Verdict}
+use Rattle.stab.specs.declared.Verdict.the-variants.{Accepted}
+use Rattle.stab.proofs.Soundness.{no-model}
 use Rattle.stab.specs.Model.{Model, modelRefusal, checkModel}
 use Rattle.model.proofs.Passes.{same₃, accepted-is, refused-is}
 use Rattle.model.proofs.check_model.Statement.{statement}
@@ -22,6 +27,12 @@ model-known c =
     c .model-pass .ensures
     ∙ same₃ (λ (r l m : ℤ). modelRefusal (model start r l m)) (toZ-ofZ (start .fits .root)) (toZ-ofZ (start .fits .least)) (toZ-ofZ (start .fits .n))
 
+-- the second clause follows from the first
+both : (c : tie.Start) (v : Verdict) →
+    let M = model c (c .args .root) (c .args .least) (c .args .n) in
+    v ≡ checkModel M → (v ≡ checkModel M) × ((nodes links : ℕ) → v ≡ Accepted nodes links → Irrefutable (M .schema) (M .schemaRows) (M .root) (M .least))
+both c v e = (e, λ nodes links a. no-model (model c (c .args .root) (c .args .least) (c .args .n)) nodes links (sym e ∙ a))
+
 model-pass-requires : tie.Need-model-pass-requires
 model-pass-requires c κs = search needs
 
@@ -34,12 +45,12 @@ enum-told c = search needs
 returns : tie.Need-returns
 unfolding checkModel
 returns c =
-    refused-is _ _ _ _ (model-known (c .before .before .before)) (c .before .found .given .1)
+    both (c .before .before .before .before) _ (refused-is _ _ _ _ (model-known (c .before .before .before)) (c .before .found .given .1))
 
 returns-2 : tie.Need-returns-2
 unfolding checkModel
 returns-2 c =
-    accepted-is _ _ (model-known (c .before .before)) (c .enum-told .given .1)
+    both (c .before .before .before) _ (accepted-is _ _ (model-known (c .before .before)) (c .enum-told .given .1))
 
 pub check-model-spec : {M : Type 1} → statement M
 check-model-spec =
