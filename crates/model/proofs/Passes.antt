@@ -28,6 +28,7 @@ use Rattle.stab.specs.declared.Finding.the-variants.{Nothing, Found}
 use Rattle.stab.specs.declared.Verdict.{Verdict}
 use Rattle.stab.specs.declared.Verdict.the-variants.{Accepted, Refused}
 use Rattle.stab.proofs.Bools.{and-left, and-right, same-test, none-unless, unless-none, some-unless, otherwise-first, otherwise-second, otherwise-none, otherwise-some}
+use Rattle.stab.proofs.Findings.{otherwise-assoc}
 use Rattle.stab.proofs.Trees.{below-nat}
 use Rattle.stab.proofs.Whole.{atom, le-of, of-le, plus-nat}
 use Rattle.formula.proofs.Columns.{joined-schema, joined-proof}
@@ -35,13 +36,6 @@ use Rattle.model.specs.Passes.{tablesRefusal, truthRefusal}
 use Rattle.model.proofs.Parts.{minus-nat, high-is}
 
 -- ---- tests
-
--- n rows of w numbers fit into l numbers
-pub rows-fit : (w n l : ℕ) → 0 < w → leb n (l / w) ≡ leb (w * n) l
-rows-fit w n l h =
-    same-test _ _
-    (λ e. le-leb (w * n) l (omega (arith, le-div-iff-mul-le h .0 (leb-true n (l / w) e))))
-    (λ e. le-leb n (l / w) (le-div-iff-mul-le h .1 (omega (arith, leb-true (w * n) l e))))
 
 -- an order of whole numbers by their parts
 pub order-is : (a b : ℤ) → leZ a b ≡ leb (nat a + nat (negℤ b)) (nat b + nat (negℤ a))
@@ -88,25 +82,6 @@ module _ (ok : Bool) (why : Refusal) where
 -- three numbers at once
 pub same₃ : {B : Type 0} (f : ℤ → ℤ → ℤ → B) {x x′ y y′ z z′ : ℤ} → x ≡ x′ → y ≡ y′ → z ≡ z′ → f x y z ≡ f x′ y′ z′
 same₃ f p q r = λ i. f (p i) (q i) (r i)
-
--- ---- passes one after the other
-
-pub otherwise-assoc : {A : Type 0} (x y z : Option A) → ((x otherwise y) otherwise z) ≡ (x otherwise (y otherwise z))
-unfolding _otherwise_
-otherwise-assoc none y z = refl
-otherwise-assoc (some a) y z = refl
-
--- a pass that found something, and one that found nothing
-pub stays : (f : Finding) (x rest : Option Verdict) (why : Refusal) (p : Place) → finding f ≡ x → f ≡ Found why p → finding f ≡ (x otherwise rest)
-unfolding finding
-stays f x rest why p e h = ap finding h ∙ sym (otherwise-some x rest (Refused why p) (sym e ∙ ap finding h))
-
-pub nothing-found : (f : Finding) (x : Option Verdict) → finding f ≡ x → f ≡ Nothing → x ≡ none
-unfolding finding
-nothing-found f x e h = sym e ∙ ap finding h
-
-pub later : (x rest y : Option Verdict) → x ≡ none → y ≡ rest → y ≡ (x otherwise rest)
-later x rest y h e = e ∙ sym (otherwise-none x rest h)
 
 -- ---- the schema rows
 

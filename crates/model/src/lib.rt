@@ -13,7 +13,7 @@ ghost use lib.ListN.{length, getD};
 ghost use Rattle.stab.specs.Basic.{_and_, within, scan};
 ghost use Rattle.stab.specs.Formula.{rowAt, baseOf, tree};
 ghost use Rattle.stab.specs.Meaning.{base, rangeSize, over, value};
-ghost use Rattle.stab.specs.Check.{finding, holds, formulasRefusal};
+ghost use Rattle.stab.specs.Check.{finding, formulasRefusal};
 ghost use Rattle.stab.specs.declared.Finding.the-variants.{Found};
 ghost use Rattle.stab.specs.declared.Place.the-variants.{Whole};
 ghost use Rattle.stab.specs.declared.Verdict.the-variants.{Accepted};
@@ -232,14 +232,6 @@ fn range_value(
 
 // ---- the check
 
-// A table holds n rows of w numbers.
-fn holds_rows(t: &[i32], w: usize, n: usize) -> bool
-    requires { ⌜ 0 < w ⌝ }
-    ensures { λ r. ⌜ r ≡ holds (now (t .entry)) w n ⌝ }
-{
-    n <= t.len() / w
-}
-
 // A refusal of the whole record.
 fn whole(why: Refusal) -> Finding
     ensures { λ r. ⌜ r ≡ Found why Whole ⌝ }
@@ -254,10 +246,10 @@ fn whole(why: Refusal) -> Finding
 fn tables_pass(schema: &[i32], schema_rows: usize, pairs: &[i32], pair_rows: usize) -> Finding
     ensures { λ r. ⌜ finding r ≡ tablesRefusal (now (schema .entry)) «schema_rows» (now (pairs .entry)) «pair_rows» ⌝ }
 {
-    if !holds_rows(schema, 4, schema_rows) {
+    if !number::holds(schema, 4, schema_rows) {
         return whole(Refusal::TableTooShort);
     }
-    if !holds_rows(pairs, 2, pair_rows) {
+    if !number::holds(pairs, 2, pair_rows) {
         return whole(Refusal::TableTooShort);
     }
     if 1024 < schema_rows {

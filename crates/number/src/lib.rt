@@ -3,7 +3,9 @@
 ghost use mathlib.Core.Path.{_≡_};
 ghost use lib.ListN.{getD};
 ghost use lib.IntN.{pos, negsuc, negℤ, _-ℤ_};
+ghost use Prim.Native.Nat.{_<_};
 ghost use Rattle.stab.specs.Basic.{eqZ, nat};
+ghost use Rattle.stab.specs.Check.{holds as tableHolds};
 
 // What stands at i in a lent table, and 0 past its end.
 pub fn at(t: &[i32], i: usize) -> i32
@@ -66,4 +68,12 @@ pub fn same_at(t: &[i32], i: usize, u: &[i32], j: usize) -> bool
     ensures { λ r. ⌜ r ≡ eqZ (getD (now (t .entry)) i (pos 0)) (getD (now (u .entry)) j (pos 0)) ⌝ }
 {
     equal(at(t, i), at(u, j))
+}
+
+// A table holds n rows of w numbers.
+pub fn holds(t: &[i32], w: usize, n: usize) -> bool
+    requires { ⌜ 0 < w ⌝ }
+    ensures { λ r. ⌜ r ≡ tableHolds (now (t .entry)) w n ⌝ }
+{
+    n <= t.len() / w
 }

@@ -12,7 +12,8 @@ use Rattle.stab.specs.Model.{Model, pairRefusal}
 use Rattle.formula.specs.Facts.{AllFormed}
 use Rattle.model.specs.Passes.{tablesRefusal, truthRefusal}
 use Rattle.model.proofs.Keys.{scan-sorted}
-use Rattle.model.proofs.Passes.{same₃, stays, nothing-found, later, passed-root, model-is, schema-held, rows-few, pairs-few}
+use Rattle.stab.proofs.Findings.{stays, nothing-found, later}
+use Rattle.model.proofs.Passes.{same₃, passed-root, model-is, schema-held, rows-few, pairs-few}
 use Rattle.model.proofs.model_pass.Statement.{statement}
 use Rattle.model.proofs.model_pass.Tie as tie
 

@@ -11,8 +11,8 @@ use Rattle.model.proofs.Passes.{whole-none, found-last, found-here, fou
 use Rattle.model.proofs.tables_pass.Statement.{statement}
 use Rattle.model.proofs.tables_pass.Tie as tie
 
-holds-rows-requires : tie.Need-holds-rows-requires
-holds-rows-requires c κs = search needs
+holds-requires : tie.Need-holds-requires
+holds-requires c κs = search needs
 
 whole-requires : tie.Need-whole-requires
 whole-requires c κs = search needs
@@ -23,22 +23,22 @@ held : (c : tie.Else2) →
     (holds (now (a .schema)) 4 (a .schema-rows) and holds (now (a .pairs)) 2 (a .pair-rows)) ≡ true
 held c =
     and-both _ _
-    (sym (c .before .before .before .holds-rows .ensures) ∙ true-of-not _ (c .before .before .if1 .left))
-    (sym (c .before .holds-rows2 .ensures) ∙ true-of-not _ (c .if2 .left))
+    (sym (c .before .before .before .holds .ensures) ∙ true-of-not _ (c .before .before .if1 .left))
+    (sym (c .before .holds2 .ensures) ∙ true-of-not _ (c .if2 .left))
 
 returns : tie.Need-returns
 unfolding tablesRefusal
-returns c = found-here _ _ _ _ (c .whole .ensures) (and-first-false _ _ (sym (c .before .before .holds-rows .ensures) ∙ false-of-not _ (c .before .if1 .taken)))
+returns c = found-here _ _ _ _ (c .whole .ensures) (and-first-false _ _ (sym (c .before .before .holds .ensures) ∙ false-of-not _ (c .before .if1 .taken)))
 
-holds-rows-requires-2 : tie.Need-holds-rows-requires-2
-holds-rows-requires-2 c κs = search needs
+holds-requires-2 : tie.Need-holds-requires-2
+holds-requires-2 c κs = search needs
 
 whole-requires-2 : tie.Need-whole-requires-2
 whole-requires-2 c κs = search needs
 
 returns-2 : tie.Need-returns-2
 unfolding tablesRefusal
-returns-2 c = found-here _ _ _ _ (c .whole2 .ensures) (and-second-false _ _ (sym (c .before .before .holds-rows2 .ensures) ∙ false-of-not _ (c .before .if2 .taken)))
+returns-2 c = found-here _ _ _ _ (c .whole2 .ensures) (and-second-false _ _ (sym (c .before .before .holds2 .ensures) ∙ false-of-not _ (c .before .if2 .taken)))
 
 whole-requires-3 : tie.Need-whole-requires-3
 whole-requires-3 c κs = search needs
@@ -62,10 +62,10 @@ pub tables-pass-spec : {M : Type 1} → statement M
 tables-pass-spec =
     tie.close
     (tie.spec
-    holds-rows-requires
+    holds-requires
     whole-requires
     returns
-    holds-rows-requires-2
+    holds-requires-2
     whole-requires-2
     returns-2
     whole-requires-3

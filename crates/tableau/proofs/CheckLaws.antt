@@ -1,0 +1,74 @@
+-- Laws of the check's passes, one after the other.
+use Prim.Native.Nat.{ℕ, _≤_, _<_}
+use mathlib.Core.Path.{_≡_, refl, sym, _∙_, ap}
+use mathlib.Core.Bool.{Bool, true, false, not, false≢true}
+use mathlib.Core.Option.{Option, none, some, Option·some-ne-none}
+use borrow.Author.Tests.{not-true, not-false, lt-ltb, le-ltb}
+use lib.Dec.{ltb}
+use lib.IntN.{pos}
+use Rattle.stab.specs.Basic.{_and_, within, below, _otherwise_, scan}
+use Rattle.stab.specs.Node.{Tableau, setFits, parentFits}
+use Rattle.stab.specs.Check.{finding, wholeUnless, atUnless, rootFits, formulasRefusal, setRefusal, parentRefusal}
+use Rattle.stab.specs.declared.Place.{Place}
+use Rattle.stab.specs.declared.Place.the-variants.{Whole}
+use Rattle.stab.specs.declared.Refusal.{Refusal}
+use Rattle.stab.specs.declared.Finding.{Finding}
+use Rattle.stab.specs.declared.Finding.the-variants.{Found}
+use Rattle.stab.specs.declared.Verdict.{Verdict}
+use Rattle.stab.specs.declared.Verdict.the-variants.{Refused}
+use Rattle.stab.proofs.Bools.{and-left, and-right, some-unless, none-unless, unless-none, otherwise-some, otherwise-first, otherwise-second}
+use Rattle.stab.proofs.Scans.{none-scan}
+use Rattle.tableau.specs.Passes.{rowsRefusal, nodesRefusal}
+
+-- ---- `if !r`: r is the answer to t
+
+pub asked-false : {r t : Bool} → r ≡ t → not r ≡ true → t ≡ false
+asked-false {r} {t} e h = sym e ∙ not-true r h
+
+pub asked-true : {r t : Bool} → r ≡ t → not r ≡ false → t ≡ true
+asked-true {r} {t} e h = sym e ∙ not-false r h
+
+-- a conjunction whose first part passes is the rest of it
+pub and-next : (a b : Bool) → a ≡ true → (a and b) ≡ b
+unfolding _and_
+and-next true b h = refl
+and-next false b h = absurd (false≢true h)
+
+-- ---- findings
+
+pub whole-found : (t : Bool) (why : Refusal) (rest : Option Verdict) → t ≡ false → finding (Found why Whole) ≡ (wholeUnless t why otherwise rest)
+unfolding finding wholeUnless
+whole-found t why rest h = sym (otherwise-some (wholeUnless t why) rest (Refused why Whole) (some-unless t (Refused why Whole) h))
+
+pub whole-passes : (t : Bool) (why : Refusal) → t ≡ true → wholeUnless t why ≡ none
+unfolding wholeUnless
+whole-passes t why h = none-unless t (Refused why Whole) h
+
+-- what was found is not nothing
+pub found-some : {X : Type 0} (f : Finding) (why : Refusal) (p : Place) → f ≡ Found why p → finding f ≡ none → X
+unfolding finding
+found-some f why p e h = absurd (Option·some-ne-none (Refused why p) (sym (ap finding e) ∙ h))
+
+-- ---- what the passes leave where they find nothing
+
+module _ (T : Tableau) where
+  pub least-fits : rowsRefusal T ≡ none → within (pos 0) (pos 9999) (T .least) ≡ true
+  unfolding rowsRefusal formulasRefusal rootFits wholeUnless
+  least-fits h =
+      and-right (below (T .schemaRows) (T .root)) _ (unless-none (rootFits (T .schemaRows) (T .root) (T .least)) _ (otherwise-first _ _ h))
+
+  pub nodes-sets : nodesRefusal T ≡ none → scan (setRefusal T) (T .nodeRows) ≡ none
+  unfolding nodesRefusal
+  nodes-sets h = otherwise-first _ _ h
+
+  pub nodes-parents : nodesRefusal T ≡ none → scan (parentRefusal T) (T .nodeRows) ≡ none
+  unfolding nodesRefusal
+  nodes-parents h = otherwise-second _ _ (otherwise-second (scan (setRefusal T) (T .nodeRows)) _ h)
+
+  pub set-fits : nodesRefusal T ≡ none → (j : ℕ) → j < T .nodeRows → setFits T j ≡ true
+  unfolding setRefusal atUnless
+  set-fits h j l = and-left _ _ (unless-none _ _ (none-scan (setRefusal T) (T .nodeRows) (nodes-sets h) j l))
+
+  pub parent-fits : nodesRefusal T ≡ none → (j : ℕ) → j < T .nodeRows → parentFits T j ≡ true
+  unfolding parentRefusal atUnless
+  parent-fits h j l = unless-none _ _ (none-scan (parentRefusal T) (T .nodeRows) (nodes-parents h) j l)

@@ -1,0 +1,75 @@
+-- A whole number by its natural part and its distance below 0, as code reads it.
+use Prim.Native.Nat.{ℕ, zero, suc, _<_, _≤_}
+use native.Mathlib.Omega.{arith}
+use mathlib.Core.Path.{_≡_, refl, sym, _∙_, ap}
+use mathlib.Core.Bool.{true, false}
+use lib.Dec.{ltb, eqb}
+use lib.IntN.{ℤ, pos, negsuc, negℤ}
+use lib.Signed.{leZ, ltZ}
+use borrow.Author.Tests.{le-leb}
+use Rattle.stab.specs.Basic.{eqZ, nat, within}
+use Rattle.stab.proofs.Bools.{and-left, and-right}
+use Rattle.stab.proofs.Whole.{atom, num, of-le, nat-pos, plus-nat, nonneg-minus}
+
+pub at-least-0 : (z : ℤ) → nat (negℤ z) ≤ 0 → leZ (pos 0) z ≡ true
+unfolding nat
+at-least-0 (pos n) h = le-leb 0 n (omega arith)
+at-least-0 (negsuc n) h = absurd (omega arith)
+
+pub below-0 : (z : ℤ) → 0 < nat (negℤ z) → leZ (pos 0) z ≡ false
+unfolding nat
+below-0 (pos zero) h = absurd (omega arith)
+below-0 (pos (suc n)) h = absurd (omega arith)
+below-0 (negsuc n) h = refl
+
+-- a number at least 0 is its natural part
+pub is-natural : (z : ℤ) → nat (negℤ z) ≤ 0 → pos (nat z) ≡ z
+unfolding nat
+is-natural (pos n) h = refl
+is-natural (negsuc n) h = absurd (omega arith)
+
+pub negative-less : (z : ℤ) (n : ℕ) → 0 < nat (negℤ z) → true ≡ ltZ z (pos n)
+unfolding nat
+negative-less (pos zero) n h = absurd (omega arith)
+negative-less (pos (suc k)) n h = absurd (omega arith)
+negative-less (negsuc k) n h = refl
+
+pub natural-less : (z : ℤ) (n : ℕ) → nat (negℤ z) ≤ 0 → ltb (nat z) n ≡ ltZ z (pos n)
+natural-less z n h = ap (λ (x : ℤ). ltZ x (pos n)) (is-natural z h)
+
+pub negative-differs : (z : ℤ) (n : ℕ) → 0 < nat (negℤ z) → false ≡ eqZ (pos n) z
+unfolding nat eqZ
+negative-differs (pos zero) n h = absurd (omega arith)
+negative-differs (pos (suc k)) n h = absurd (omega arith)
+negative-differs (negsuc k) n h = refl
+
+pub natural-same : (z : ℤ) (n : ℕ) → nat (negℤ z) ≤ 0 → eqb n (nat z) ≡ eqZ (pos n) z
+unfolding eqZ
+natural-same z n h = ap (eqZ (pos n)) (is-natural z h)
+
+-- ---- when a number is the natural number n
+
+pub natural-of : (z : ℤ) (n : ℕ) → z ≡ pos n → nat z ≡ n
+unfolding nat
+natural-of z n e = ap nat e
+
+under-pos : (n : ℕ) → nat (negℤ (pos n)) ≡ 0
+unfolding nat
+under-pos zero = refl
+under-pos (suc n) = refl
+
+pub under-of : (z : ℤ) (n : ℕ) → z ≡ pos n → nat (negℤ z) ≡ 0
+under-of z n e = ap (λ (x : ℤ). nat (negℤ x)) e ∙ under-pos n
+
+pub number-is : (z : ℤ) (n : ℕ) → nat (negℤ z) ≤ 0 → nat z ≡ n → z ≡ pos n
+number-is z n h e = sym (is-natural z h) ∙ ap pos e
+
+-- a number in 0..n
+pub within-natural : (n : ℕ) (z : ℤ) → within (pos 0) (pos n) z ≡ true → pos (nat z) ≡ z
+unfolding within
+within-natural n z h = nat-pos z (and-left _ _ h)
+
+pub within-most : (n : ℕ) (z : ℤ) → within (pos 0) (pos n) z ≡ true → nat z ≤ n
+unfolding within
+within-most n z h =
+    omega (arith, of-le (atom z) (num n) (and-right (leZ (pos 0) z) _ h), nonneg-minus z (and-left _ _ h), plus-nat z)

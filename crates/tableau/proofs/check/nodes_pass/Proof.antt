@@ -1,0 +1,91 @@
+use native.Mathlib.Omega.{arith}
+use mathlib.Core.Path.{_≡_, refl, sym, _∙_, ap}
+use mathlib.Core.Option.{none}
+use lib.IntN.{ℤ}
+use lib.Dec.{ltb}
+use mir.Facts.{toZ-ofZ}
+use denote.Ref.{now}
+use borrow.Author.Needs.{needs}
+use borrow.Author.Tests.{lt-ltb, le-ltb}
+use Rattle.stab.specs.Basic.{scan}
+use Rattle.stab.specs.Node.{Tableau}
+use Rattle.stab.specs.Check.{finding, setRefusal, parentRefusal}
+use Rattle.stab.specs.declared.Refusal.the-variants.{Parent}
+use Rattle.stab.proofs.Findings.{stays, nothing-found, later}
+use Rattle.tableau.specs.Work.{tableau}
+use Rattle.tableau.specs.Passes.{nodesRefusal}
+use Rattle.tableau.proofs.SetRefusals.{sets-known, set-within}
+use Rattle.tableau.proofs.CheckLaws.{whole-found, whole-passes}
+use Rattle.tableau.proofs.check.nodes_pass.Statement.{statement}
+use Rattle.tableau.proofs.check.nodes_pass.Tie as tie
+
+-- the lent tables
+abbrev lent : tie.Start → ℤ → Tableau
+lent c root =
+    let a = c .args in
+    tableau (now (a .schema)) (a .s) (now (a .proof)) (a .p) root (a .least) (now (a .nodes)) (a .k) (now (a .members)) (a .m)
+
+add-sets : tie.Need-add-sets
+add-sets c = search needs
+
+sets-requires : tie.Need-sets-requires
+sets-requires c κs = search needs
+
+-- what the pass over sets found
+sets-found : (c : tie.After-sets) → finding (c .sets .result) ≡ scan (setRefusal (lent (c .before .before) (c .before .before .args .root))) (c .before .before .args .k)
+sets-found c =
+    let a = c .before .before .args in
+    c .sets .ensures (now (a .schema)) (a .s) (now (a .proof)) (a .p) (a .root) (a .least) refl (c .before .before .pre .1)
+
+enum-told : tie.Need-enum-told
+enum-told c = search needs
+
+-- it found nothing
+sets-passed : (c : tie.After-enum-told) →
+    let start = c .before .before .before .before in
+    scan (setRefusal (lent start (start .args .root))) (start .args .k) ≡ none
+sets-passed c = nothing-found _ _ (sets-found (c .before .before)) (c .enum-told .given .1)
+
+enum-told-2 : tie.Need-enum-told-2
+enum-told-2 c = search needs
+
+returns : tie.Need-returns
+unfolding nodesRefusal tableau
+returns c = stays _ _ _ _ _ (sets-found (c .before .before)) (c .enum-told2 .given .1)
+
+returns-2 : tie.Need-returns-2
+unfolding nodesRefusal tableau
+returns-2 c =
+    let k = c .before .before .before .before .before .args .k in
+    later _ _ _ (sets-passed (c .before)) (whole-found (ltb 0 k) Parent _ (le-ltb 0 k (omega arith)))
+
+parents-requires : tie.Need-parents-requires
+unfolding tableau
+parents-requires c κs =
+    let start = c .before .before .before .before .before in (
+      omega (arith, start .pre .0 .2),
+      λ j l. set-within (lent start (start .args .root)) j (sets-known (lent start (start .args .root)) (start .args .k) (sets-passed (c .before)) j l) (start .pre .0 .3),
+    )
+
+returns-3 : tie.Need-returns-3
+unfolding nodesRefusal tableau
+returns-3 c =
+    let start = c .before .before .before .before .before .before in
+    let a = start .args in
+    later _ _ _ (sets-passed (c .before .before))
+    (later _ _ _ (whole-passes (ltb 0 (a .k)) Parent (lt-ltb 0 (a .k) (omega arith)))
+    (c .parents .ensures (now (a .schema)) (a .s) (now (a .proof)) (a .p) (a .least) (a .m)
+    ∙ ap (λ (r : ℤ). scan (parentRefusal (lent start r)) (a .k)) (toZ-ofZ (start .fits .root))))
+
+pub nodes-pass-spec : {M : Type 1} → statement M
+nodes-pass-spec =
+    tie.close
+    (tie.spec
+    add-sets
+    sets-requires
+    enum-told
+    enum-told-2
+    returns
+    returns-2
+    parents-requires
+    returns-3)

@@ -1,0 +1,131 @@
+// The check of a whole record.
+use stab::Finding;
+use stab::Place;
+use stab::Refusal;
+ghost use mathlib.Core.Path.{_≡_};
+ghost use Prim.Native.Nat.{_+_, _*_, _≤_};
+ghost use mathlib.Core.Option.{none};
+ghost use lib.Dec.{leb};
+ghost use lib.ListN.{length};
+ghost use Rattle.stab.specs.Basic.{_and_, _otherwise_};
+ghost use Rattle.stab.specs.Formula.{joined};
+ghost use Rattle.stab.specs.Check.{finding, holds};
+ghost use Rattle.formula.specs.Facts.{AllKnown};
+ghost use Rattle.tableau.specs.Work.{tableau};
+ghost use Rattle.tableau.specs.Ready.{Ready};
+ghost use Rattle.tableau.specs.Passes.{rowsRefusal, nodesRefusal};
+
+// The tables hold what their counts say.
+fn hold(
+    schema: &[i32],
+    s: usize,
+    proof: &[i32],
+    p: usize,
+    nodes: &[i32],
+    k: usize,
+    members: &[i32],
+    m: usize,
+) -> bool
+    ensures { λ r. ⌜ r ≡ (holds (now (schema .entry)) 4 s and holds (now (proof .entry)) 4 p and holds (now (nodes .entry)) 9 k and holds (now (members .entry)) 1 m) ⌝ }
+{
+    if !number::holds(schema, 4, s) {
+        return false;
+    }
+    if !number::holds(proof, 4, p) {
+        return false;
+    }
+    if !number::holds(nodes, 9, k) {
+        return false;
+    }
+    number::holds(members, 1, m)
+}
+
+// The counts are within the limits.
+fn few(s: usize, p: usize, k: usize, m: usize) -> bool
+    ensures { λ r. ⌜ r ≡ (leb (s + p) 1024 and leb k 1024 and leb m 8192) ⌝ }
+{
+    if 1024 < s {
+        return false;
+    }
+    if 1024 - s < p {
+        return false;
+    }
+    if 1024 < k {
+        return false;
+    }
+    m <= 8192
+}
+
+// Refusals 9 and 10: sets, then that there is a node, then parents.
+fn nodes_pass(
+    schema: &[i32],
+    s: usize,
+    proof: &[i32],
+    p: usize,
+    facts: &[u32],
+    root: i32,
+    least: i32,
+    nodes: &[i32],
+    k: usize,
+    members: &[i32],
+    m: usize,
+) -> Finding
+    requires { ⌜ (s + p ≤ 1024) × (4 * (s + p) ≤ length (now facts)) × (k ≤ 1024) × (m ≤ length (now members)) ⌝ }
+    requires { ⌜ AllKnown (joined (now schema) s (now proof)) (now facts) (s + p) ⌝ }
+    ensures { λ r. ⌜ finding r ≡ nodesRefusal (tableau (now (schema .entry)) s (now (proof .entry)) p root least (now (nodes .entry)) k (now (members .entry)) m) ⌝ }
+{
+    let found = crate::sets::sets(facts, s + p, nodes, k, members, m);
+    let Finding::Nothing = found else {
+        return found;
+    };
+    if k == 0 {
+        return Finding::Found {
+            why: Refusal::Parent,
+            place: Place::Whole,
+        };
+    }
+    crate::parents::parents(nodes, k, members, root)
+}
+
+// Refusals 6 to 10. Where nothing is found, all is ready for single steps to be judged.
+fn ready(
+    schema: &[i32],
+    s: usize,
+    proof: &[i32],
+    p: usize,
+    facts: &mut [u32],
+    root: i32,
+    least: i32,
+    nodes: &[i32],
+    k: usize,
+    members: &[i32],
+    m: usize,
+    work: &mut [u32],
+) -> Finding
+    requires { ⌜ (s + p ≤ 1024) × (4096 ≤ length (now facts)) × (k ≤ 1024) × (m ≤ 8192) × (9 * k ≤ length (now nodes)) × (m ≤ length (now members)) × (4096 ≤ length (now work)) ⌝ }
+    ensures { λ r. ⌜ finding r ≡ (rowsRefusal (tableau (now (schema .entry)) s (now (proof .entry)) p root least (now (nodes .entry)) k (now (members .entry)) m) otherwise nodesRefusal (tableau (now (schema .entry)) s (now (proof .entry)) p root least (now (nodes .entry)) k (now (members .entry)) m)) ⌝ }
+    ensures { λ r. ⌜ (finding r ≡ none → Ready (tableau (now (schema .entry)) s (now (proof .entry)) p root least (now (nodes .entry)) k (now (members .entry)) m) (now (facts .exit)) (now (work .exit))) ⌝ }
+{
+    let found = formula::rows::formulas(schema, s, proof, s + p, root, least, facts);
+    let Finding::Nothing = found else {
+        return found;
+    };
+    let found = nodes_pass(
+        schema,
+        s,
+        proof,
+        p,
+        facts,
+        root,
+        least,
+        nodes,
+        k,
+        members,
+        m,
+    );
+    let Finding::Nothing = found else {
+        return found;
+    };
+    crate::bounds::work_out(nodes, k, least, work);
+    Finding::Nothing
+}
