@@ -14,7 +14,7 @@ use Rattle.stab.specs.Node.{Bound, nodeAt, childCountOf, rank, childBound, firs
 use Rattle.stab.proofs.Bools.{decide}
 use Rattle.stab.proofs.Scans.{below-suc}
 use Rattle.formula.specs.Facts.{bit}
-use Rattle.tableau.specs.Bounds.{kept}
+use Rattle.tableau.specs.Bounds.{kept, Next}
 use Rattle.tableau.specs.Parents.{AllUpFit}
 use Rattle.tableau.specs.Work.{Worked, AllWorked}
 use Rattle.tableau.proofs.Parts.{natural-of}
@@ -91,84 +91,74 @@ work-first nodes least work room fits j p = subst (Worked nodes least 1 (kept wo
 
 -- ---- one node more, a child of u
 
-module _
-    (nodes : List ℤ)
-    (least : ℤ)
-    (j u : ℕ)
-    (work : List ℕ)
-    (fits : AllUpFit nodes (j + 1))
-    (later : 0 < j)
-    (parent : u ≡ nat (nodeAt nodes j .up))
-    (room : 4 * j + 3 < length work)
-    (done : AllWorked nodes least j work j)
-  where
-    pub parent-before : u < j
-    parent-before = omega (arith, parent-less nodes j (fits j (omega arith)) later)
+module _ {nodes : List ℤ} {least : ℤ} {work : List ℕ} {j u : ℕ} (next : Next nodes least work j u) where
+  pub parent-before : u < j
+  parent-before = omega (arith, next .parent, parent-less nodes j (next .fits j (omega arith)) (next .later))
 
-    up-is : nodeAt nodes j .up ≡ pos u
-    up-is = sym (parent-pos nodes j (fits j (omega arith)) later) ∙ ap pos (sym parent)
+  up-is : nodeAt nodes j .up ≡ pos u
+  up-is = sym (parent-pos nodes j (next .fits j (omega arith)) (next .later)) ∙ ap pos (sym (next .parent))
 
-    pub l-small : getD work (4 * u + 1) 0 ≤ nat least + u
-    l-small = omega (arith, done u parent-before .L, bound-le nodes least u)
+  pub l-small : getD work (4 * u + 1) 0 ≤ nat least + u
+  l-small = omega (arith, next .done u parent-before .L, bound-le nodes least u)
 
-    pub rank-small : getD work (4 * u + 3) 0 ≤ j
-    rank-small = omega (arith, done u parent-before .children, children-le nodes j u)
+  pub rank-small : getD work (4 * u + 3) 0 ≤ j
+  rank-small = omega (arith, next .done u parent-before .children, children-le nodes j u)
 
-    -- the rank of node j stands at its parent
-    pub rank-at : getD work (4 * u + 3) 0 ≡ rank nodes j
-    rank-at = done u parent-before .children ∙ sym (rank-is nodes j u up-is)
+  -- the rank of node j stands at its parent
+  pub rank-at : getD work (4 * u + 3) 0 ≡ rank nodes j
+  rank-at = next .done u parent-before .children ∙ sym (rank-is nodes j u up-is)
 
-    pub bound-at : (r : ℕ) → r ≡ getD work (4 * u + 3) 0 → boundOf nodes least j ≡ childBound (nodeAt nodes u .rule) (boundOf nodes least u) r
-    bound-at r e =
-        bound-child nodes least j (later-up nodes j (fits j (omega arith)) later)
-        ∙ ap (λ (v : ℕ). childBound (nodeAt nodes v .rule) (boundOf nodes least v) (rank nodes j)) (sym parent)
-        ∙ ap (childBound (nodeAt nodes u .rule) (boundOf nodes least u)) (sym (e ∙ rank-at))
+  pub bound-at : (r : ℕ) → r ≡ getD work (4 * u + 3) 0 → boundOf nodes least j ≡ childBound (nodeAt nodes u .rule) (boundOf nodes least u) r
+  bound-at r e =
+      bound-child nodes least j (later-up nodes j (next .fits j (omega arith)) (next .later))
+      ∙ ap (λ (v : ℕ). childBound (nodeAt nodes v .rule) (boundOf nodes least v) (rank nodes j)) (sym (next .parent))
+      ∙ ap (childBound (nodeAt nodes u .rule) (boundOf nodes least u)) (sym (e ∙ rank-at))
 
-    module _ (r l e : ℕ) (r-is : r ≡ getD work (4 * u + 3) 0) (l-is : boundOf nodes least j .L ≡ l) (e-is : bit (boundOf nodes least j .exact) ≡ e) where
-      -- what stands anywhere but at the parent's children
-      elsewhere : (x : ℕ) → (x ≡ 4 * u + 3 → ⊥) → getD (set (kept work j r l e) (4 * u + 3) (r + 1)) x 0 ≡ getD (kept work j r l e) x 0
-      elsewhere x f = getD-set-other (kept work j r l e) (4 * u + 3) x (r + 1) 0 f
+  module _ (r l e : ℕ) (r-is : r ≡ getD work (4 * u + 3) 0) (l-is : boundOf nodes least j .L ≡ l) (e-is : bit (boundOf nodes least j .exact) ≡ e) where
+    -- what stands anywhere but at the parent's children
+    elsewhere : (x : ℕ) → (x ≡ 4 * u + 3 → ⊥) → getD (set (kept work j r l e) (4 * u + 3) (r + 1)) x 0 ≡ getD (kept work j r l e) x 0
+    elsewhere x f = getD-set-other (kept work j r l e) (4 * u + 3) x (r + 1) 0 f
 
-      before : (x : ℕ) → x < 4 * j → (x ≡ 4 * u + 3 → ⊥) → getD (set (kept work j r l e) (4 * u + 3) (r + 1)) x 0 ≡ getD work x 0
-      before x p f = elsewhere x f ∙ kept-before work j r l e x p
+    before : (x : ℕ) → x < 4 * j → (x ≡ 4 * u + 3 → ⊥) → getD (set (kept work j r l e) (4 * u + 3) (r + 1)) x 0 ≡ getD work x 0
+    before x p f = elsewhere x f ∙ kept-before work j r l e x p
 
-      children-at : (i : ℕ) → i < j → getD (set (kept work j r l e) (4 * u + 3) (r + 1)) (4 * i + 3) 0 ≡ childCountOf nodes (j + 1) i
-      children-at i p =
-          ⊎-elim
-          (λ q.
-          let v = eqb-true i u q in
-          ap (λ (x : ℕ). getD (set (kept work j r l e) (4 * u + 3) (r + 1)) x 0) (omega arith)
-          ∙ getD-set-same (kept work j r l e) (4 * u + 3) (r + 1) 0 (omega (arith, kept-length work j r l e, parent-before))
-          ∙ ap (λ (x : ℕ). x + 1) (r-is ∙ done u parent-before .children)
-          ∙ sym (children-more nodes j u up-is)
-          ∙ ap (childCountOf nodes (j + 1)) (sym v))
-          (λ q.
-          before (4 * i + 3) (omega arith) (λ w. eqb-false i u q (omega arith))
-          ∙ done i p .children
-          ∙ sym (children-same nodes j i (λ w. eqb-false i u q (omega (arith, natural-of (nodeAt nodes j .up) i w)))))
-          (decide (eqb i u))
+    children-at : (i : ℕ) → i < j → getD (set (kept work j r l e) (4 * u + 3) (r + 1)) (4 * i + 3) 0 ≡ childCountOf nodes (j + 1) i
+    children-at i p =
+        ⊎-elim
+        (λ q.
+        let v = eqb-true i u q in
+        ap (λ (x : ℕ). getD (set (kept work j r l e) (4 * u + 3) (r + 1)) x 0) (omega arith)
+        ∙ getD-set-same (kept work j r l e) (4 * u + 3) (r + 1) 0 (omega (arith, kept-length work j r l e, parent-before))
+        ∙ ap (λ (x : ℕ). x + 1) (r-is ∙ next .done u parent-before .children)
+        ∙ sym (children-more nodes j u up-is)
+        ∙ ap (childCountOf nodes (j + 1)) (sym v))
+        (λ q.
+        before (4 * i + 3) (omega arith) (λ w. eqb-false i u q (omega arith))
+        ∙ next .done i p .children
+        ∙ sym (children-same nodes j i (λ w. eqb-false i u q (omega (arith, natural-of (nodeAt nodes j .up) i w)))))
+        (decide (eqb i u))
 
-      earlier : (i : ℕ) → i < j → Worked nodes least (j + 1) (set (kept work j r l e) (4 * u + 3) (r + 1)) i
-      earlier i p =
-          record {
-            rank = before (4 * i) (omega arith) (λ w. omega arith) ∙ done i p .rank;
-            L = before (4 * i + 1) (omega arith) (λ w. omega arith) ∙ done i p .L;
-            exact = before (4 * i + 2) (omega arith) (λ w. omega arith) ∙ done i p .exact;
-            children = children-at i p;
-          }
+    earlier : (i : ℕ) → i < j → Worked nodes least (j + 1) (set (kept work j r l e) (4 * u + 3) (r + 1)) i
+    earlier i p =
+        record {
+          rank = before (4 * i) (omega arith) (λ w. omega arith) ∙ next .done i p .rank;
+          L = before (4 * i + 1) (omega arith) (λ w. omega arith) ∙ next .done i p .L;
+          exact = before (4 * i + 2) (omega arith) (λ w. omega arith) ∙ next .done i p .exact;
+          children = children-at i p;
+        }
 
-      last : Worked nodes least (j + 1) (set (kept work j r l e) (4 * u + 3) (r + 1)) j
-      last =
-          record {
-            rank = elsewhere (4 * j) (λ w. omega arith) ∙ kept-rank work j r l e room ∙ r-is ∙ rank-at;
-            L = elsewhere (4 * j + 1) (λ w. omega arith) ∙ kept-l work j r l e room ∙ sym l-is;
-            exact = elsewhere (4 * j + 2) (λ w. omega arith) ∙ kept-exact work j r l e room ∙ sym e-is;
-            children = elsewhere (4 * j + 3) (λ w. omega (arith, parent-before)) ∙ kept-children work j r l e room ∙ sym (children-none nodes j fits);
-          }
+    last : Worked nodes least (j + 1) (set (kept work j r l e) (4 * u + 3) (r + 1)) j
+    last =
+        record {
+          rank = elsewhere (4 * j) (λ w. omega arith) ∙ kept-rank work j r l e (next .room) ∙ r-is ∙ rank-at;
+          L = elsewhere (4 * j + 1) (λ w. omega arith) ∙ kept-l work j r l e (next .room) ∙ sym l-is;
+          exact = elsewhere (4 * j + 2) (λ w. omega arith) ∙ kept-exact work j r l e (next .room) ∙ sym e-is;
+          children = elsewhere (4 * j + 3) (λ w. omega (arith, parent-before)) ∙ kept-children work j r l e (next .room) ∙ sym (children-none nodes j (next .fits));
+        }
 
-      pub work-more : AllWorked nodes least (j + 1) (set (kept work j r l e) (4 * u + 3) (r + 1)) (j + 1)
-      work-more i p =
-          ⊎-elim
-          (λ q. earlier i q)
-          (λ q. subst (Worked nodes least (j + 1) (set (kept work j r l e) (4 * u + 3) (r + 1))) (sym q) last)
-          (below-suc i j (omega arith))
+    pub work-more : AllWorked nodes least (j + 1) (set (kept work j r l e) (4 * u + 3) (r + 1)) (j + 1)
+    work-more i p =
+        ⊎-elim
+        (λ q. earlier i q)
+        (λ q. subst (Worked nodes least (j + 1) (set (kept work j r l e) (4 * u + 3) (r + 1))) (sym q) last)
+        (below-suc i j (omega arith))

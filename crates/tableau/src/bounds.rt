@@ -3,13 +3,13 @@ use crate::node;
 ghost use mathlib.Core.Path.{_≡_};
 ghost use mathlib.Core.Bool.{true};
 ghost use Prim.Native.Nat.{_+_, _*_, _<_, _≤_, _^_};
-ghost use lib.IntN.{ℤ, pos};
+ghost use lib.IntN.{pos};
 ghost use lib.ListN.{getD, length};
-ghost use Rattle.stab.specs.Basic.{within, nat};
+ghost use Rattle.stab.specs.Basic.{within};
 ghost use Rattle.stab.specs.Node.{Bound, nodeAt, childBound};
 ghost use Rattle.formula.specs.Facts.{bit};
-ghost use Rattle.tableau.specs.Bounds.{kept};
-ghost use Rattle.tableau.specs.Parents.{upFits, AllUpFit};
+ghost use Rattle.tableau.specs.Bounds.{kept, Next};
+ghost use Rattle.tableau.specs.Parents.{AllUpFit};
 ghost use Rattle.tableau.specs.Work.{AllWorked};
 
 // Number k of the four of node j.
@@ -59,12 +59,11 @@ fn child_exact(nodes: &[i32], u: usize, exact: u32, rank: u32) -> u32
     0
 }
 
-// Works out node j, a child, and counts it at its parent.
-fn work_child(nodes: &[i32], least: usize, work: &mut [u32], j: usize)
-    requires { ⌜ (least ≤ 9999) × (0 < j) × (j < 1024) × (4 * j + 3 < length (now work)) × AllUpFit (now nodes) (j + 1) × AllWorked (now nodes) (pos least) j (now work) j ⌝ }
+// Works out node j, a child of u, and counts it there.
+fn work_child(nodes: &[i32], least: usize, work: &mut [u32], j: usize, u: usize)
+    requires { ⌜ (least ≤ 9999) × (j < 1024) × Next (now nodes) (pos least) (now work) j u ⌝ }
     ensures { λ _. ⌜ AllWorked (now (nodes .entry)) (pos least) (j + 1) (now (work .exit)) (j + 1) ⌝ }
 {
-    let u = node::natural_of(nodes, j, 0);
     let rank = number_of(work, u, 3);
     let l = child_l(nodes, u, number_of(work, u, 1), rank);
     let exact = child_exact(nodes, u, number_of(work, u, 2), rank);
@@ -80,7 +79,7 @@ fn work_node(nodes: &[i32], least: usize, work: &mut [u32], j: usize)
     if j == 0 {
         keep(work, 0, 0, least as u32, 0);
     } else {
-        work_child(nodes, least, work, j);
+        work_child(nodes, least, work, j, node::natural_of(nodes, j, 0));
     }
 }
 
