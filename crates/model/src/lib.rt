@@ -1,4 +1,5 @@
-// The value of a formula under a list of true pairs, and the model check.
+// The value of a formula under a list of true pairs, and the model check. An index can be negative: it is carried as a
+// natural number 65536 above it (specs/Index.antt), so that no arithmetic here is signed.
 use stab::Finding;
 use stab::Place;
 use stab::Refusal;
@@ -193,7 +194,8 @@ fn formula_value(schema: &[i32], f: usize, n: usize, i: usize, pairs: &[i32], co
     formula_value(schema, b, n, i, pairs, count)
 }
 
-// The values of the body at `first` and the `left - 1` numbers after it, joined: by or where `any`, else by and.
+// The values of the body at `first` and the `left - 1` numbers after it, joined: by or where `any`, else by and. The range
+// is halved at each call, so that few calls are open at once however long it is.
 fn range_value(
     schema: &[i32],
     body: usize,
