@@ -1,0 +1,108 @@
+-- What the functions on lines give.
+use Prim.Native.Nat.{ℕ, zero, suc, _+_, _*_, _-_, _<_, _≤_}
+use mathlib.Core.Path.{_≡_}
+use mathlib.Core.Bool.{Bool, true, false}
+use mathlib.Core.List.{List, [], _∷_, _++_}
+use mathlib.Core.Option.{Option, none, some}
+use lib.Dec.{eqb}
+use lib.IntN.{ℤ, pos}
+use lib.ListN.{length, take, drop, getD, replicate}
+use lib.Seq.{sets}
+use Rattle.stab.specs.Basic.{if_then_else_, _and_}
+use Rattle.stab.specs.Text.{Line, lines, sameBytes, someIf}
+use Rattle.stab.specs.Read.{Reading, read, stopped, _andThen_, headingAt, valuesAt, rowsFrom}
+use Rattle.text.specs.Here.{firstLine, afterLine, row}
+use Rattle.text.specs.declared.rows.Part.{Part}
+use Rattle.text.specs.declared.rows.Part.the-variants.{Bad, Ended, Open}
+use Rattle.text.specs.declared.rows.Found.{Found}
+use Rattle.text.specs.declared.rows.Found.the-variants.{At, Nothing}
+use Rattle.text.specs.declared.rows.Rows.{Rows}
+use Rattle.text.specs.declared.rows.Rows.the-variants.{Read, Stopped}
+use Rattle.text.specs.declared.rows.Opened.{Opened}
+use Rattle.text.specs.declared.rows.Opened.the-variants.{After, Stopped as OpenStopped}
+
+-- ---- headings
+
+-- the first line is the heading
+unfoldable pub isHeading : List ℕ → List ℕ → Bool
+isHeading h xs = firstLine xs .ended and sameBytes (firstLine xs .content) h
+
+-- the place after it, 0 where it is another line
+unfoldable pub afterHeading : List ℕ → List ℕ → ℕ → ℕ
+afterHeading h text at = if isHeading h (drop at text) then at + suc (length h) else 0
+
+-- ---- rows
+
+-- numbers in front of the rest of a row
+unfoldable pub rowFront : List ℤ → Option (List ℤ) → Option (List ℤ)
+rowFront us none = none
+rowFront us (some vs) = some (us ++ vs)
+
+-- The line at a place ends with the numbers that were stored last.
+pub record RowEnded (text : List ℕ) (at : ℕ) (t : List ℤ) (to : ℕ) (t′ : List ℤ) (to′ next : ℕ) : Type 0 where
+  pub vs : List ℤ
+  pub numbers : row (drop at text) ≡ some vs
+  pub table : t′ ≡ sets t to vs
+  pub count : to′ ≡ to + length vs
+  pub rest : afterLine (drop at text) ≡ drop next text
+  pub ahead : at < next
+  pub within : next ≤ length text
+
+-- It goes on after them.
+pub record RowOpen (text : List ℕ) (at : ℕ) (t : List ℤ) (to : ℕ) (t′ : List ℤ) (to′ next : ℕ) : Type 0 where
+  pub vs : List ℤ
+  pub numbers : row (drop at text) ≡ rowFront vs (row (drop next text))
+  pub table : t′ ≡ sets t to vs
+  pub count : to′ ≡ to + length vs
+  pub rest : afterLine (drop at text) ≡ afterLine (drop next text)
+  pub ahead : at + length vs ≤ next
+  pub within : next ≤ length text
+
+-- w numbers of the line at a place, into a table from `to` on
+abbrev pub PartOf : List ℕ → ℕ → List ℤ → ℕ → ℕ → List ℤ → Part → Type 0
+PartOf text at t to w t′ Bad = row (drop at text) ≡ none
+PartOf text at t to w t′ (Ended to′ next) = RowEnded text at t to t′ to′ next
+PartOf text at t to w t′ (Open next) = RowOpen text at t to t′ (to + w) next
+
+-- ---- rows as they have to be
+
+-- numbers, if there are as many as required
+unfoldable pub wanted : (ℕ → Bool) → Option (List ℤ) → Option (List ℤ)
+wanted fits none = none
+wanted fits (some vs) = someIf (fits (length vs)) vs
+
+-- a row of w numbers, into a table from `to` on
+abbrev pub RowOf : List ℕ → ℕ → List ℤ → ℕ → ℕ → List ℤ → Found → Type 0
+RowOf text at t to w t′ Nothing = wanted (eqb w) (row (drop at text)) ≡ none
+RowOf text at t to w t′ (At next) = RowEnded text at t to t′ (to + w) next
+
+-- rows of w numbers up to the end of the text, from the table's start on
+abbrev pub RowsOf : ℕ → Reading (List ℤ) → List ℤ → Rows → Type 0
+RowsOf w r t (Read n) = (r ≡ read (take (w * n) t)) × (w * n ≤ length t)
+RowsOf w r t (Stopped why k) = r ≡ stopped why k
+
+-- ---- parts of a text
+
+-- a heading, and rows up to the end
+unfoldable pub headedRows : List ℕ → ℕ → ℕ → ℕ → List Line → Reading (List ℤ)
+headedRows h w most line ls = headingAt h line ls andThen λ rest. rowsFrom w most (line + 1) rest
+
+-- the first heading, and the line of values after it
+unfoldable pub openingLines : List ℕ → ℕ → List Line → Reading (List ℤ × List Line)
+openingLines h w ls = headingAt h 1 ls andThen λ rest. valuesAt (eqb w) 2 rest
+
+-- The values were read and stand in front of the table, and the rest of the text starts at a place.
+pub record OpenedAt (w size : ℕ) (r : Reading (List ℤ × List Line)) (text : List ℕ) (t : List ℤ) (next : ℕ) : Type 0 where
+  pub vs : List ℤ
+  pub values : r ≡ read (vs, lines (drop next text))
+  pub front : (i : ℕ) (d : ℤ) → i < w → getD t i d ≡ getD vs i d
+  pub within : next ≤ length text
+  pub full : size ≤ length t
+
+abbrev pub OpenedOf : ℕ → ℕ → Reading (List ℤ × List Line) → List ℕ → List ℤ → Opened → Type 0
+OpenedOf w size r text t (After next) = OpenedAt w size r text t next
+OpenedOf w size r text t (OpenStopped why k) = r ≡ stopped why k
+
+-- a table with 0 from a place on
+unfoldable pub cleared : List ℤ → ℕ → List ℤ
+cleared t i = take i t ++ replicate (length t - i) (pos 0)

@@ -1,0 +1,8 @@
+// The texts of schemas, proofs and models: read, written, and a line by its number.
+pub mod digits;
+pub mod heading;
+pub mod line;
+mod numerals;
+pub mod read;
+mod rows;
+pub mod write;

@@ -1,0 +1,119 @@
+// Readers of schema, proof and model texts.
+use crate::rows;
+use crate::rows::Opened;
+use crate::rows::Rows;
+use stab::ModelRead;
+use stab::Place;
+use stab::Refusal;
+use stab::SchemaRead;
+ghost use mathlib.Core.Path.{_≡_};
+ghost use Prim.Native.Nat.{_≤_};
+ghost use lib.ListN.{length, drop};
+ghost use Rattle.stab.specs.Text.{lines};
+ghost use Rattle.stab.specs.Read.{readSchema, schemaAnswer, schemaTable, readModel, modelAnswer, pairTable};
+ghost use Rattle.text.specs.Texts.{SchemaOf, schemaRows, ModelOf, modelRows};
+
+// What stands in a schema text after its second line, the root and the least value being known.
+fn schema_rows(text: &[u8], at: usize, table: &mut [i32], root: i32, least: i32) -> SchemaRead
+    requires { ⌜ (at ≤ length (now text)) × (4096 ≤ length (now table)) ⌝ }
+    ensures { λ r. ⌜ SchemaOf (schemaRows root least (lines (drop at (now (text .entry))))) (now (table .exit)) r ⌝ }
+{
+    match rows::headed_rows(text, at, b"kind a b c", table, 4, 1024, 3) {
+        Rows::Read(n) => SchemaRead::Schema {
+            root,
+            least,
+            rows: n,
+        },
+        Rows::Stopped(why, k) => SchemaRead::Refused {
+            why,
+            place: Place::At(k),
+        },
+    }
+}
+
+// A schema text whose rows are stored in front; what stands past them is no matter.
+fn schema_text(text: &[u8], table: &mut [i32]) -> SchemaRead
+    ensures { λ r. ⌜ SchemaOf (readSchema (length (now (table .entry))) (now (text .entry))) (now (table .exit)) r ⌝ }
+{
+    match rows::opening(text, table, 4096, b"root least", 2) {
+        Opened::After(next) => {
+            let root = number::at(table, 0);
+            let least = number::at(table, 1);
+            schema_rows(text, next, table, root, least)
+        }
+        Opened::Stopped(why, k) => SchemaRead::Refused {
+            why,
+            place: Place::At(k),
+        },
+    }
+}
+
+// A schema text is read into a lent table.
+pub fn read_schema(text: &[u8], table: &mut [i32]) -> SchemaRead
+    ensures answer { λ r. ⌜ r ≡ schemaAnswer (readSchema (length (now (table .entry))) (now (text .entry))) ⌝ }
+    ensures rows { λ r. ⌜ now (table .exit) ≡ schemaTable (length (now (table .entry))) (readSchema (length (now (table .entry))) (now (text .entry))) ⌝ }
+{
+    let r = schema_text(text, table);
+    match r {
+        SchemaRead::Schema {
+            root: _,
+            least: _,
+            rows: n,
+        } => {
+            rows::clear(table, 4 * n);
+            r
+        }
+        SchemaRead::Refused { why: _, place: _ } => {
+            rows::clear(table, 0);
+            r
+        }
+    }
+}
+
+// What stands in a model text after its second line, n being known.
+fn model_rows(text: &[u8], at: usize, table: &mut [i32], n: i32) -> ModelRead
+    requires { ⌜ (at ≤ length (now text)) × (8192 ≤ length (now table)) ⌝ }
+    ensures { λ r. ⌜ ModelOf (modelRows n (lines (drop at (now (text .entry))))) (now (table .exit)) r ⌝ }
+{
+    match rows::headed_rows(text, at, b"symbol index", table, 2, 4096, 3) {
+        Rows::Read(k) => ModelRead::Model { n, pairs: k },
+        Rows::Stopped(why, k) => ModelRead::Refused {
+            why,
+            place: Place::At(k),
+        },
+    }
+}
+
+// A model text whose pairs are stored in front; what stands past them is no matter.
+fn model_text(text: &[u8], table: &mut [i32]) -> ModelRead
+    ensures { λ r. ⌜ ModelOf (readModel (length (now (table .entry))) (now (text .entry))) (now (table .exit)) r ⌝ }
+{
+    match rows::opening(text, table, 8192, b"n", 1) {
+        Opened::After(next) => {
+            let n = number::at(table, 0);
+            model_rows(text, next, table, n)
+        }
+        Opened::Stopped(why, k) => ModelRead::Refused {
+            why,
+            place: Place::At(k),
+        },
+    }
+}
+
+// A model text is read into a lent table.
+pub fn read_model(text: &[u8], table: &mut [i32]) -> ModelRead
+    ensures answer { λ r. ⌜ r ≡ modelAnswer (readModel (length (now (table .entry))) (now (text .entry))) ⌝ }
+    ensures pairs { λ r. ⌜ now (table .exit) ≡ pairTable (length (now (table .entry))) (readModel (length (now (table .entry))) (now (text .entry))) ⌝ }
+{
+    let r = model_text(text, table);
+    match r {
+        ModelRead::Model { n: _, pairs: k } => {
+            rows::clear(table, 2 * k);
+            r
+        }
+        ModelRead::Refused { why: _, place: _ } => {
+            rows::clear(table, 0);
+            r
+        }
+    }
+}
