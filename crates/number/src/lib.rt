@@ -3,7 +3,7 @@
 ghost use mathlib.Core.Path.{_≡_};
 ghost use lib.ListN.{getD};
 ghost use lib.IntN.{pos, negsuc, negℤ, _-ℤ_};
-ghost use Prim.Native.Nat.{_<_};
+ghost use Prim.Native.Nat.{_<_, _^_};
 ghost use Rattle.stab.specs.Basic.{eqZ, nat};
 ghost use Rattle.stab.specs.Check.{holds as tableHolds};
 
@@ -45,6 +45,13 @@ pub fn equal(a: i32, b: i32) -> bool
 // The natural part of what stands at i.
 pub fn natural_at(t: &[i32], i: usize) -> usize
     ensures { λ r. ⌜ r ≡ nat (getD (now (t .entry)) i (pos 0)) ⌝ }
+{
+    natural(at(t, i))
+}
+
+// The same, and how large it can be.
+pub fn small_at(t: &[i32], i: usize) -> usize
+    ensures { λ r. ⌜ (r ≡ nat (getD (now (t .entry)) i (pos 0))) × (r < 2 ^ 32) ⌝ }
 {
     natural(at(t, i))
 }

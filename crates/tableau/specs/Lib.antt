@@ -5,4 +5,5 @@ pub mod Search
 pub mod Sets
 pub mod Work
 pub mod Ready
+pub mod Lent
 pub mod Passes

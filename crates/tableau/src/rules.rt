@@ -1,0 +1,84 @@
+// The rule table.
+use stab::Rule;
+ghost use mathlib.Core.Path.{_≡_};
+ghost use Prim.Native.Nat.{_<_};
+ghost use lib.IntN.{pos};
+ghost use Rattle.stab.specs.Rule.{ruleOf};
+
+// What each rule uses: kind of on, kind of with, other, to and by, children.
+const RULES: [Rule; 9] = [
+    // 0 and, 1 or, 2 split
+    Rule {
+        on: 4,
+        with: -1,
+        other: false,
+        link: false,
+        children: 1,
+    },
+    Rule {
+        on: 5,
+        with: -1,
+        other: false,
+        link: false,
+        children: 2,
+    },
+    Rule {
+        on: -1,
+        with: -1,
+        other: false,
+        link: false,
+        children: 2,
+    },
+    // 3 unfold and, 4 unfold or
+    Rule {
+        on: 6,
+        with: 6,
+        other: true,
+        link: false,
+        children: 1,
+    },
+    Rule {
+        on: 7,
+        with: 7,
+        other: true,
+        link: false,
+        children: 2,
+    },
+    // 5 false, 6 clash, 7 void, 8 loop
+    Rule {
+        on: 1,
+        with: -1,
+        other: false,
+        link: false,
+        children: 0,
+    },
+    Rule {
+        on: 2,
+        with: 3,
+        other: false,
+        link: false,
+        children: 0,
+    },
+    Rule {
+        on: 7,
+        with: -1,
+        other: false,
+        link: false,
+        children: 0,
+    },
+    Rule {
+        on: -1,
+        with: -1,
+        other: false,
+        link: true,
+        children: 0,
+    },
+];
+
+// The table's entry for rule z.
+pub fn rule_at(z: usize) -> Rule
+    requires { ⌜ z < 9 ⌝ }
+    ensures { λ r. ⌜ r ≡ ruleOf (pos z) ⌝ }
+{
+    RULES[z]
+}
