@@ -8,16 +8,19 @@ use lib.Dec.{ltb}
 use lib.IntN.{pos}
 use Rattle.stab.specs.Basic.{_and_, within, below, _otherwise_, scan}
 use Rattle.stab.specs.Node.{Tableau, setFits, parentFits}
-use Rattle.stab.specs.Check.{finding, wholeUnless, atUnless, rootFits, formulasRefusal, setRefusal, parentRefusal}
+use Rattle.stab.specs.Check.{finding, wholeUnless, atUnless, rootFits, formulasRefusal, setRefusal, parentRefusal, nodeRefusal, tablesHold, withinLimits, refusal, linkCount, verdict, check}
 use Rattle.stab.specs.declared.Place.{Place}
 use Rattle.stab.specs.declared.Place.the-variants.{Whole}
 use Rattle.stab.specs.declared.Refusal.{Refusal}
+use Rattle.stab.specs.declared.Refusal.the-variants.{TableTooShort, TooMany, Parent}
 use Rattle.stab.specs.declared.Finding.{Finding}
-use Rattle.stab.specs.declared.Finding.the-variants.{Found}
+use Rattle.stab.specs.declared.Finding.the-variants.{Nothing, Found}
 use Rattle.stab.specs.declared.Verdict.{Verdict}
-use Rattle.stab.specs.declared.Verdict.the-variants.{Refused}
+use Rattle.stab.specs.declared.Verdict.the-variants.{Accepted, Refused}
 use Rattle.stab.proofs.Bools.{and-left, and-right, some-unless, none-unless, unless-none, otherwise-some, otherwise-first, otherwise-second}
 use Rattle.stab.proofs.Scans.{none-scan}
+use Rattle.stab.proofs.Findings.{otherwise-assoc}
+use Rattle.stab.proofs.Exactness.{keeps-of}
 use Rattle.tableau.specs.Passes.{rowsRefusal, nodesRefusal}
 
 -- ---- `if !r`: r is the answer to t
@@ -72,3 +75,32 @@ module _ (T : Tableau) where
   pub parent-fits : nodesRefusal T ≡ none → (j : ℕ) → j < T .nodeRows → parentFits T j ≡ true
   unfolding parentRefusal atUnless
   parent-fits h j l = unless-none _ _ (none-scan (parentRefusal T) (T .nodeRows) (nodes-parents h) j l)
+
+  -- the whole refusal, by its groups
+  pub refusal-is : refusal T ≡ (wholeUnless (tablesHold T) TableTooShort otherwise (wholeUnless (withinLimits T) TooMany otherwise ((rowsRefusal T otherwise nodesRefusal T) otherwise scan (nodeRefusal T) (T .nodeRows))))
+  unfolding refusal rowsRefusal nodesRefusal
+  refusal-is =
+      let R = rowsRefusal T in
+      let A = scan (setRefusal T) (T .nodeRows) in
+      let B = wholeUnless (ltb 0 (T .nodeRows)) Parent in
+      let C = scan (parentRefusal T) (T .nodeRows) in
+      let D = scan (nodeRefusal T) (T .nodeRows) in
+      ap (λ (x : Option Verdict). wholeUnless (tablesHold T) TableTooShort otherwise (wholeUnless (withinLimits T) TooMany otherwise x))
+      (sym
+      (otherwise-assoc R (A otherwise (B otherwise C)) D
+      ∙ ap (λ (x : Option Verdict). R otherwise x) (otherwise-assoc A (B otherwise C) D ∙ ap (λ (x : Option Verdict). A otherwise x) (otherwise-assoc B C D))))
+
+-- ---- the verdict from what was found
+
+pub refused-is : (T : Tableau) (f : Finding) (why : Refusal) (p : Place) → finding f ≡ refusal T → f ≡ Found why p → Refused why p ≡ check T
+unfolding check verdict finding
+refused-is T f why p e h = ap (λ (x : Option Verdict). verdict x (Accepted (T .nodeRows) (linkCount T))) (sym (ap finding h) ∙ e)
+
+pub accepted-is : (T : Tableau) (f : Finding) (links : ℕ) → finding f ≡ refusal T → f ≡ Nothing → links ≡ linkCount T → Accepted (T .nodeRows) links ≡ check T
+unfolding check verdict finding
+accepted-is T f links e h l =
+    ap (Accepted (T .nodeRows)) l ∙ ap (λ (x : Option Verdict). verdict x (Accepted (T .nodeRows) (linkCount T))) (sym (ap finding h) ∙ e)
+
+-- a record in which nothing is found has at most 1,024 nodes
+pub few-nodes : (T : Tableau) → refusal T ≡ none → T .nodeRows ≤ 1024
+few-nodes T h = keeps-of T h .tables .nodeLimit

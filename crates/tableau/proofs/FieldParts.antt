@@ -2,16 +2,18 @@
 use Prim.Native.Nat.{ℕ}
 use mathlib.Core.Path.{_≡_, refl, sym, _∙_, ap, subst}
 use mathlib.Core.Bool.{Bool, true, false}
+use mathlib.Core.List.{List, []}
 use lib.IntN.{ℤ, pos}
 use Rattle.stab.specs.Basic.{if_then_else_, _and_, _or_, _implies_, eqZ, nat, below, has}
-use Rattle.stab.specs.Node.{Tableau, node, set, rowCount, row, isRow}
+use Rattle.stab.specs.Node.{Tableau, node, set, rows, rowCount, row, isRow}
 use Rattle.stab.specs.Rule as R
 use Rattle.stab.specs.Rule.{unused, entry, ruleTable, ruleOf, rule, ofRule, kindFits, onStands, symbolFits, fieldsFit}
 use Rattle.stab.specs.declared.Rule.{Rule}
 use Rattle.stab.proofs.Bools.{and-left, and-right}
 use Rattle.stab.proofs.Trees.{below-pos}
 use Rattle.stab.proofs.Whole.{eqZ-true}
-use Rattle.tableau.specs.Lent.{fitsKind, otherFits, linkFits, rowsFit, restFits}
+use Rattle.tableau.specs.Lent.{lent, fitsKind, otherFits, linkFits, rowsFit, restFits, FieldsKnown}
+use Rattle.tableau.specs.declared.counts.Counts.{Counts}
 use Rattle.tableau.proofs.Answers.{first-fails, second-fails, second-decides, third-decides, implies-made, implies-spared}
 
 regroup : (a b c d e f g : Bool) → (a and b and c and d and e and f and g) ≡ (a and (b and c and d) and (e and f) and g)
@@ -93,3 +95,26 @@ module _ (T : Tableau) (j : ℕ) where
   clash-rows R e six h =
       let d = e ∙ rule-is 6 six in
       (on-named R h 2 (ap (λ (r : Rule). r .on) d) .0, with-named R h 3 (ap (λ (r : Rule). r .with) d) .0)
+
+-- ---- what fields that fit say, but for sets
+
+pub fields-known : (T : Tableau) (j : ℕ) → fieldsFit T j ≡ true → FieldsKnown T j
+unfolding fieldsFit
+fields-known T j h =
+    let a = and-right (below 9 (node T j .rule)) _ h in
+    let b = and-right (kindFits T (rule T j .on) (node T j .on)) _ a in
+    let c = and-right (onStands T j) _ b in
+    let d = and-right (kindFits T (rule T j .with) (node T j .with)) _ c in
+    record {
+      rule = and-left _ _ h;
+      on = and-left _ _ a;
+      with = and-left _ _ c;
+      other = and-left _ _ d;
+      link = and-left _ _ (and-right (R.otherFits T j) _ d);
+    }
+
+-- no set is looked at
+pub fields-bare : (schema proof nodes members : List ℤ) (t : Counts) (j : ℕ) → FieldsKnown (lent schema proof nodes members t) j → FieldsKnown (lent schema proof nodes [] t) j
+unfolding node rule kindFits isRow rowCount row rows R.otherFits R.linkFits
+fields-bare schema proof nodes members t j k =
+    record { rule = k .rule; on = k .on; with = k .with; other = k .other; link = k .link }

@@ -1,15 +1,20 @@
 // The check of a whole record.
+use crate::counts::Counts;
 use stab::Finding;
 use stab::Place;
 use stab::Refusal;
+use stab::Verdict;
 ghost use mathlib.Core.Path.{_≡_};
-ghost use Prim.Native.Nat.{_+_, _*_, _≤_};
+ghost use Prim.Native.Nat.{ℕ, _+_, _*_, _≤_};
 ghost use mathlib.Core.Option.{none};
 ghost use lib.Dec.{leb};
 ghost use lib.ListN.{length};
 ghost use Rattle.stab.specs.Basic.{_and_, _otherwise_};
 ghost use Rattle.stab.specs.Formula.{joined};
-ghost use Rattle.stab.specs.Check.{finding, holds};
+ghost use Rattle.stab.specs.Check.{finding, holds, refusal};
+ghost use Rattle.stab.specs.Check.{check as checked};
+ghost use Rattle.stab.specs.Refuted.{Refuted};
+ghost use Rattle.stab.specs.declared.Verdict.the-variants.{Accepted};
 ghost use Rattle.formula.specs.Facts.{AllKnown};
 ghost use Rattle.tableau.specs.Work.{tableau};
 ghost use Rattle.tableau.specs.Ready.{Ready};
@@ -128,4 +133,98 @@ fn ready(
     };
     crate::bounds::work_out(nodes, k, least, work);
     Finding::Nothing
+}
+
+// What is found first in a record.
+fn first_refusal(
+    schema: &[i32],
+    s: usize,
+    proof: &[i32],
+    p: usize,
+    root: i32,
+    least: i32,
+    nodes: &[i32],
+    k: usize,
+    members: &[i32],
+    m: usize,
+) -> Finding
+    ensures { λ r. ⌜ finding r ≡ refusal (tableau (now (schema .entry)) s (now (proof .entry)) p root least (now (nodes .entry)) k (now (members .entry)) m) ⌝ }
+{
+    if !hold(schema, s, proof, p, nodes, k, members, m) {
+        return Finding::Found {
+            why: Refusal::TableTooShort,
+            place: Place::Whole,
+        };
+    }
+    if !few(s, p, k, m) {
+        return Finding::Found {
+            why: Refusal::TooMany,
+            place: Place::Whole,
+        };
+    }
+    let mut facts = [0u32; 4096];
+    let mut work = [0u32; 4096];
+    let found = ready(
+        schema,
+        s,
+        proof,
+        p,
+        &mut facts,
+        root,
+        least,
+        nodes,
+        k,
+        members,
+        m,
+        &mut work,
+    );
+    let Finding::Nothing = found else {
+        return found;
+    };
+    let t = Counts {
+        schema: s,
+        proof: p,
+        root,
+        least,
+        nodes: k,
+        members: m,
+    };
+    crate::steps::each_node(schema, proof, nodes, members, &facts, &work, t)
+}
+
+// The check's answer. Where it accepts, the schema is false at every natural n from its least value up, under every assignment.
+pub fn check(
+    schema: &[i32],
+    schema_rows: usize,
+    proof: &[i32],
+    proof_rows: usize,
+    root: i32,
+    least: i32,
+    nodes: &[i32],
+    node_rows: usize,
+    members: &[i32],
+    member_count: usize,
+) -> Verdict
+    ensures { λ r. ⌜ r ≡ checked (record { schema = now (schema .entry); schemaRows = «schema_rows»; proof = now (proof .entry); proofRows = «proof_rows»; root = root; least = least; nodes = now (nodes .entry); nodeRows = «node_rows»; members = now (members .entry); memberCount = «member_count» }) ⌝ }
+    ensures { λ r. ⌜ ((n l : ℕ) → r ≡ Accepted n l → Refuted (now (schema .entry)) root least) ⌝ }
+{
+    let found = first_refusal(
+        schema,
+        schema_rows,
+        proof,
+        proof_rows,
+        root,
+        least,
+        nodes,
+        node_rows,
+        members,
+        member_count,
+    );
+    match found {
+        Finding::Found { why, place } => Verdict::Refused { why, place },
+        Finding::Nothing => Verdict::Accepted {
+            nodes: node_rows,
+            links: crate::links::links(nodes, node_rows),
+        },
+    }
 }

@@ -15,3 +15,4 @@ pub mod parents;
 pub mod partners;
 pub mod rules;
 pub mod sets;
+pub mod steps;

@@ -1,0 +1,53 @@
+use Prim.Native.Nat.{ℕ, _/_}
+use mathlib.Core.Path.{_≡_, sym, _∙_, ap, subst, subst₂}
+use lib.IntN.{ℤ}
+use mir.Facts.{toZ-ofZ}
+use denote.Ref.{now}
+use borrow.Author.Needs.{needs}
+use Rattle.stab.specs.Node.{Tableau}
+use Rattle.stab.specs.Check.{check as checked}
+use Rattle.stab.specs.Answer.{packed, Packs}
+use Rattle.stab.specs.Refuted.{Refuted}
+use Rattle.stab.specs.declared.Verdict.{Verdict}
+use Rattle.stab.proofs.Packed.{check-packs, packed-accepted}
+use Rattle.zorambi.proofs.zorambi_check.Statement.{statement}
+use Rattle.zorambi.proofs.zorambi_check.Tie as tie
+
+abbrev lent : tie.Start → ℤ → ℤ → Tableau
+lent c root least =
+    let a = c .args in
+    record { schema = now (a .schema); schemaRows = a .schema-rows; proof = now (a .proof); proofRows = a .proof-rows; root = root; least = least; nodes = now (a .nodes); nodeRows = a .node-rows; members = now (a .members); memberCount = a .member-count }
+
+check-requires : tie.Need-check-requires
+check-requires c κs = search needs
+
+-- the verdict's parts fit into the number
+packs : (c : tie.After-check) → Packs (c .check .result)
+packs c = subst Packs (sym (c .check .ensures .0)) (check-packs _)
+
+pack-requires : tie.Need-pack-requires
+pack-requires c κs = packs c
+
+-- the verdict; a signed number is kept as bits, and read back from them
+verdict-is : (c : tie.After-check) →
+    let start = c .before in
+    c .check .result ≡ checked (lent start (start .args .root) (start .args .least))
+verdict-is c =
+    let start = c .before in
+    let root = toZ-ofZ (start .fits .root) in
+    let least = toZ-ofZ (start .fits .least) in
+    c .check .ensures .0 ∙ (λ i. checked (lent start (root i) (least i)))
+
+returns : tie.Need-returns
+returns c =
+    let start = c .before .before in
+    let called = c .before in (
+      c .pack .ensures ∙ ap packed (verdict-is called),
+      λ h.
+          let a = packed-accepted (called .check .result) (packs called) (ap (λ (x : ℕ). x / 549755813888) (sym (c .pack .ensures)) ∙ h) in
+          subst₂ (λ (r l : ℤ). Refuted (now (start .args .schema)) r l) (toZ-ofZ (start .fits .root)) (toZ-ofZ (start .fits .least))
+          (called .check .ensures .1 (a .0) (a .1) (a .2)),
+    )
+
+pub zorambi-check-spec : {M : Type 1} → statement M
+zorambi-check-spec = tie.close (tie.spec check-requires pack-requires returns)
