@@ -1,0 +1,572 @@
+//! Tests of this implementation by itself: `selftest [cases [seed [folder of records]]]`.
+//!
+//! The paper's record and its neighbours; the outside producer's records; generated cases checked
+//! for consistency, with counts of every answer.
+
+use std::collections::BTreeMap;
+use std::panic::{catch_unwind, AssertUnwindSafe};
+use std::path::Path;
+use std::time::Instant;
+use zorambi_reference::formula::{Formulas, AND, BIG_AND, FALSE, LITERAL, NEGATED, ON_I, ON_N, OR, TRUE};
+use zorambi_reference::generate::models::{find_model, pair_rows, random_assignment, random_pairs};
+use zorambi_reference::generate::tables::Tables;
+use zorambi_reference::generate::{case, run, Input, Outcome, Rng};
+use zorambi_reference::text::{self, Named};
+use zorambi_reference::{model, packed, program, tableau, Verdict};
+
+const SCHEMA: &str = "root least\n4 1\nkind a b c\n2 0 2 0\n3 0 2 0\n7 0 2 0\n6 1 2 0\n4 2 3 0\n";
+const PROOF: &str = "kind a b c\n7 0 2 1\n2 0 1 0\n6 1 2 1\n3 0 1 0\nup rule on with other to by set\n\
+-1 0 4 -1 -1 -1 0 4\n0 2 -1 -1 -1 -1 0 2 3\n1 7 2 -1 -1 -1 0 2 3\n1 3 3 7 8 -1 0 2 3\n\
+3 4 2 5 6 -1 0 2 7 8\n4 8 -1 -1 -1 1 1 5 7\n4 6 6 8 -1 -1 0 6 8\n";
+
+#[derive(Default)]
+struct Tally {
+    passed: usize,
+    failed: usize,
+}
+
+impl Tally {
+    fn record(&mut self, name: &str, result: Result<(), String>) {
+        match result {
+            Ok(()) => self.passed += 1,
+            Err(why) => {
+                self.failed += 1;
+                if self.failed <= 50 {
+                    println!("FAILED {name}: {why}");
+                }
+            }
+        }
+    }
+
+    fn equal<T: PartialEq + std::fmt::Debug>(&mut self, name: &str, found: T, expected: T) {
+        let result = if found == expected { Ok(()) } else { Err(format!("{found:?}, expected {expected:?}")) };
+        self.record(name, result);
+    }
+}
+
+fn main() {
+    let arguments: Vec<String> = std::env::args().skip(1).collect();
+    let number = |at: usize, default: u64| arguments.get(at).and_then(|word| word.parse().ok()).unwrap_or(default);
+    let (cases, seed) = (number(0, 20_000), number(1, 1));
+    let records = arguments.get(2).cloned().unwrap_or_else(|| "/work/shared/records".to_string());
+    let mut tally = Tally::default();
+    paper(&mut tally);
+    println!("paper: {} passed, {} failed", tally.passed, tally.failed);
+    let before = tally.passed;
+    outside_records(&mut tally, Path::new(&records));
+    println!("records: {} passed, {} failed so far", tally.passed - before, tally.failed);
+    generated(&mut tally, cases, seed);
+    println!("{} passed, {} failed", tally.passed, tally.failed);
+    std::process::exit(i32::from(tally.failed > 0));
+}
+
+// ---------------------------------------------------------------------------------------------
+// The paper's record
+
+fn check_texts(schema: &[u8], proof: &[u8]) -> (u8, i32, usize, usize) {
+    let verdict = program::check_texts(schema, proof);
+    (verdict.answer, verdict.place, verdict.nodes, verdict.links)
+}
+
+fn check_model_texts(schema: &[u8], model: &[u8]) -> (u8, i32) {
+    let verdict = program::check_model_texts(schema, model);
+    (verdict.answer, verdict.place)
+}
+
+fn changed(text: &str, from: &str, to: &str) -> String {
+    assert_eq!(text.matches(from).count(), 1, "{from} does not stand once in the text");
+    text.replace(from, to)
+}
+
+fn paper(tally: &mut Tally) {
+    let mut check = |name: &str, schema: &str, proof: &str, expected: (u8, i32, usize, usize)| {
+        tally.equal(name, check_texts(schema.as_bytes(), proof.as_bytes()), expected);
+    };
+    check("the record", SCHEMA, PROOF, (0, 0, 7, 1));
+    check("least 0", &changed(SCHEMA, "4 1\n", "4 0\n"), PROOF, (14, 3, 0, 0));
+    check("least 2", &changed(SCHEMA, "4 1\n", "4 2\n"), PROOF, (14, 2, 0, 0));
+    let proof = |from: &str, to: &str| changed(PROOF, from, to);
+    check("node 5 by 2", SCHEMA, &proof("4 8 -1 -1 -1 1 1 5 7\n", "4 8 -1 -1 -1 1 2 5 7\n"), (14, 5, 0, 0));
+    check("node 5's set 5", SCHEMA, &proof("1 1 5 7\n", "1 1 5\n"), (16, 5, 0, 0));
+    check("node 6 on 8 with 6", SCHEMA, &proof("4 6 6 8 ", "4 6 8 6 "), (12, 6, 0, 0));
+    check("node 4's other 8", SCHEMA, &proof("3 4 2 5 6 ", "3 4 2 5 8 "), (15, 4, 0, 0));
+    check("last row gone", SCHEMA, &proof("4 6 6 8 -1 -1 0 6 8\n", ""), (17, 4, 0, 0));
+    check("node 6's set 6 7 8", SCHEMA, &proof("0 6 8\n", "0 6 7 8\n"), (0, 0, 7, 1));
+    check("node 6's set 5 6 8", SCHEMA, &proof("0 6 8\n", "0 5 6 8\n"), (11, 6, 0, 0));
+    check("no files", "", "", (3, 1, 0, 0));
+    check("no proof file", SCHEMA, "", (3, 1, 0, 0));
+    check("link by 0", SCHEMA, &proof("-1 1 1 5 7\n", "-1 1 0 5 7\n"), (12, 5, 0, 0));
+    check("link to itself", SCHEMA, &proof("-1 1 1 5 7\n", "-1 5 1 5 7\n"), (13, 5, 0, 0));
+    check("link to an exact node's brother", SCHEMA, &proof("-1 1 1 5 7\n", "-1 2 1 5 7\n"), (13, 5, 0, 0));
+
+    let mut model = |name: &str, schema: &str, model: &str, expected: (u8, i32)| {
+        tally.equal(name, check_model_texts(schema.as_bytes(), model.as_bytes()), expected);
+    };
+    let root_3 = changed(SCHEMA, "4 1\n", "3 1\n");
+    model("no pair, n = 1", SCHEMA, "n\n1\nsymbol index\n", (20, -1));
+    model("root 3, no pair, n = 1", &root_3, "n\n1\nsymbol index\n", (0, 0));
+    model("root 3, no pair, n = 0", &root_3, "n\n0\nsymbol index\n", (19, -1));
+    model("root 3, n = 3, pair 0 1", &root_3, "n\n3\nsymbol index\n0 1\n", (0, 0));
+    model("root 3, n = 3, pair 0 3", &root_3, "n\n3\nsymbol index\n0 3\n", (20, -1));
+
+    let line = |named, number| text::line(named, SCHEMA.as_bytes(), PROOF.as_bytes(), number);
+    let schema_lines: Vec<&str> = SCHEMA.lines().collect();
+    let proof_lines: Vec<&str> = PROOF.lines().collect();
+    for (number, expected) in schema_lines.iter().enumerate() {
+        tally.equal("a schema line", line(Named::Schema, number + 1), expected.as_bytes());
+    }
+    for (number, expected) in proof_lines.iter().enumerate() {
+        tally.equal("a proof line", line(Named::Proof, number + 1), expected.as_bytes());
+    }
+    tally.equal("line 0", line(Named::Schema, 0), b"");
+    tally.equal("a line past the last", line(Named::Proof, proof_lines.len() + 1), b"");
+    tally.equal("schema row 4", text::row_line(5, 4, 4).map(|(named, at)| line(named, at)), Some(&b"4 2 3 0"[..]));
+    tally.equal("proof row 5", text::row_line(5, 4, 5).map(|(named, at)| line(named, at)), Some(&b"7 0 2 1"[..]));
+    tally.equal("proof row 8", text::row_line(5, 4, 8).map(|(named, at)| line(named, at)), Some(&b"3 0 1 0"[..]));
+    tally.equal("row 9", text::row_line(5, 4, 9), None);
+    let node = text::node_line(4, 6).map(|at| line(Named::Proof, at));
+    tally.equal("node 6", node, Some(&b"4 6 6 8 -1 -1 0 6 8"[..]));
+
+    let accepted = packed::pack(Verdict::accepted(7, 1));
+    tally.equal("the one number", accepted, (8192 + 7) * 8192 + 1);
+    let refused = packed::pack(Verdict { answer: 20, place: -1, nodes: 0, links: 0 });
+    tally.equal("the one number of a refusal", refused, 20 * 8192 * 8192 * 8192);
+}
+
+// ---------------------------------------------------------------------------------------------
+// The outside producer's records
+
+fn outside_records(tally: &mut Tally, folder: &Path) {
+    let mut found = 0;
+    for sort in ["accepted", "refused"] {
+        let Ok(entries) = std::fs::read_dir(folder.join(sort)) else { continue };
+        let mut records: Vec<_> = entries.flatten().map(|entry| entry.path()).collect();
+        records.sort();
+        for record in records {
+            found += 1;
+            let file = |name: &str| std::fs::read(record.join(name)).unwrap_or_default();
+            let name = record.display().to_string();
+            let (schema, proof) = (file("schema.txt"), file("proof.txt"));
+            let (answer, place, nodes, links) = check_texts(&schema, &proof);
+            let expected = String::from_utf8_lossy(&file("expected")).trim_end().to_string();
+            tally.equal(&name, format!("{answer} {place} {nodes} {links}"), expected);
+            let model = file("model.txt");
+            if !model.is_empty() {
+                tally.equal(&format!("{name}, model"), check_model_texts(&schema, &model), (0, 0));
+                tally.record(&name, reads_back(&Input::ReadModel { text: model, length: 8192, fill: 3 }));
+            }
+            tally.record(&name, reads_back(&Input::ReadSchema { text: schema, length: 4096, fill: 3 }));
+            tally.record(&name, reads_back(&Input::ReadProof { text: proof, lengths: [4096, 9216, 8192], fill: 3 }));
+        }
+    }
+    tally.record("records", if found > 0 { Ok(()) } else { Err(format!("none in {}", folder.display())) });
+}
+
+/// A text that is read is written back as the same bytes.
+fn reads_back(input: &Input) -> Result<(), String> {
+    let outcome = run(input);
+    if outcome.answer() != 0 {
+        return Err(format!("refused with {}", outcome.answer()));
+    }
+    consistent(input, &outcome, &mut Rng::new(0))
+}
+
+// ---------------------------------------------------------------------------------------------
+// Generated cases
+
+#[derive(Default)]
+struct Counts {
+    cases: usize,
+    by_answer: [usize; 23],
+    linked: usize,
+    links: usize,
+    nodes: usize,
+    most_nodes: usize,
+}
+
+fn generated(tally: &mut Tally, cases: u64, seed: u64) {
+    println!("{cases} generated cases, seed {seed}");
+    let start = Instant::now();
+    let mut counts: BTreeMap<&'static str, Counts> = BTreeMap::new();
+    let mut soundness = Rng::new(seed);
+    let (mut running, mut slowest) = (0.0, (0.0, 0));
+    for number in 0..cases {
+        let case = case(seed, number);
+        let name = format!("case {number} of seed {seed} ({})", case.sort);
+        let begin = Instant::now();
+        let Ok(outcome) = catch_unwind(AssertUnwindSafe(|| run(&case.input))) else {
+            tally.record(&name, Err("panic".to_string()));
+            continue;
+        };
+        let took = begin.elapsed().as_secs_f64();
+        running += took;
+        if took > slowest.0 {
+            slowest = (took, number);
+        }
+        let entry = counts.entry(case.sort).or_default();
+        entry.cases += 1;
+        entry.by_answer[usize::from(outcome.answer()).min(22)] += 1;
+        if let (Input::Check(_), Outcome::Verdict { verdict, .. }) = (&case.input, &outcome) {
+            entry.links += verdict.links;
+            entry.linked += usize::from(verdict.links > 0);
+            entry.nodes += verdict.nodes;
+            entry.most_nodes = entry.most_nodes.max(verdict.nodes);
+        }
+        tally.record(&name, consistent(&case.input, &outcome, &mut soundness));
+    }
+    print_counts(&counts);
+    println!(
+        "{:.1} s in all; {running:.2} s in the functions under test, {:.4} s for the slowest (case {})",
+        start.elapsed().as_secs_f64(),
+        slowest.0,
+        slowest.1
+    );
+    if cases < 5000 {
+        return;
+    }
+    for answer in 0..23 {
+        let times: usize = counts.values().map(|entry| entry.by_answer[answer]).sum();
+        let result = if times > 0 { Ok(()) } else { Err("does not occur".to_string()) };
+        tally.record(&format!("answer {answer}"), result);
+    }
+    let checks: Vec<&Counts> =
+        counts.iter().filter(|(sort, _)| sort.starts_with("check")).map(|(_, entry)| entry).collect();
+    let total: usize = checks.iter().map(|entry| entry.cases).sum();
+    let accepted: usize = checks.iter().map(|entry| entry.by_answer[0]).sum();
+    let linked: usize = checks.iter().map(|entry| entry.linked).sum();
+    let enough = |fits: bool| if fits { Ok(()) } else { Err("too few".to_string()) };
+    tally.record("a fifth of the tableaux accepted", enough(accepted * 5 >= total));
+    tally.record("most of those with links", enough(linked * 2 > accepted));
+}
+
+fn print_counts(counts: &BTreeMap<&'static str, Counts>) {
+    let groups = ["check", "model", "read", "write", "program"];
+    println!("answer{}      all", groups.map(|group| format!("{group:>9}")).concat());
+    for answer in 0..23 {
+        let times = |group: &str| -> usize {
+            let sorts = counts.iter().filter(|(sort, _)| sort.starts_with(group));
+            sorts.map(|(_, entry)| entry.by_answer[answer]).sum()
+        };
+        let row: String = groups.iter().map(|group| format!("{:>9}", times(group))).collect();
+        let all: usize = groups.iter().map(|group| times(group)).sum();
+        println!("{answer:>6}{row}{all:>9}");
+    }
+    println!("{:26}{:>8}{:>10}{:>8}{:>8}{:>12}", "sort", "cases", "answer 0", "linked", "links", "most nodes");
+    for (sort, entry) in counts {
+        println!(
+            "{sort:26}{:>8}{:>10}{:>8}{:>8}{:>12}",
+            entry.cases, entry.by_answer[0], entry.linked, entry.links, entry.most_nodes
+        );
+    }
+    let sum = |of: fn(&Counts) -> usize| -> usize {
+        counts.iter().filter(|(sort, _)| sort.starts_with("check")).map(|(_, entry)| of(entry)).sum()
+    };
+    println!(
+        "tableaux: {} checked, {} accepted, {} of those with links, {} links, {} nodes in accepted ones",
+        sum(|entry| entry.cases),
+        sum(|entry| entry.by_answer[0]),
+        sum(|entry| entry.linked),
+        sum(|entry| entry.links),
+        sum(|entry| entry.nodes)
+    );
+}
+
+fn ensure(fits: bool, why: &str) -> Result<(), String> {
+    if fits {
+        Ok(())
+    } else {
+        Err(why.to_string())
+    }
+}
+
+fn is_zero<T: Copy + Default + PartialEq>(memory: &[T]) -> bool {
+    memory.iter().all(|value| *value == T::default())
+}
+
+/// What must hold of an answer whatever the case.
+fn consistent(input: &Input, outcome: &Outcome, rng: &mut Rng) -> Result<(), String> {
+    match (input, outcome) {
+        (Input::Check(tables), Outcome::Verdict { verdict, packed }) => {
+            verdict_consistent(*verdict, *packed)?;
+            let allowed = matches!(verdict.answer, 0 | 2 | 5..=17);
+            ensure(allowed, "a number that the check does not give")?;
+            write_and_read(tables)?;
+            if verdict.answer == 0 {
+                accepted_consistent(tables, *verdict, rng)?;
+            }
+            Ok(())
+        }
+        (Input::Model(model), Outcome::Verdict { verdict, packed }) => {
+            verdict_consistent(*verdict, *packed)?;
+            let allowed = matches!(verdict.answer, 0 | 2 | 5..=8 | 18..=20);
+            ensure(allowed, "a number that the model check does not give")?;
+            ensure(verdict.nodes == 0 && verdict.links == 0, "counts of a model")?;
+            if verdict.answer == 0 || verdict.answer == 20 {
+                // The value once more, by rendering the ranges out.
+                let formulas = Formulas::new(&model.schema, model.schema_count, &[], 0).ok_or("no rows")?;
+                let pairs: std::collections::HashSet<(i32, i64)> = model.pairs[..2 * model.pair_count]
+                    .chunks_exact(2)
+                    .map(|pair| (pair[0], i64::from(pair[1])))
+                    .collect();
+                let value = plain_value(&formulas, model.root, i64::from(model.n), 0, &pairs);
+                ensure(value == (verdict.answer == 0), "another value")?;
+            }
+            Ok(())
+        }
+        (Input::ReadSchema { text, .. }, Outcome::SchemaRead { read, rows }) => {
+            if read.answer != 0 {
+                ensure(is_zero(rows), "memory after a refusal")?;
+                return ensure((read.root, read.least, read.rows) == (0, 0, 0), "results after a refusal");
+            }
+            ensure(read.place == 0 && is_zero(&rows[4 * read.rows..]), "memory past the last row")?;
+            let mut out = vec![7; text.len()];
+            let written = text::write_schema(read.root, read.least, rows, read.rows, &mut out);
+            ensure(written.answer == 0 && written.bytes == text.len() && out == *text, "written back otherwise")
+        }
+        (Input::ReadProof { text, .. }, Outcome::ProofRead { read, rows, nodes, members }) => {
+            if read.answer != 0 {
+                ensure(is_zero(rows) && is_zero(nodes) && is_zero(members), "memory after a refusal")?;
+                return ensure((read.rows, read.nodes, read.members) == (0, 0, 0), "results after a refusal");
+            }
+            let rest_is_zero = is_zero(&rows[4 * read.rows..])
+                && is_zero(&nodes[9 * read.nodes..])
+                && is_zero(&members[read.members..]);
+            ensure(read.place == 0 && rest_is_zero, "memory past the last row")?;
+            let mut out = vec![7; text.len()];
+            let written = text::write_proof(rows, read.rows, nodes, read.nodes, members, read.members, &mut out);
+            ensure(written.answer == 0 && written.bytes == text.len() && out == *text, "written back otherwise")
+        }
+        (Input::ReadModel { text, .. }, Outcome::ModelRead { read, pairs }) => {
+            if read.answer != 0 {
+                ensure(is_zero(pairs), "memory after a refusal")?;
+                return ensure((read.n, read.pairs) == (0, 0), "results after a refusal");
+            }
+            ensure(read.place == 0 && is_zero(&pairs[2 * read.pairs..]), "memory past the last row")?;
+            let mut out = vec![7; text.len()];
+            let written = text::write_model(read.n, pairs, read.pairs, &mut out);
+            ensure(written.answer == 0 && written.bytes == text.len() && out == *text, "written back otherwise")
+        }
+        (Input::WriteSchema { root, least, rows, row_count, .. }, Outcome::Written { written, out }) => {
+            if written_consistent(*written, out)? {
+                let mut back = vec![7; 4096];
+                let read = text::read_schema(&out[..written.bytes], &mut back);
+                let same = (read.answer, read.root, read.least, read.rows) == (0, *root, *least, *row_count)
+                    && back[..4 * read.rows] == rows[..4 * row_count];
+                ensure(same, "read back otherwise")?;
+            }
+            Ok(())
+        }
+        (Input::WriteProof { proof, .. }, Outcome::Written { written, out }) => {
+            if written_consistent(*written, out)? {
+                proof_read_back(proof, &out[..written.bytes])?;
+            }
+            Ok(())
+        }
+        (Input::WriteModel { n, pairs, pair_count, .. }, Outcome::Written { written, out }) => {
+            if written_consistent(*written, out)? {
+                let mut back = vec![7; 8192];
+                let read = text::read_model(&out[..written.bytes], &mut back);
+                let same = (read.answer, read.n, read.pairs) == (0, *n, *pair_count)
+                    && back[..2 * read.pairs] == pairs[..2 * pair_count];
+                ensure(same, "read back otherwise")?;
+            }
+            Ok(())
+        }
+        (Input::Line { named, schema, proof, number }, Outcome::Line { start, length }) => {
+            let text = if *named == Named::Schema { schema } else { proof };
+            let lines: Vec<&[u8]> = text.split(|byte| *byte == b'\n').collect();
+            // The last piece has no byte 10 after it.
+            if *number == 0 || *number >= lines.len() {
+                return ensure((*start, *length) == (0, 0), "no such line");
+            }
+            let before: usize = lines[..number - 1].iter().map(|line| line.len() + 1).sum();
+            ensure((*start, *length) == (before, lines[number - 1].len()), "another line")
+        }
+        (Input::Texts { schema, proof }, Outcome::Verdict { verdict, .. }) => {
+            // The same by its parts, with longer tables.
+            let rows = run(&Input::ReadSchema { text: schema.clone(), length: 5000, fill: 1 });
+            let tables = run(&Input::ReadProof { text: proof.clone(), lengths: [5000, 10_000, 9000], fill: -1 });
+            let (Outcome::SchemaRead { read: s, rows }, Outcome::ProofRead { read: p, rows: proof, nodes, members }) =
+                (rows, tables)
+            else {
+                return Err("read otherwise".to_string());
+            };
+            let expected = if s.answer != 0 {
+                Verdict { answer: s.answer, place: s.place, nodes: 0, links: 0 }
+            } else if p.answer != 0 {
+                Verdict { answer: p.answer, place: p.place, nodes: 0, links: 0 }
+            } else {
+                tableau::check(s.root, s.least, &rows, s.rows, &proof, p.rows, &nodes, p.nodes, &members, p.members)
+            };
+            ensure(*verdict == expected, "another answer by its parts")
+        }
+        (
+            Input::LineNumbers { schema_count, proof_count, row, node },
+            Outcome::LineNumbers { row: row_line, node: node_line },
+        ) => {
+            let [s, p, r, j] = [*schema_count, *proof_count, *row, *node].map(|number| number as u128);
+            let expected =
+                if r < s { Some((Named::Schema, 4 + r)) } else { (r < s + p).then(|| (Named::Proof, 2 + r - s)) };
+            let small = |number: u128| usize::try_from(number).ok();
+            let expected = expected.and_then(|(named, line)| Some((named, small(line)?)));
+            ensure((*row_line, *node_line) == (expected, small(3 + p + j)), "another line number")
+        }
+        (
+            Input::Compare { rows, row_count, f, g, k },
+            Outcome::Compared { well_formed, size, depth, lowered, instance, .. },
+        ) => {
+            let known = |at: usize| size[at].is_some_and(|s| s <= 4096) && depth[at].is_some_and(|d| d <= 64);
+            if well_formed != &[true; 2] || !known(0) || !known(1) {
+                return ensure(!lowered && !instance, "compared what is no formula");
+            }
+            let formulas = Formulas::new(rows, *row_count, &[], 0).ok_or("no rows")?;
+            let plain = |row| render(&formulas, row, &|[kind, a, b, c]: [i64; 4]| Some([kind, a, b, c]));
+            let by = i64::from(*k);
+            let f_lowered = render(&formulas, *f, &|[kind, a, b, c]: [i64; 4]| {
+                Some(match kind {
+                    2 | 3 if b == 1 => [kind, a, b, c - by],
+                    6 | 7 => [kind, a, b, c + by],
+                    _ => [kind, a, b, c],
+                })
+            });
+            ensure(*lowered == (f_lowered.is_some() && f_lowered == plain(*g)), "lowered otherwise")?;
+            let f_instance = render(&formulas, *f, &|[kind, a, b, c]: [i64; 4]| match (kind, b) {
+                (0 | 1, _) => Some([kind, a, b, c]),
+                (2 | 3, 2) => Some([kind, a, 1, c - by]),
+                _ => None,
+            });
+            ensure(*instance == (f_instance.is_some() && f_instance == plain(*g)), "another instance")
+        }
+        _ => Err("an answer of another sort".to_string()),
+    }
+}
+
+/// A formula written out, with each leaf changed; iterations are leaves, their bodies written as they are.
+fn render(formulas: &Formulas, row: i32, leaf: &dyn Fn([i64; 4]) -> Option<[i64; 4]>) -> Option<String> {
+    let [kind, a, b, c] = formulas.row(row)?;
+    Some(match kind {
+        AND | OR => format!("({} {kind} {})", render(formulas, a, leaf)?, render(formulas, b, leaf)?),
+        TRUE | FALSE | LITERAL | NEGATED => format!("{:?}", leaf([kind, a, b, c].map(i64::from))?),
+        _ => {
+            let [kind, _, b, c] = leaf([kind, a, b, c].map(i64::from))?;
+            format!("<{kind} {} {b} {c}>", render(formulas, a, &Some)?)
+        }
+    })
+}
+
+/// The value of a row without stopping early.
+fn plain_value(formulas: &Formulas, row: i32, n: i64, i: i64, pairs: &std::collections::HashSet<(i32, i64)>) -> bool {
+    let Some([kind, a, b, c]) = formulas.row(row) else { return false };
+    let (b_wide, c_wide) = (i64::from(b), i64::from(c));
+    match kind {
+        TRUE => true,
+        FALSE => false,
+        LITERAL | NEGATED => {
+            let index = c_wide
+                + if b == ON_N {
+                    n
+                } else if b == ON_I {
+                    i
+                } else {
+                    0
+                };
+            pairs.contains(&(a, index)) == (kind == LITERAL)
+        }
+        AND => plain_value(formulas, a, n, i, pairs) & plain_value(formulas, b, n, i, pairs),
+        OR => plain_value(formulas, a, n, i, pairs) | plain_value(formulas, b, n, i, pairs),
+        _ => {
+            let mut index = b_wide;
+            let (mut all, mut some) = (true, false);
+            while index <= n - c_wide {
+                let value = plain_value(formulas, a, n, index, pairs);
+                all &= value;
+                some |= value;
+                index += 1;
+            }
+            if kind == BIG_AND {
+                all
+            } else {
+                some
+            }
+        }
+    }
+}
+
+fn verdict_consistent(verdict: Verdict, number: i64) -> Result<(), String> {
+    ensure(packed::unpack(number) == Some(verdict), "packed otherwise")?;
+    let Verdict { answer, place, nodes, links } = verdict;
+    if answer == 0 {
+        return ensure(place == 0, "place of an acceptance");
+    }
+    ensure(nodes == 0 && links == 0, "counts of a refusal")?;
+    let without_place = matches!(answer, 2 | 5 | 6 | 19 | 20) || (answer == 10 && place == -1);
+    ensure(without_place == (place == -1), "place of a refusal")
+}
+
+fn written_consistent(written: text::Written, out: &[u8]) -> Result<bool, String> {
+    if written.answer != 0 {
+        let right = matches!(written.answer, 2 | 5 | 21 | 22) && written.place == -1 && written.bytes == 0;
+        ensure(right && is_zero(out), "memory or results after a refusal")?;
+        return Ok(false);
+    }
+    ensure(written.place == 0 && is_zero(&out[written.bytes..]), "memory past the last byte")?;
+    Ok(true)
+}
+
+fn proof_read_back(t: &Tables, text: &[u8]) -> Result<(), String> {
+    let (mut rows, mut nodes, mut members) = (vec![7; 4096], vec![7; 9216], vec![7; 8192]);
+    let read = text::read_proof(text, &mut rows, &mut nodes, &mut members);
+    let same = (read.answer, read.rows, read.nodes, read.members) == (0, t.proof_count, t.node_count, t.member_count)
+        && rows[..4 * read.rows] == t.proof[..4 * t.proof_count]
+        && nodes[..9 * read.nodes] == t.nodes[..9 * t.node_count]
+        && members[..read.members] == t.members[..t.member_count];
+    ensure(same, "a proof read back otherwise")
+}
+
+/// What can be written of a case is read back the same.
+fn write_and_read(t: &Tables) -> Result<(), String> {
+    let mut out = vec![7; 65_536];
+    let written = text::write_schema(t.root, t.least, &t.schema, t.schema_count, &mut out);
+    if written_consistent(written, &out)? {
+        let mut rows = vec![7; 4096];
+        let read = text::read_schema(&out[..written.bytes], &mut rows);
+        let same = (read.answer, read.root, read.least, read.rows) == (0, t.root, t.least, t.schema_count)
+            && rows[..4 * read.rows] == t.schema[..4 * t.schema_count];
+        ensure(same, "a schema read back otherwise")?;
+    }
+    out.fill(7);
+    let written =
+        text::write_proof(&t.proof, t.proof_count, &t.nodes, t.node_count, &t.members, t.member_count, &mut out);
+    if written_consistent(written, &out)? {
+        proof_read_back(t, &out[..written.bytes])?;
+    }
+    Ok(())
+}
+
+/// An accepted tableau: its counts, and a root without models.
+fn accepted_consistent(t: &Tables, verdict: Verdict, rng: &mut Rng) -> Result<(), String> {
+    let links = t.nodes[..9 * t.node_count].chunks_exact(9).filter(|node| node[1] == 8).count();
+    ensure((verdict.nodes, verdict.links) == (t.node_count, links), "counts of an acceptance")?;
+    let formulas = Formulas::new(&t.schema, t.schema_count, &[], 0).ok_or("no rows")?;
+    for n in t.least..=t.least + 6 {
+        for percent in [10, 50, 90] {
+            let assignment = random_assignment(rng.bits(), percent);
+            if model::value(&formulas, t.root, i64::from(n), &assignment) {
+                return Err(format!("the root is true at n = {n} under a random assignment"));
+            }
+        }
+        if let Some(fixed) = find_model(&formulas, t.root, n, rng, 2, 3000) {
+            return Err(format!("the root is true at n = {n}: {fixed:?}"));
+        }
+        let pairs = random_pairs(rng);
+        let answer = model::check_model(t.root, t.least, &t.schema, t.schema_count, n, &pairs, pairs.len() / 2).answer;
+        ensure(answer == if n <= 9999 { 20 } else { 19 }, "a model of an accepted schema")?;
+        let half = random_assignment(rng.bits(), 50);
+        let all = (0..4).flat_map(|symbol| (-5..n as i64 % 100 + 12).map(move |index| (symbol, index)));
+        let fixed = all.map(|pair| (pair, half(pair.0, pair.1))).collect();
+        let pairs = pair_rows(&fixed);
+        let answer = model::check_model(t.root, t.least, &t.schema, t.schema_count, n, &pairs, pairs.len() / 2).answer;
+        ensure(answer != 0, "a model of an accepted schema")?;
+    }
+    Ok(())
+}

@@ -1,0 +1,24 @@
+//! Generated cases: everything follows from a seed.
+//!
+//! * [`rng`]: the pseudo-random numbers
+//! * [`pool`]: formulas built up as rows
+//! * [`schemata`]: random schemata, and families whose refutation is known by construction
+//! * [`prover`]: grows a tableau by the rules
+//! * [`tables`]: a tableau as a tree and as tables, and damage to both
+//! * [`sharp`]: tableaux in which one condition decides
+//! * [`models`]: models, found or at random
+//! * [`texts`]: texts, and damage to them
+//! * [`cases`]: one case of any sort, and what this implementation answers to it
+
+pub mod cases;
+pub mod models;
+pub mod pool;
+pub mod prover;
+pub mod rng;
+pub mod schemata;
+pub mod sharp;
+pub mod tables;
+pub mod texts;
+
+pub use cases::{case, run, Case, Input, Outcome};
+pub use rng::Rng;

@@ -1,0 +1,88 @@
+//! A second implementation of the paper `01-scope.md` ("Schema tableaux: formulas, nodes, links
+//! and texts"), written from the paper alone, to be run beside another implementation.
+//!
+//! * [`formula`]: rows, well-formedness, size, depth, outer rows, "lowered by k", "instance at n - c"
+//! * [`tableau`]: the check, with every refusal in the paper's order
+//! * [`model`]: the model check and the value of a formula
+//! * [`text`]: reading and writing of the three texts, lines by number
+//! * [`packed`]: the one number that provers get
+//! * [`program`]: the check program, from texts to the four numbers
+//! * [`generate`]: test cases from a small pseudo-random generator
+//!
+//! Every public function takes plain slices and counts with any values and does not panic.
+
+#![forbid(unsafe_code)]
+
+pub mod formula;
+pub mod generate;
+pub mod model;
+pub mod packed;
+pub mod program;
+pub mod tableau;
+pub mod text;
+
+/// Formula rows, schema and proof together (and in each text by itself).
+pub const MAX_ROWS: usize = 1024;
+/// Size of a formula, every occurrence counted.
+pub const MAX_SIZE: u64 = 4096;
+/// Depth of a formula.
+pub const MAX_DEPTH: u64 = 64;
+/// Largest distance from 0 of an offset or a limit in a formula row.
+pub const MAX_OFFSET: i32 = 9999;
+/// Largest symbol.
+pub const MAX_SYMBOL: i32 = 255;
+/// Largest least value of n, and largest n in a model.
+pub const MAX_N: i32 = 9999;
+/// Node rows.
+pub const MAX_NODES: usize = 1024;
+/// Members of all sets of a tableau.
+pub const MAX_MEMBERS: usize = 8192;
+/// True pairs of a model.
+pub const MAX_PAIRS: usize = 4096;
+/// Largest distance from 0 of the index in a pair.
+pub const MAX_INDEX: i32 = 29_997;
+/// Bytes of a text.
+pub const MAX_TEXT: usize = 65_536;
+
+/// Numbers in a formula row, a node row of a table, and a pair.
+pub const ROW_WIDTH: usize = 4;
+pub const NODE_WIDTH: usize = 9;
+pub const PAIR_WIDTH: usize = 2;
+
+/// What the check and the model check answer. `answer` 0 is acceptance, else a refusal's number.
+#[derive(Clone, Copy, Debug, PartialEq, Eq)]
+pub struct Verdict {
+    pub answer: u8,
+    pub place: i32,
+    pub nodes: usize,
+    pub links: usize,
+}
+
+impl Verdict {
+    /// Acceptance: place 0 and the two counts.
+    pub fn accepted(nodes: usize, links: usize) -> Verdict {
+        Verdict { answer: 0, place: 0, nodes, links }
+    }
+
+    /// A refusal: its number, its place, zero counts.
+    pub fn refused(refusal: Refusal) -> Verdict {
+        Verdict { answer: refusal.answer, place: refusal.place, nodes: 0, links: 0 }
+    }
+}
+
+/// A refusal's number (1 to 22) and place.
+#[derive(Clone, Copy, Debug, PartialEq, Eq)]
+pub struct Refusal {
+    pub answer: u8,
+    pub place: i32,
+}
+
+/// Shorthand for an error result.
+pub(crate) fn refuse<T>(answer: u8, place: i32) -> Result<T, Refusal> {
+    Err(Refusal { answer, place })
+}
+
+/// True if a table of `length` numbers holds `count` rows of `width` numbers.
+pub(crate) fn holds(length: usize, count: usize, width: usize) -> bool {
+    count.checked_mul(width).is_some_and(|needed| needed <= length)
+}
