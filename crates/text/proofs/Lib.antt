@@ -9,6 +9,8 @@ pub mod RowLaws
 pub mod Tables
 pub mod SchemaLaws
 pub mod Openings
+pub mod NodeLaws
+pub mod ProofLaws
 pub mod Overs
 pub mod Decimals
 pub mod Spreads

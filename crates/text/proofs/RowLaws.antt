@@ -54,11 +54,11 @@ row-length xs vs h = go (firstLine xs .ended) h
 
 -- ---- as many as required
 
-wanted-if : (fits : ℕ → Bool) (vs : List ℤ) → fits (length vs) ≡ true → wanted fits (some vs) ≡ some vs
+pub wanted-if : (fits : ℕ → Bool) (vs : List ℤ) → fits (length vs) ≡ true → wanted fits (some vs) ≡ some vs
 unfolding wanted someIf
 wanted-if fits vs h = ap (λ (t : Bool). someIf t vs) h
 
-wanted-not : (fits : ℕ → Bool) (vs : List ℤ) → fits (length vs) ≡ false → wanted fits (some vs) ≡ none
+pub wanted-not : (fits : ℕ → Bool) (vs : List ℤ) → fits (length vs) ≡ false → wanted fits (some vs) ≡ none
 unfolding wanted someIf
 wanted-not fits vs h = ap (λ (t : Bool). someIf t vs) h
 

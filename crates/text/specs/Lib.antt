@@ -2,6 +2,7 @@ pub mod Here
 pub mod Numerals
 pub mod Rows
 pub mod Texts
+pub mod Nodes
 pub mod Over
 pub mod Headed
 pub mod NodeTexts

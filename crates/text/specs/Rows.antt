@@ -1,6 +1,7 @@
 -- What the functions on lines give.
 use Prim.Native.Nat.{ℕ, zero, suc, _+_, _*_, _-_, _<_, _≤_}
 use mathlib.Core.Path.{_≡_}
+use mathlib.Core.Logic.{_⊎_}
 use mathlib.Core.Bool.{Bool, true, false}
 use mathlib.Core.List.{List, [], _∷_, _++_}
 use mathlib.Core.Option.{Option, none, some}
@@ -10,7 +11,7 @@ use lib.ListN.{length, take, drop, getD, replicate}
 use lib.Seq.{sets}
 use Rattle.stab.specs.Basic.{if_then_else_, _and_}
 use Rattle.stab.specs.Text.{Line, lines, sameBytes, someIf}
-use Rattle.stab.specs.Read.{Reading, read, stopped, _andThen_, headingAt, valuesAt, rowsFrom}
+use Rattle.stab.specs.Read.{Reading, read, stopped, _andThen_, headingAt, valuesAt, rowsFrom, ProofText, proofRowsFrom}
 use Rattle.text.specs.Here.{firstLine, afterLine, row}
 use Rattle.text.specs.declared.rows.Part.{Part}
 use Rattle.text.specs.declared.rows.Part.the-variants.{Bad, Ended, Open}
@@ -18,6 +19,8 @@ use Rattle.text.specs.declared.rows.Found.{Found}
 use Rattle.text.specs.declared.rows.Found.the-variants.{At, Nothing}
 use Rattle.text.specs.declared.rows.Rows.{Rows}
 use Rattle.text.specs.declared.rows.Rows.the-variants.{Read, Stopped}
+use Rattle.text.specs.declared.rows.Formulas.{Formulas}
+use Rattle.text.specs.declared.rows.Formulas.the-variants.{Before, Stopped as FormulasStopped}
 use Rattle.text.specs.declared.rows.Opened.{Opened}
 use Rattle.text.specs.declared.rows.Opened.the-variants.{After, Stopped as OpenStopped}
 
@@ -61,7 +64,7 @@ pub record RowOpen (text : List ℕ) (at : ℕ) (t : List ℤ) (to : ℕ) (t′ 
 -- w numbers of the line at a place, into a table from `to` on
 abbrev pub PartOf : List ℕ → ℕ → List ℤ → ℕ → ℕ → List ℤ → Part → Type 0
 PartOf text at t to w t′ Bad = row (drop at text) ≡ none
-PartOf text at t to w t′ (Ended to′ next) = RowEnded text at t to t′ to′ next
+PartOf text at t to w t′ (Ended to′ next) = RowEnded text at t to t′ to′ next × (to′ ≤ to + w)
 PartOf text at t to w t′ (Open next) = RowOpen text at t to t′ (to + w) next
 
 -- ---- rows as they have to be
@@ -80,6 +83,24 @@ RowOf text at t to w t′ (At next) = RowEnded text at t to t′ (to + w) next
 abbrev pub RowsOf : ℕ → Reading (List ℤ) → List ℤ → Rows → Type 0
 RowsOf w r t (Read n) = (r ≡ read (take (w * n) t)) × (w * n ≤ length t)
 RowsOf w r t (Stopped why k) = r ≡ stopped why k
+
+-- ---- formula rows of a proof
+
+-- rows in front of those that are read
+unfoldable pub proofAhead : List ℤ → Reading ProofText → Reading ProofText
+proofAhead vs r = r andThen λ p. read (record { table = vs ++ p .table; nodes = p .nodes; members = p .members })
+
+-- n rows stand in front of the table, and the text after them starts at a place, with `u` or at its end.
+pub record FormulasRead (text : List ℕ) (at : ℕ) (t : List ℤ) (n next : ℕ) : Type 0 where
+  pub rows : proofRowsFrom 1024 2 (lines (drop at text)) ≡ proofAhead (take (4 * n) t) (proofRowsFrom (1024 - n) (2 + n) (lines (drop next text)))
+  pub few : n ≤ 1024
+  pub room : 4 * n ≤ length t
+  pub within : next ≤ length text
+  pub stops : (length text ≤ next) ⊎ (getD text next 256 ≡ 117)
+
+abbrev pub FormulasOf : List ℕ → ℕ → List ℤ → Formulas → Type 0
+FormulasOf text at t (Before n next) = FormulasRead text at t n next
+FormulasOf text at t (FormulasStopped why k) = proofRowsFrom 1024 2 (lines (drop at text)) ≡ stopped why k
 
 -- ---- parts of a text
 

@@ -2,6 +2,7 @@
 pub mod digits;
 pub mod heading;
 pub mod line;
+mod nodes;
 mod numerals;
 pub mod read;
 mod rows;

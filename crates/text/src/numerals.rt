@@ -1,6 +1,7 @@
 // Numbers in a text: the bytes of a field, its digits, and the number that goes into a lent table.
 ghost use mathlib.Core.Path.{_≡_};
 ghost use Prim.Native.Nat.{_+_, _≤_};
+ghost use lib.IntN.{pos};
 ghost use lib.ListN.{length, getD, drop, set};
 ghost use Rattle.text.specs.Here.{runLength, runValue};
 ghost use Rattle.text.specs.Here.{numberHere};
@@ -129,6 +130,14 @@ fn put(table: &mut [i32], k: usize, z: i32)
     if k < table.len() {
         table[k] = z;
     }
+}
+
+// A natural number of at most five digits goes into a lent table, where there is room for it.
+pub fn put_natural(table: &mut [i32], k: usize, v: usize)
+    requires { ⌜ v ≤ 99999 ⌝ }
+    ensures { λ r. ⌜ now (table .exit) ≡ set (now (table .entry)) k (pos v) ⌝ }
+{
+    put(table, k, signed(v, false))
 }
 
 // What reading a number comes to: none, or one that the line goes on after, or the line's last; and the place to read on from.

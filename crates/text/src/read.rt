@@ -1,17 +1,23 @@
 // Readers of schema, proof and model texts.
+use crate::nodes;
+use crate::nodes::Nodes;
 use crate::rows;
+use crate::rows::Formulas;
 use crate::rows::Opened;
 use crate::rows::Rows;
 use stab::ModelRead;
 use stab::Place;
+use stab::ProofRead;
 use stab::Refusal;
 use stab::SchemaRead;
 ghost use mathlib.Core.Path.{_≡_};
 ghost use Prim.Native.Nat.{_≤_};
+ghost use lib.Dec.{leb};
 ghost use lib.ListN.{length, drop};
-ghost use Rattle.stab.specs.Text.{lines};
-ghost use Rattle.stab.specs.Read.{readSchema, schemaAnswer, schemaTable, readModel, modelAnswer, pairTable};
-ghost use Rattle.text.specs.Texts.{SchemaOf, schemaRows, ModelOf, modelRows};
+ghost use Rattle.stab.specs.Basic.{_and_};
+ghost use Rattle.stab.specs.Text.{lines, textLimit};
+ghost use Rattle.stab.specs.Read.{readSchema, schemaAnswer, schemaTable, readModel, modelAnswer, pairTable, proofRowsFrom, readProof, proofAnswer, proofTable, nodeTable, memberTable};
+ghost use Rattle.text.specs.Texts.{SchemaOf, schemaRows, ModelOf, modelRows, ProofOf};
 
 // What stands in a schema text after its second line, the root and the least value being known.
 fn schema_rows(text: &[u8], at: usize, table: &mut [i32], root: i32, least: i32) -> SchemaRead
@@ -113,6 +119,117 @@ pub fn read_model(text: &[u8], table: &mut [i32]) -> ModelRead
         }
         ModelRead::Refused { why: _, place: _ } => {
             rows::clear(table, 0);
+            r
+        }
+    }
+}
+
+// What stands in a proof text after its first heading.
+fn proof_rows(
+    text: &[u8],
+    at: usize,
+    table: &mut [i32],
+    nodes: &mut [i32],
+    members: &mut [i32],
+) -> ProofRead
+    requires { ⌜ (at ≤ length (now text)) × (length (now text) ≤ textLimit) × (4096 ≤ length (now table)) × (9216 ≤ length (now nodes)) × (8192 ≤ length (now members)) ⌝ }
+    ensures { λ r. ⌜ ProofOf (proofRowsFrom 1024 2 (lines (drop at (now (text .entry))))) (now (table .exit)) (now (nodes .exit)) (now (members .exit)) r ⌝ }
+{
+    match rows::formula_rows(text, at, table) {
+        Formulas::Before { rows: n, next } => match nodes::headed_nodes(
+            text,
+            next,
+            nodes,
+            members,
+            2 + n,
+        ) {
+            Nodes::Read {
+                nodes: j,
+                members: k,
+            } => ProofRead::Proof {
+                rows: n,
+                nodes: j,
+                members: k,
+            },
+            Nodes::Stopped(why, k) => ProofRead::Refused {
+                why,
+                place: Place::At(k),
+            },
+        },
+        Formulas::Stopped(why, k) => ProofRead::Refused {
+            why,
+            place: Place::At(k),
+        },
+    }
+}
+
+// All three lent tables have their full size.
+fn full(table: &[i32], nodes: &[i32], members: &[i32]) -> bool
+    ensures { λ r. ⌜ r ≡ (leb 4096 (length (now (table .entry))) and leb 9216 (length (now (nodes .entry))) and leb 8192 (length (now (members .entry)))) ⌝ }
+{
+    if table.len() < 4096 {
+        return false;
+    }
+    if nodes.len() < 9216 {
+        return false;
+    }
+    8192 <= members.len()
+}
+
+// A proof text whose rows, nodes and members are stored in front; what stands past them is no matter.
+fn proof_text(text: &[u8], table: &mut [i32], nodes: &mut [i32], members: &mut [i32]) -> ProofRead
+    ensures { λ r. ⌜ ProofOf (readProof (length (now (table .entry))) (length (now (nodes .entry))) (length (now (members .entry))) (now (text .entry))) (now (table .exit)) (now (nodes .exit)) (now (members .exit)) r ⌝ }
+{
+    if 65536 < text.len() {
+        return ProofRead::Refused {
+            why: Refusal::TextTooLong,
+            place: Place::At(0),
+        };
+    }
+    if !full(table, nodes, members) {
+        return ProofRead::Refused {
+            why: Refusal::TableTooShort,
+            place: Place::At(0),
+        };
+    }
+    let next = rows::heading(text, 0, b"kind a b c");
+    if next == 0 {
+        return ProofRead::Refused {
+            why: Refusal::Heading,
+            place: Place::At(1),
+        };
+    }
+    proof_rows(text, next, table, nodes, members)
+}
+
+// A proof text is read into lent tables: its formula rows, its nodes and the members of their sets.
+pub fn read_proof(
+    text: &[u8],
+    table: &mut [i32],
+    nodes: &mut [i32],
+    members: &mut [i32],
+) -> ProofRead
+    ensures answer { λ r. ⌜ r ≡ proofAnswer (readProof (length (now (table .entry))) (length (now (nodes .entry))) (length (now (members .entry))) (now (text .entry))) ⌝ }
+    ensures rows { λ r. ⌜ now (table .exit) ≡ proofTable (length (now (table .entry))) (readProof (length (now (table .entry))) (length (now (nodes .entry))) (length (now (members .entry))) (now (text .entry))) ⌝ }
+    ensures nodes { λ r. ⌜ now (nodes .exit) ≡ nodeTable (length (now (nodes .entry))) (readProof (length (now (table .entry))) (length (now (nodes .entry))) (length (now (members .entry))) (now (text .entry))) ⌝ }
+    ensures members { λ r. ⌜ now (members .exit) ≡ memberTable (length (now (members .entry))) (readProof (length (now (table .entry))) (length (now (nodes .entry))) (length (now (members .entry))) (now (text .entry))) ⌝ }
+{
+    let r = proof_text(text, table, nodes, members);
+    match r {
+        ProofRead::Proof {
+            rows: n,
+            nodes: j,
+            members: k,
+        } => {
+            rows::clear(table, 4 * n);
+            rows::clear(nodes, 9 * j);
+            rows::clear(members, k);
+            r
+        }
+        ProofRead::Refused { why: _, place: _ } => {
+            rows::clear(table, 0);
+            rows::clear(nodes, 0);
+            rows::clear(members, 0);
             r
         }
     }

@@ -8,7 +8,7 @@ ghost use Prim.Native.Nat.{_+_, _*_, _≤_, _<_, _^_};
 ghost use lib.Dec.{leb};
 ghost use lib.ListN.{length, drop};
 ghost use Rattle.stab.proofs.Texts.Lines.{lacks};
-ghost use Rattle.text.specs.Rows.{afterHeading, PartOf, RowOf, RowsOf, OpenedOf, headedRows, openingLines, cleared};
+ghost use Rattle.text.specs.Rows.{afterHeading, PartOf, RowOf, RowsOf, FormulasOf, OpenedOf, headedRows, openingLines, cleared};
 ghost use Rattle.stab.specs.Text.{lines};
 ghost use Rattle.stab.specs.Read.{rowsFrom, readText};
 
@@ -123,6 +123,39 @@ pub fn rows_from(
         n += 1;
     }
     Rows::Read(n)
+}
+
+// What reading the formula rows of a proof comes to: how many there are, and the place of the line after them; or a refusal at a line.
+pub enum Formulas {
+    Before { rows: usize, next: usize },
+    Stopped(Refusal, usize),
+}
+
+// Formula rows of a proof text from a place on, up to a line that starts with `u` or the end of the text; the first of them is line 2.
+pub fn formula_rows(text: &[u8], at: usize, table: &mut [i32]) -> Formulas
+    requires { ⌜ (at ≤ length (now text)) × (4096 ≤ length (now table)) ⌝ }
+    ensures { λ r. ⌜ FormulasOf (now (text .entry)) at (now (table .exit)) r ⌝ }
+{
+    let mut i = at;
+    let mut n = 0;
+    while i < text.len() {
+        if numerals::byte_at(text, i) == 117 {
+            return Formulas::Before { rows: n, next: i };
+        }
+        match row_at(text, i, table, 4 * n, 4) {
+            Found::Nothing => {
+                return Formulas::Stopped(Refusal::Line, 2 + n);
+            }
+            Found::At(next) => {
+                i = next;
+            }
+        }
+        if n == 1024 {
+            return Formulas::Stopped(Refusal::TooMany, 2 + n);
+        }
+        n += 1;
+    }
+    Formulas::Before { rows: n, next: i }
 }
 
 // A heading at a place, line `line` of the text, and then rows of w numbers up to the end, which go into a lent table.

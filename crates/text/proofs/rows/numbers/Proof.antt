@@ -72,9 +72,11 @@ returns-2 : tie.Need-returns-2 Inv-loop μ-loop
 returns-2 c =
     let b = c .before .before .before .before in
     let l = b .before .before .before .loop in
-    let a = b .before .before .before .before .before .args in
-    open-last (a .text .now) (a .at) (a .table .now) (a .to) (l .table) (l .k) (l .i) (l .inv .3) _ _ _
-    (step-last (a .text .now) (l .i) (l .table) (l .k) _ _ (sym (b .number .ensures .0) ∙ c .before .next2 .given .1) (b .number .ensures .1) (l .inv .3 .within))
+    let a = b .before .before .before .before .before .args in (
+      open-last (a .text .now) (a .at) (a .table .now) (a .to) (l .table) (l .k) (l .i) (l .inv .3) _ _ _
+          (step-last (a .text .now) (l .i) (l .table) (l .k) _ _ (sym (b .number .ensures .0) ∙ c .before .next2 .given .1) (b .number .ensures .1) (l .inv .3 .within)),
+      omega (arith, b .before .before .loop-test .taken),
+    )
 
 -- src/rows.rt:59:9
 add-k : tie.Need-add-k Inv-loop μ-loop

@@ -40,7 +40,7 @@ returns-2 c =
     let b = c .before .before .before .before .before in
     let a = b .before .before .before .args in
     let r = subst (λ (x : Part). PartOf (a .text .now) (a .at) (a .table .now) (a .to) (a .w) (b .numbers .last .1 .1 .0) x) (c .before .before .end .given .1) (b .numbers .ensures) in
-    subst (λ (k : ℕ). RowEnded (a .text .now) (a .at) (a .table .now) (a .to) (b .numbers .last .1 .1 .0) k (c .before .before .end .given .0 .1 .0)) (c .if1 .taken) r
+    subst (λ (k : ℕ). RowEnded (a .text .now) (a .at) (a .table .now) (a .to) (b .numbers .last .1 .1 .0) k (c .before .before .end .given .0 .1 .0)) (c .if1 .taken) (r .0)
 
 same-length-3 : tie.Need-same-length-3
 same-length-3 c = search needs
@@ -50,7 +50,7 @@ returns-3 c =
     let b = c .before .before .before .before .before in
     let a = b .before .before .before .args in
     let r = subst (λ (x : Part). PartOf (a .text .now) (a .at) (a .table .now) (a .to) (a .w) (b .numbers .last .1 .1 .0) x) (c .before .before .end .given .1) (b .numbers .ensures) in
-    row-short (a .text .now) (a .at) (a .table .now) (a .to) (a .w) (b .numbers .last .1 .1 .0) _ _ (c .if1 .left) r
+    row-short (a .text .now) (a .at) (a .table .now) (a .to) (a .w) (b .numbers .last .1 .1 .0) _ _ (c .if1 .left) (r .0)
 
 same-length-4 : tie.Need-same-length-4
 same-length-4 c = search needs

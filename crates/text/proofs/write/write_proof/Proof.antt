@@ -1,7 +1,7 @@
 use Prim.Native.Nat.{ℕ, _*_, _≤_}
 use native.Mathlib.Omega.{arith}
 use mathlib.Core.Path.{_≡_, sym, _∙_, ap, subst}
-use mathlib.Core.Bool.{Bool, true}
+use mathlib.Core.Bool.{Bool, true, false}
 use mathlib.Core.List.{List}
 use borrow.Author.Needs.{needs}
 use borrow.Author.Tests.{leb-true, not-true, not-false}
@@ -109,13 +109,17 @@ refuse-requires c κs = search needs
 same-length : tie.Need-same-length
 same-length c = search needs
 
+-- where the tables do not hold what their counts say
+unheld : (c : tie.Then1) → Held (c .before .before .before) ≡ false
+unheld c = sym (c .before .proof-held .ensures) ∙ not-true _ (c .if1 .taken)
+
 returns : tie.Need-returns
 unfolding writeProof
 returns c =
     let b = c .before .before .before .before in
     let s = b .before .before .before in
     answered (N s)
-    (too-short (Held s) (Few s) (Ok s) (N s) (Whole s) (sym (b .before .proof-held .ensures) ∙ not-true _ (b .if1 .taken)))
+    (too-short (Held s) (Few s) (Ok s) (N s) (Whole s) (unheld b))
     (c .before .before .refuse .ensures)
 
 -- where the tables hold, where there are few enough, and where all can be written
@@ -130,6 +134,13 @@ few c = sym (c .before .proof-few .ensures) ∙ not-false _ (c .if2 .left)
 
 ok : (c : tie.Else3) → Ok (S (c .before .before .before .before)) ≡ true
 ok c = sym (c .before .proof-writable .ensures) ∙ not-false _ (c .if3 .left)
+
+-- and where the second or the third test fails
+unfew : (c : tie.Then2) → Few (S (c .before .before)) ≡ false
+unfew c = sym (c .before .proof-few .ensures) ∙ not-true _ (c .if2 .taken)
+
+unwritable : (c : tie.Then3) → Ok (S (c .before .before .before .before)) ≡ false
+unwritable c = sym (c .before .proof-writable .ensures) ∙ not-true _ (c .if3 .taken)
 
 proof-few-requires : tie.Need-proof-few-requires
 proof-few-requires c κs = search needs
@@ -147,7 +158,7 @@ returns-2 c =
     let e = b .before .before in
     let s = S e in
     answered (N s)
-    (too-many (Held s) (Few s) (Ok s) (N s) (Whole s) (held e) (sym (b .before .proof-few .ensures) ∙ not-true _ (b .if2 .taken)))
+    (too-many (Held s) (Few s) (Ok s) (N s) (Whole s) (held e) (unfew b))
     (c .before .before .refuse2 .ensures)
 
 proof-writable-requires : tie.Need-proof-writable-requires
@@ -169,7 +180,7 @@ returns-3 c =
     let e = f .before .before in
     let s = S e in
     answered (N s)
-    (no-number (Held s) (Few s) (Ok s) (N s) (Whole s) (held e) (few f) (sym (b .before .proof-writable .ensures) ∙ not-true _ (b .if3 .taken)))
+    (no-number (Held s) (Few s) (Ok s) (N s) (Whole s) (held e) (few f) (unwritable b))
     (c .before .before .refuse3 .ensures)
 
 fill-proof-requires : tie.Need-fill-proof-requires
