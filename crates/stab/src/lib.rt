@@ -1,5 +1,6 @@
 // The answers of the paper as enums, and the row of its rule table as a struct.
 // What each case means in the paper's numbers is in specs/Answer.antt.
+pub mod heading;
 
 // Where a record is turned away: as a whole, or at a row, node or line.
 pub enum Place {

@@ -11,11 +11,4 @@ pub mod SchemaLaws
 pub mod Openings
 pub mod NodeLaws
 pub mod ProofLaws
-pub mod Overs
-pub mod Decimals
-pub mod Spreads
-pub mod RowTexts
-pub mod HeadedTexts
-pub mod Writings
-pub mod NodeRows
 pub mod LineSpans

@@ -3,7 +3,4 @@ pub mod Numerals
 pub mod Rows
 pub mod Texts
 pub mod Nodes
-pub mod Over
-pub mod Headed
-pub mod NodeTexts
 pub mod LineParts

@@ -1,9 +1,6 @@
-// The texts of schemas, proofs and models: read, written, and a line by its number.
-pub mod digits;
-pub mod heading;
+// The texts of schemas, proofs and models: read, and a line by its number.
 pub mod line;
 mod nodes;
 mod numerals;
 pub mod read;
 mod rows;
-pub mod write;

@@ -1,0 +1,46 @@
+use mathlib.Core.Path.{ap₂}
+use mathlib.Core.List.{[], _∷_}
+use borrow.Author.Needs.{needs}
+use lib.IntN.{ℤ}
+use lib.ListN.{length}
+use mir.Facts.{toZ-ofZ}
+use Rattle.stab.specs.Text.{bytes, schemaHeading, rowHeading}
+use Rattle.writing.proofs.HeadedTexts.{schema-headed}
+use Rattle.writing.proofs.Writings.{answered}
+use Rattle.writing.proofs.write_schema.Statement.{statement}
+use Rattle.writing.proofs.write_schema.Tie as tie
+
+slice-aggregate-write-headed : tie.Need-slice-aggregate-write-headed
+slice-aggregate-write-headed c = search needs
+
+slice-aggregate-write-headed-2 : tie.Need-slice-aggregate-write-headed-2
+slice-aggregate-write-headed-2 c = search needs
+
+slice-aggregate-write-headed-3 : tie.Need-slice-aggregate-write-headed-3
+slice-aggregate-write-headed-3 c = search needs
+
+write-headed-requires : tie.Need-write-headed-requires
+write-headed-requires c κs = search needs
+
+same-length : tie.Need-same-length
+same-length c = search needs
+
+returns : tie.Need-returns
+unfolding bytes schemaHeading rowHeading
+returns c =
+    let s = c .before .before .before .before .before .before .before .before in
+    answered (length (s .args .out .now))
+    (schema-headed (s .args .table .now) (s .args .rows) (s .args .root) (s .args .least) (length (s .args .out .now)) _
+    (ap₂ (λ (a b : ℤ). a ∷ b ∷ []) (toZ-ofZ (s .fits .root)) (toZ-ofZ (s .fits .least))))
+    (c .before .before .write-headed .ensures)
+
+pub write-schema-spec : {M : Type 1} → statement M
+write-schema-spec =
+    tie.close
+    (tie.spec
+    slice-aggregate-write-headed
+    slice-aggregate-write-headed-2
+    slice-aggregate-write-headed-3
+    write-headed-requires
+    same-length
+    returns)
