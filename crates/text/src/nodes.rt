@@ -3,6 +3,7 @@ use crate::numerals;
 use crate::rows;
 use crate::rows::Part;
 use stab::Refusal;
+use stab::heading;
 ghost use mathlib.Core.Path.{_≡_};
 ghost use Prim.Native.Nat.{_+_, _-_, _≤_, _<_, _^_};
 ghost use lib.ListN.{length, drop, set};
@@ -113,7 +114,7 @@ pub fn headed_nodes(
     requires { ⌜ (at ≤ length (now text)) × (length (now text) ≤ textLimit) × (9216 ≤ length (now nodes)) × (8192 ≤ length (now members)) × (line + 1 < 2 ^ 32) ⌝ }
     ensures { λ r. ⌜ NodesOf (headedNodes line (lines (drop at (now (text .entry))))) (now (nodes .exit)) (now (members .exit)) r ⌝ }
 {
-    let next = rows::heading(text, at, b"up rule on with other to by set");
+    let next = rows::heading(text, at, &heading::NODES);
     if next == 0 {
         return Nodes::Stopped(Refusal::Heading, line);
     }

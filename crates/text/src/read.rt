@@ -10,6 +10,7 @@ use stab::Place;
 use stab::ProofRead;
 use stab::Refusal;
 use stab::SchemaRead;
+use stab::heading;
 ghost use mathlib.Core.Path.{_≡_};
 ghost use Prim.Native.Nat.{_≤_};
 ghost use lib.Dec.{leb};
@@ -24,7 +25,7 @@ fn schema_rows(text: &[u8], at: usize, table: &mut [i32], root: i32, least: i32)
     requires { ⌜ (at ≤ length (now text)) × (4096 ≤ length (now table)) ⌝ }
     ensures { λ r. ⌜ SchemaOf (schemaRows root least (lines (drop at (now (text .entry))))) (now (table .exit)) r ⌝ }
 {
-    match rows::headed_rows(text, at, b"kind a b c", table, 4, 1024, 3) {
+    match rows::headed_rows(text, at, &heading::ROWS, table, 4, 1024, 3) {
         Rows::Read(n) => SchemaRead::Schema {
             root,
             least,
@@ -41,7 +42,7 @@ fn schema_rows(text: &[u8], at: usize, table: &mut [i32], root: i32, least: i32)
 fn schema_text(text: &[u8], table: &mut [i32]) -> SchemaRead
     ensures { λ r. ⌜ SchemaOf (readSchema (length (now (table .entry))) (now (text .entry))) (now (table .exit)) r ⌝ }
 {
-    match rows::opening(text, table, 4096, b"root least", 2) {
+    match rows::opening(text, table, 4096, &heading::SCHEMA, 2) {
         Opened::After(next) => {
             let root = number::at(table, 0);
             let least = number::at(table, 1);
@@ -81,7 +82,7 @@ fn model_rows(text: &[u8], at: usize, table: &mut [i32], n: i32) -> ModelRead
     requires { ⌜ (at ≤ length (now text)) × (8192 ≤ length (now table)) ⌝ }
     ensures { λ r. ⌜ ModelOf (modelRows n (lines (drop at (now (text .entry))))) (now (table .exit)) r ⌝ }
 {
-    match rows::headed_rows(text, at, b"symbol index", table, 2, 4096, 3) {
+    match rows::headed_rows(text, at, &heading::PAIRS, table, 2, 4096, 3) {
         Rows::Read(k) => ModelRead::Model { n, pairs: k },
         Rows::Stopped(why, k) => ModelRead::Refused {
             why,
@@ -94,7 +95,7 @@ fn model_rows(text: &[u8], at: usize, table: &mut [i32], n: i32) -> ModelRead
 fn model_text(text: &[u8], table: &mut [i32]) -> ModelRead
     ensures { λ r. ⌜ ModelOf (readModel (length (now (table .entry))) (now (text .entry))) (now (table .exit)) r ⌝ }
 {
-    match rows::opening(text, table, 8192, b"n", 1) {
+    match rows::opening(text, table, 8192, &heading::MODEL, 1) {
         Opened::After(next) => {
             let n = number::at(table, 0);
             model_rows(text, next, table, n)
@@ -192,7 +193,7 @@ fn proof_text(text: &[u8], table: &mut [i32], nodes: &mut [i32], members: &mut [
             place: Place::At(0),
         };
     }
-    let next = rows::heading(text, 0, b"kind a b c");
+    let next = rows::heading(text, 0, &heading::ROWS);
     if next == 0 {
         return ProofRead::Refused {
             why: Refusal::Heading,
