@@ -1,5 +1,5 @@
 // The check of a whole record.
-use crate::counts::Counts;
+use nodes::counts::Counts;
 use stab::Finding;
 use stab::Place;
 use stab::Refusal;
@@ -16,8 +16,8 @@ ghost use Rattle.stab.specs.Check.{check as checked};
 ghost use Rattle.stab.specs.Refuted.{Refuted};
 ghost use Rattle.stab.specs.declared.Verdict.the-variants.{Accepted};
 ghost use Rattle.formula.specs.Facts.{AllKnown};
-ghost use Rattle.tableau.specs.Work.{tableau};
-ghost use Rattle.tableau.specs.Ready.{Ready};
+ghost use Rattle.nodes.specs.Work.{tableau};
+ghost use Rattle.steps.specs.Ready.{Ready};
 ghost use Rattle.tableau.specs.Passes.{rowsRefusal, nodesRefusal};
 
 // The tables hold what their counts say.
@@ -79,7 +79,7 @@ fn nodes_pass(
     requires { ⌜ AllKnown (joined (now schema) s (now proof)) (now facts) (s + p) ⌝ }
     ensures { λ r. ⌜ finding r ≡ nodesRefusal (tableau (now (schema .entry)) s (now (proof .entry)) p root least (now (nodes .entry)) k (now (members .entry)) m) ⌝ }
 {
-    let found = crate::sets::sets(facts, s + p, nodes, k, members, m);
+    let found = nodes::sets::sets(facts, s + p, nodes, k, members, m);
     let Finding::Nothing = found else {
         return found;
     };
@@ -89,7 +89,7 @@ fn nodes_pass(
             place: Place::Whole,
         };
     }
-    crate::parents::parents(nodes, k, members, root)
+    nodes::parents::parents(nodes, k, members, root)
 }
 
 // Refusals 6 to 10. Where nothing is found, all is ready for single steps to be judged.
@@ -131,7 +131,7 @@ fn ready(
     let Finding::Nothing = found else {
         return found;
     };
-    crate::bounds::work_out(nodes, k, least, work);
+    nodes::bounds::work_out(nodes, k, least, work);
     Finding::Nothing
 }
 
@@ -189,7 +189,7 @@ fn first_refusal(
         nodes: k,
         members: m,
     };
-    crate::steps::each_node(schema, proof, nodes, members, &facts, &work, t)
+    steps::steps::each_node(schema, proof, nodes, members, &facts, &work, t)
 }
 
 // The check's answer. Where it accepts, the schema is false at every natural n from its least value up, under every assignment.
@@ -224,7 +224,7 @@ pub fn check(
         Finding::Found { why, place } => Verdict::Refused { why, place },
         Finding::Nothing => Verdict::Accepted {
             nodes: node_rows,
-            links: crate::links::links(nodes, node_rows),
+            links: nodes::links::links(nodes, node_rows),
         },
     }
 }

@@ -1,0 +1,9 @@
+pub mod AboveLaws
+pub mod Ascending
+pub mod BoundLaws
+pub mod NodeColumns
+pub mod ParentLaws
+pub mod Parts
+pub mod SetLaws
+pub mod SetRefusals
+pub mod WorkLaws

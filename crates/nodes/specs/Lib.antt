@@ -1,0 +1,7 @@
+pub mod Bounds
+pub mod Lent
+pub mod NodeColumn
+pub mod Parents
+pub mod Search
+pub mod Sets
+pub mod Work

@@ -1,0 +1,27 @@
+-- The members of a set by their places.
+use Prim.Native.Nat.{ℕ, _+_, _<_}
+use mathlib.Core.Path.{_≡_, sym, _∙_, ap}
+use mathlib.Core.List.{List}
+use lib.IntN.{ℤ, pos}
+use lib.ListN.{getD, length}
+use Rattle.stab.specs.Basic.{nat}
+use Rattle.stab.specs.Node.{nodeAt, setOf}
+use Rattle.nodes.specs.Lent.{SetHeld}
+use Rattle.nodes.proofs.Ascending.{part-length, part-at}
+
+module _ (nodes members : List ℤ) (j : ℕ) (held : SetHeld nodes members j) where
+  pub set-length : length (setOf members (nodeAt nodes j)) ≡ nat (nodeAt nodes j .size)
+  unfolding setOf
+  set-length = part-length members (nat (nodeAt nodes j .start)) (nat (nodeAt nodes j .size)) (held .within)
+
+  pub set-at : (i : ℕ) → i < nat (nodeAt nodes j .size) → getD (setOf members (nodeAt nodes j)) i (pos 0) ≡ getD members (nat (nodeAt nodes j .start) + i) (pos 0)
+  unfolding setOf
+  set-at i h = part-at members (nat (nodeAt nodes j .start)) (nat (nodeAt nodes j .size)) (held .within) i h
+
+  -- the number n that was read at i, from the start a
+  module _ (i : ℕ) (h : i < nat (nodeAt nodes j .size)) (n a : ℕ) (e : n ≡ nat (getD members (a + i) (pos 0))) (d : a ≡ nat (nodeAt nodes j .start)) where
+    pub member-nat : n ≡ nat (getD (setOf members (nodeAt nodes j)) i (pos 0))
+    member-nat = e ∙ ap (λ (x : ℕ). nat (getD members (x + i) (pos 0))) d ∙ ap nat (sym (set-at i h))
+
+    pub member-read : pos (nat (getD (setOf members (nodeAt nodes j)) i (pos 0))) ≡ getD (setOf members (nodeAt nodes j)) i (pos 0) → pos n ≡ getD (setOf members (nodeAt nodes j)) i (pos 0)
+    member-read natural = ap pos member-nat ∙ natural

@@ -1,0 +1,131 @@
+-- What the earlier passes leave for the judgement of a single node.
+use Prim.Native.Nat.{ℕ, zero, suc, _+_, _*_, _<_, _≤_}
+use native.Mathlib.Omega.{arith}
+use native.Mathlib.Numerals.{add-one}
+use mathlib.Core.Path.{_≡_, refl, sym, _∙_, ap}
+use mathlib.Core.Logic.{⊎-elim}
+use mathlib.Core.Bool.{Bool, true, false, true≢false}
+use mathlib.Core.List.{List}
+use lib.Dec.{leb}
+use lib.IntN.{ℤ, pos, negℤ}
+use lib.Signed.{leZ}
+use lib.ListN.{getD, length}
+use borrow.Author.Tests.{leb-true, leb-false}
+use Rattle.stab.specs.Basic.{_and_, _or_, _implies_, eqZ, nat, below, allOf, ascending}
+use Rattle.stab.specs.Node.{Tableau, node, nodeAt, set, setOf, setStart, setEnd, setFollows, setFits, parentFits, rowCount, isOuterRow, isAncestor, aboveN, aboveIf}
+use Rattle.stab.specs.Rule.{ofRule, fieldsFit, targetFits}
+use Rattle.stab.proofs.Bools.{and-left, and-right, and-both, or-false, implies-use, decide}
+use Rattle.stab.proofs.Trees.{below-nat, below-pos}
+use Rattle.stab.proofs.Whole.{eqZ-not}
+use Rattle.nodes.specs.Lent.{SetHeld, SetOfRows, ChildKnown, FieldsKnown}
+use Rattle.nodes.specs.Parents.{upFits, AllUpFit}
+use Rattle.steps.specs.Ready.{Ready}
+use Rattle.nodes.specs.Sets.{placeFits}
+use Rattle.nodes.proofs.AboveLaws.{above-none}
+use Rattle.steps.proofs.HeldLaws.{set-length}
+use Rattle.nodes.proofs.ParentLaws.{later-up, parent-less}
+use Rattle.nodes.proofs.Parts.{natural-of, is-natural, below-0}
+use Rattle.nodes.proofs.SetLaws.{at-all, place-start, place-next, place-within}
+use Rattle.nodes.proofs.SetRefusals.{outer-below}
+
+-- ---- sets
+
+module _ (T : Tableau) (facts work : List ℕ) (ready : Ready T facts work) where
+  placed : (j : ℕ) → j < T .nodeRows → placeFits (T .nodes) (T .memberCount) j ≡ true
+  unfolding placeFits setFits
+  placed j p =
+      and-both _ _ (and-left _ _ (ready .sets j p)) (and-left _ _ (and-right (setFollows (T .nodes) j) _ (ready .sets j p)))
+
+  -- each set starts at a natural number
+  starts : (j : ℕ) → j ≤ T .nodeRows → (from : ℕ) × (setStart (T .nodes) j ≡ pos from)
+  unfolding setStart
+  starts zero p = (0, refl)
+  starts (suc j) p =
+      let r = starts j (omega arith) in
+      (r .0 + nat (nodeAt (T .nodes) j .size), ap (setStart (T .nodes)) (sym (add-one j)) ∙ place-next (T .nodes) (T .memberCount) j (r .0) (r .1) (placed j (omega arith)))
+
+  listed : (j : ℕ) → j < T .nodeRows → (ascending (set T j) and allOf (isOuterRow T) (set T j)) ≡ true
+  unfolding setFits
+  listed j p =
+      and-right (leZ (setEnd (T .nodes) j) (pos (T .memberCount))) _ (and-right (setFollows (T .nodes) j) _ (ready .sets j p))
+
+  pub set-held : (j : ℕ) → j < T .nodeRows → SetHeld (T .nodes) (T .members) j
+  unfolding set node
+  set-held j p =
+      let r = starts j (omega arith) in
+      record {
+        within =
+            omega (
+              arith,
+              natural-of (nodeAt (T .nodes) j .start) (r .0) (place-start (T .nodes) (T .memberCount) j (r .0) (r .1) (placed j p)),
+              place-within (T .nodes) (T .memberCount) j (r .0) (r .1) (placed j p),
+              ready .membersHeld,
+            );
+        up = and-left _ _ (listed j p);
+      }
+
+  pub set-of-rows : (j : ℕ) → j < T .nodeRows → SetOfRows (T .nodes) (T .members) (rowCount T) j
+  unfolding set node
+  set-of-rows j p =
+      record {
+        held = set-held j p;
+        rows =
+            λ i q. outer-below T _
+            (at-all (isOuterRow T) (pos 0) (set T j) (and-right (ascending (set T j)) _ (listed j p)) i (omega (arith, set-length (T .nodes) (T .members) j (set-held j p))));
+      }
+
+  -- ---- parents
+
+  pub ups : AllUpFit (T .nodes) (T .nodeRows)
+  unfolding parentFits upFits node
+  ups zero p = and-left _ _ (ready .parents zero p)
+  ups (suc j) p = ready .parents (suc j) p
+
+  pub child-known : (j : ℕ) → 0 < j → j < T .nodeRows → ChildKnown (T .nodes) (T .members) work j
+  child-known j q p =
+      record {
+        own = set-held j p;
+        above = set-held _ (omega (arith, parent-less (T .nodes) j (ups j p) q));
+        naturals = λ i h. below-pos (rowCount T) _ (set-of-rows j p .rows i h);
+        rank = ready .worked j p .rank;
+      }
+
+-- ---- ancestors
+
+at-least-0 : (n : ℕ) (z : ℤ) → below n z ≡ true → leZ (pos 0) z ≡ true
+unfolding below
+at-least-0 n z h = and-left _ _ h
+
+-- a negative number is no ancestor
+above-negative : (nodes : List ℤ) (z : ℤ) → leZ (pos 0) z ≡ false → (k j : ℕ) → aboveN nodes k z j ≡ false
+unfolding aboveN aboveIf
+above-negative nodes z h zero j = refl
+above-negative nodes z h (suc k) j = go (below j (nodeAt nodes j .up)) refl (above-negative nodes z h k (nat (nodeAt nodes j .up)))
+  where
+    go : (v : Bool) → below j (nodeAt nodes j .up) ≡ v → aboveN nodes k z (nat (nodeAt nodes j .up)) ≡ false → aboveIf v nodes (aboveN nodes k z) z j ≡ false
+    go true e ih =
+        or-false _ _
+        (eqZ-not (nodeAt nodes j .up) z (λ d. true≢false (sym (at-least-0 j (nodeAt nodes j .up) e) ∙ ap (leZ (pos 0)) d ∙ h)))
+        ih
+    go false e ih = refl
+
+pub no-ancestor : (nodes : List ℤ) (z : ℤ) (j : ℕ) → 0 < nat (negℤ z) → isAncestor nodes z j ≡ false
+unfolding isAncestor
+no-ancestor nodes z j h = above-negative nodes z (below-0 z h) (suc j) j
+
+-- an ancestor has a smaller number
+pub ancestor-less : (nodes : List ℤ) (z : ℤ) (j : ℕ) → isAncestor nodes z j ≡ true → nat z < j
+ancestor-less nodes z j h =
+    ⊎-elim
+    (λ l.
+    ⊎-elim
+    (λ m. absurd (true≢false (sym h ∙ ap (λ (x : ℤ). isAncestor nodes x j) (sym (is-natural z (leb-true _ 0 l))) ∙ above-none nodes (nat z) j (leb-true j (nat z) m))))
+    (λ m. leb-false j (nat z) m)
+    (decide (leb j (nat z))))
+    (λ l. absurd (true≢false (sym h ∙ no-ancestor nodes z j (leb-false (nat (negℤ z)) 0 l))))
+    (decide (leb (nat (negℤ z)) 0))
+
+-- the target of a link that fits has a smaller number
+pub target-less : (T : Tableau) (j : ℕ) → targetFits T j ≡ true → ofRule 8 (node T j) ≡ true → nat (node T j .to) < j
+unfolding targetFits
+target-less T j h e = ancestor-less (T .nodes) (node T j .to) j (implies-use _ _ h e)

@@ -1,0 +1,120 @@
+use borrow.Author.Needs.{needs}
+use Prim.Native.Nat.{ℕ, _+_, _-_, _<_, _≤_}
+use native.Mathlib.Omega.{arith}
+use mathlib.Core.Path.{_≡_, sym, _∙_, ap}
+use mathlib.Core.Bool.{true, false, true≢false}
+use lib.IntN.{ℤ, pos}
+use lib.ListN.{getD}
+use mir.Syntax.{w32}
+use mir.Val.{toZ, ofZ}
+use mir.Facts.{toZ-ofZ}
+use borrow.Author.Count.{below-more}
+use Rattle.stab.specs.Basic.{nat, below}
+use Rattle.stab.specs.Node.{Tableau, node, nodeAt, set, setOf}
+use Rattle.stab.specs.Rule.{hasLowered}
+use Rattle.stab.proofs.Trees.{below-nat, below-pos}
+use Rattle.nodes.specs.Lent.{lent}
+use Rattle.steps.proofs.Answers.{refused, passed}
+use Rattle.steps.proofs.HeldLaws.{set-length, member-nat}
+use Rattle.nodes.proofs.SetLaws.{all-at, at-all, fails}
+use Rattle.steps.proofs.lowered.all_lowered.Statement.{statement}
+use Rattle.steps.proofs.lowered.all_lowered.Tie as tie
+
+abbrev Inv-loop : tie.InvT-loop
+Inv-loop schema proof nodes members facts t j to k start size i₀ i =
+    (i ≤ nat (nodeAt nodes to .size))
+    × ((a : ℕ) → a < i → hasLowered (lent schema proof nodes members t) (toZ w32 k) (setOf members (nodeAt nodes j)) (getD (setOf members (nodeAt nodes to)) a (pos 0)) ≡ true)
+
+abbrev μ-loop : tie.MeasureT-loop
+μ-loop schema proof nodes members facts t j to k start size i₀ i = size - i
+
+natural-of-requires : tie.Need-natural-of-requires Inv-loop μ-loop
+natural-of-requires c κs = omega arith
+
+natural-of-requires-2 : tie.Need-natural-of-requires-2 Inv-loop μ-loop
+natural-of-requires-2 c κs = omega arith
+
+loop-holds : tie.Need-loop-holds Inv-loop μ-loop
+loop-holds c = (omega arith, λ a p. absurd (omega arith))
+
+add-natural-at : tie.Need-add-natural-at Inv-loop μ-loop
+add-natural-at c =
+    let s = c .before .before .before .before .before in
+    omega (arith, c .before .before .before .natural-of .ensures, c .before .before .natural-of2 .ensures, s .pre .1 .1 .1 .1 .held .within, s .good)
+
+natural-at-requires : tie.Need-natural-at-requires Inv-loop μ-loop
+natural-at-requires c κs = search needs
+
+abbrev Begin : tie.After-natural-at Inv-loop μ-loop → tie.Start Inv-loop μ-loop
+Begin c = c .before .before .before .before .before .before
+
+abbrev Lent : tie.Start Inv-loop μ-loop → Tableau
+Lent s = lent (s .args .schema .now) (s .args .proof .now) (s .args .nodes .now) (s .args .members .now) (s .args .t)
+
+-- the target's member at i
+abbrev Member : tie.After-natural-at Inv-loop μ-loop → ℤ
+Member c = getD (setOf (Begin c .args .members .now) (nodeAt (Begin c .args .nodes .now) (Begin c .args .to))) (c .before .before .loop .i) (pos 0)
+
+inside : (c : tie.After-natural-at Inv-loop μ-loop) → c .before .before .loop .i < nat (nodeAt (Begin c .args .nodes .now) (Begin c .args .to) .size)
+inside c = omega (arith, c .before .before .before .natural-of2 .ensures)
+
+named : (c : tie.After-natural-at Inv-loop μ-loop) → below (Begin c .args .t .schema + Begin c .args .t .proof) (Member c) ≡ true
+named c = Begin c .pre .1 .1 .1 .1 .rows _ (inside c)
+
+read : (c : tie.After-natural-at Inv-loop μ-loop) → c .natural-at .result ≡ nat (Member c)
+read c =
+    let s = Begin c in
+    member-nat (s .args .nodes .now) (s .args .members .now) (s .args .to) (s .pre .1 .1 .1 .1 .held) _ (inside c) _ _ (c .natural-at .ensures) (c .before .before .before .before .natural-of .ensures)
+
+has-partner-requires : tie.Need-has-partner-requires Inv-loop μ-loop
+has-partner-requires c κs =
+    let p = Begin c .pre in
+    ((p .0 .0, omega (arith, read c, below-nat _ _ (named c)), p .0 .2), (p .1 .0, (p .1 .1 .0, p .1 .1 .1 .0)))
+
+-- what was asked of it
+asked :
+    (c : tie.After-has-partner Inv-loop μ-loop)
+    → c .has-partner .result ≡ hasLowered (Lent (Begin (c .before))) (toZ w32 (ofZ w32 (Begin (c .before) .args .k))) (setOf (Begin (c .before) .args .members .now) (nodeAt (Begin (c .before) .args .nodes .now) (Begin (c .before) .args .j))) (Member (c .before))
+unfolding set node
+asked c = c .has-partner .ensures ∙ ap (hasLowered _ _ _) (ap pos (read (c .before)) ∙ below-pos _ _ (named (c .before)))
+
+returns : tie.Need-returns Inv-loop μ-loop
+unfolding set node
+returns c =
+    let s = Begin (c .before .before) in
+    let i = c .before .before .before .before .loop .i in
+    sym (fails _ (λ h. true≢false (sym (at-all _ (pos 0) _ h i (omega (arith, inside (c .before .before), set-length (s .args .nodes .now) (s .args .members .now) (s .args .to) (s .pre .1 .1 .1 .1 .held)))) ∙ rw (toZ-ofZ (s .fits .k)) at (refused (asked (c .before)) (c .if1 .taken)))))
+
+add-i : tie.Need-add-i Inv-loop μ-loop
+add-i c = omega arith
+
+loop-less : tie.Need-loop-less Inv-loop μ-loop
+loop-less c = omega arith
+
+loop-again : tie.Need-loop-again Inv-loop μ-loop
+loop-again c = (omega (arith, inside (c .before .before)), below-more _ _ (c .before .before .before .before .loop .inv .1) (passed (asked (c .before)) (c .if1 .left)))
+
+returns-2 : tie.Need-returns-2 Inv-loop μ-loop
+unfolding set node
+returns-2 c =
+    let s = c .before .before .before .before .before in
+    sym (all-at _ (pos 0) _
+    (λ i q. rw (toZ-ofZ (s .fits .k)) at (c .before .loop .inv .1 i (omega (arith, c .before .before .natural-of2 .ensures, set-length (s .args .nodes .now) (s .args .members .now) (s .args .to) (s .pre .1 .1 .1 .1 .held))))))
+
+pub all-lowered-spec : {M : Type 1} → statement M
+all-lowered-spec =
+    tie.close
+    (tie.spec
+    Inv-loop
+    μ-loop
+    natural-of-requires
+    natural-of-requires-2
+    loop-holds
+    add-natural-at
+    natural-at-requires
+    has-partner-requires
+    returns
+    add-i
+    loop-less
+    loop-again
+    returns-2)

@@ -1,0 +1,45 @@
+use borrow.Author.Needs.{needs}
+use native.Mathlib.Omega.{arith}
+use mathlib.Core.Path.{_≡_, sym, _∙_}
+use mir.Facts.{toZ-ofZ}
+use Rattle.stab.specs.Formula.{joined, tree}
+use Rattle.steps.proofs.LoweredLaws.{sizes-differ}
+use Rattle.steps.proofs.lowered.is_partner.Statement.{statement}
+use Rattle.steps.proofs.lowered.is_partner.Tie as tie
+
+mul-kept-at : tie.Need-mul-kept-at
+mul-kept-at c = search needs
+
+kept-at-requires : tie.Need-kept-at-requires
+kept-at-requires c κs = search needs
+
+mul-kept-at-2 : tie.Need-mul-kept-at-2
+mul-kept-at-2 c = search needs
+
+kept-at-requires-2 : tie.Need-kept-at-requires-2
+kept-at-requires-2 c κs = search needs
+
+returns : tie.Need-returns
+returns c =
+    let s = c .before .before .before .before in
+    sizes-differ _ _ _ (λ h. c .if1 .taken (c .before .before .kept-at .ensures .0 ∙ s .pre .1 .0 (s .args .z) (s .pre .0 .0) .size ∙ h ∙ sym (c .before .kept-at2 .ensures .0 ∙ s .pre .1 .0 (s .args .x) (s .pre .0 .1) .size)))
+
+is-lowered-requires : tie.Need-is-lowered-requires
+is-lowered-requires c κs =
+    let s = c .before .before .before .before in
+    ((omega (arith, s .pre .0), omega (arith, s .pre .0)), (λ r h. s .pre .1 .1 r (omega (arith, s .pre .0)), λ r h. s .pre .1 .1 r (omega (arith, s .pre .0))))
+
+returns-2 : tie.Need-returns-2
+returns-2 c = rw (toZ-ofZ (c .before .before .before .before .before .fits .k)) at (c .is-lowered .ensures)
+
+pub is-partner-spec : {M : Type 1} → statement M
+is-partner-spec =
+    tie.close
+    (tie.spec
+    mul-kept-at
+    kept-at-requires
+    mul-kept-at-2
+    kept-at-requires-2
+    returns
+    is-lowered-requires
+    returns-2)

@@ -1,0 +1,94 @@
+use borrow.Author.Needs.{needs}
+use Prim.Native.Nat.{ℕ, _<_, _≤_}
+use native.Mathlib.Omega.{arith}
+use mathlib.Core.Path.{_≡_, sym, _∙_}
+use mathlib.Core.Bool.{true}
+use mathlib.Core.List.{[]}
+use lib.IntN.{pos}
+use Rattle.stab.specs.Formula.{joined}
+use Rattle.stab.specs.Node.{Tableau, node, row, rows, rowCount, formula}
+use Rattle.stab.specs.Rule.{ofRule, isInstance}
+use Rattle.nodes.specs.Lent.{lent}
+use Rattle.steps.proofs.Answers.{refused, passed}
+use Rattle.steps.proofs.BoundSteps.{Ranged, unfold-on, unfold-with, unfold-kind, unfold-other}
+use Rattle.steps.proofs.PartnerLaws.{unfolding-number, no-partners, not-shortened, instance-decides}
+use Rattle.steps.proofs.partners.partners_fit.Statement.{statement}
+use Rattle.steps.proofs.partners.partners_fit.Tie as tie
+
+abbrev Lent : tie.Start → Tableau
+Lent s = lent (s .args .schema .now) (s .args .proof .now) (s .args .nodes .now) [] (s .args .t)
+
+-- the rule is 3 or 4
+numbered : (c : tie.Else1) → (n : ℕ) × (node (Lent (c .before .before)) (c .before .before .args .j) .rule ≡ pos n) × (3 ≤ n) × (n < 5)
+unfolding node
+numbered c = unfolding-number _ (passed (c .before .unfolds .ensures) (c .if1 .left))
+
+unfolds-requires : tie.Need-unfolds-requires
+unfolds-requires c κs = search needs
+
+returns : tie.Need-returns
+unfolding node
+returns c = no-partners (Lent (c .before .before)) _ (refused (c .before .unfolds .ensures) (c .if1 .taken))
+
+natural-of-requires : tie.Need-natural-of-requires
+natural-of-requires c κs = search needs
+
+natural-of-requires-2 : tie.Need-natural-of-requires-2
+natural-of-requires-2 c κs = search needs
+
+is-shortened-requires : tie.Need-is-shortened-requires
+unfolding node row rows rowCount
+is-shortened-requires c κs =
+    let s = c .before .before .before .before in
+    let k = numbered (c .before .before) in
+    let p = unfold-on (Lent s) _ _ (k .1) (s .pre .1 .0) (s .pre .1 .1) (k .2) (k .3) in
+    let q = unfold-with (Lent s) _ _ (k .1) (s .pre .1 .0) (s .pre .1 .1) (k .2) (k .3) in
+    rw (c .before .natural-of .ensures, c .natural-of2 .ensures) ((omega (arith, p .0), omega (arith, q .0)), (p .2, q .2))
+
+returns-2 : tie.Need-returns-2
+unfolding node row rows
+returns-2 c =
+    let s = c .before .before .before .before .before .before in
+    not-shortened (Lent s) _
+    (passed (c .before .before .before .before .before .unfolds .ensures) (c .before .before .before .before .if1 .left))
+    (rw (c .before .before .before .natural-of .ensures, c .before .before .natural-of2 .ensures) at (refused (c .before .is-shortened .ensures) (c .if2 .taken)))
+
+natural-of-requires-3 : tie.Need-natural-of-requires-3
+natural-of-requires-3 c κs = search needs
+
+is-instance-requires : tie.Need-is-instance-requires
+unfolding node row rows rowCount
+is-instance-requires c κs =
+    let e = c .before .before .before .before .before in
+    let s = e .before .before in
+    let k = numbered e in
+    let p = unfold-on (Lent s) _ _ (k .1) (s .pre .1 .0) (s .pre .1 .1) (k .2) (k .3) in
+    let q = unfold-kind (Lent s) _ _ (k .1) (s .pre .1 .0) (s .pre .1 .1) (k .2) (k .3) in
+    let r = unfold-other (Lent s) _ _ (k .1) (s .pre .1 .0) (s .pre .1 .1) (k .2) (k .3) in
+    rw (c .before .before .before .before .natural-of .ensures, c .natural-of3 .ensures)
+    ((omega (arith, p .0), omega (arith, r)), (q, (λ a h. s .pre .1 .1 a (omega (arith, p .0)), λ a h. s .pre .1 .1 a (omega (arith, r)))))
+
+returns-3 : tie.Need-returns-3
+unfolding node row rows isInstance formula
+returns-3 c =
+    let e = c .before .before .before .before .before .before in
+    let s = e .before .before in
+    c .is-instance .ensures
+    ∙ rw (c .before .before .before .before .before .natural-of .ensures, c .before .natural-of3 .ensures)
+    (instance-decides (Lent s) _
+    (passed (e .before .unfolds .ensures) (e .if1 .left))
+    (rw (c .before .before .before .before .before .natural-of .ensures, c .before .before .before .before .natural-of2 .ensures) at (passed (c .before .before .before .is-shortened .ensures) (c .before .before .if2 .left))))
+
+pub partners-fit-spec : {M : Type 1} → statement M
+partners-fit-spec =
+    tie.close
+    (tie.spec
+    unfolds-requires
+    returns
+    natural-of-requires
+    natural-of-requires-2
+    is-shortened-requires
+    returns-2
+    natural-of-requires-3
+    is-instance-requires
+    returns-3)

@@ -1,0 +1,72 @@
+use borrow.Author.Needs.{needs}
+use native.Mathlib.Omega.{arith}
+use Prim.Native.Nat.{ℕ}
+use mathlib.Core.Path.{_≡_, sym, _∙_, ap}
+use mathlib.Core.Bool.{true}
+use mathlib.Core.Option.{none}
+use lib.Dec.{eqb}
+use Rattle.stab.specs.Node.{Tableau, node, nodeAt, childCount}
+use Rattle.stab.specs.Rule.{ruleOf, rule, childrenFit}
+use Rattle.stab.specs.Check.{finding, stepRefusal}
+use Rattle.nodes.specs.Lent.{lent}
+use Rattle.steps.proofs.Answers.{refused, passed}
+use Rattle.steps.proofs.FieldParts.{fields-known}
+use Rattle.steps.proofs.StepLaws.{fields-passed, step-found, children-found, node-passes}
+use Rattle.steps.proofs.steps.judge.Statement.{statement}
+use Rattle.steps.proofs.steps.judge.Tie as tie
+
+abbrev Lent : tie.Start → Tableau
+Lent s = lent (s .args .schema .now) (s .args .proof .now) (s .args .nodes .now) (s .args .members .now) (s .args .t)
+
+step-requires : tie.Need-step-requires
+step-requires c κs = search needs
+
+enum-told : tie.Need-enum-told
+enum-told c = search needs
+
+enum-told-2 : tie.Need-enum-told-2
+enum-told-2 c = search needs
+
+returns : tie.Need-returns
+unfolding finding
+returns c =
+    let f = ap finding (c .enum-told2 .given .1) in
+    f ∙ step-found (Lent (c .before .before .before .before .before)) _ _ (sym (c .before .before .step .ensures) ∙ f)
+
+-- where 11 to 16 found nothing
+abbrev Begin : tie.After-enum-told → tie.Start
+Begin c = c .before .before .before .before .before
+
+stepped : (c : tie.After-enum-told) → stepRefusal (Lent (Begin c)) (Begin c .args .j) ≡ none
+unfolding finding
+stepped c = sym (c .before .before .step .ensures) ∙ ap finding (c .enum-told .given .1)
+
+children-fit-requires : tie.Need-children-fit-requires
+unfolding node
+children-fit-requires c κs =
+    let s = Begin c in
+    (omega (arith, s .pre .0, s .pre .1 .nodeLimit), fields-known (Lent s) _ (fields-passed (Lent s) _ (stepped c)) .rule)
+
+counted : (c : tie.After-children-fit) → c .children-fit .result ≡ childrenFit (Lent (Begin (c .before))) (Begin (c .before) .args .j)
+unfolding childrenFit childCount rule node
+counted c =
+    let s = Begin (c .before) in
+    c .children-fit .ensures ∙ ap (λ (n : ℕ). eqb n (ruleOf (nodeAt (s .args .nodes .now) (s .args .j) .rule) .children)) (s .pre .1 .worked _ (s .pre .0) .children)
+
+returns-2 : tie.Need-returns-2
+returns-2 c = children-found (Lent (Begin (c .before .before))) _ (stepped (c .before .before)) (refused (counted (c .before)) (c .if1 .taken))
+
+returns-3 : tie.Need-returns-3
+returns-3 c = node-passes (Lent (Begin (c .before .before))) _ (stepped (c .before .before)) (passed (counted (c .before)) (c .if1 .left))
+
+pub judge-spec : {M : Type 1} → statement M
+judge-spec =
+    tie.close
+    (tie.spec
+    step-requires
+    enum-told
+    enum-told-2
+    returns
+    children-fit-requires
+    returns-2
+    returns-3)

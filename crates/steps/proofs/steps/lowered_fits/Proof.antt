@@ -1,0 +1,56 @@
+use borrow.Author.Needs.{needs}
+use native.Mathlib.Omega.{arith}
+use mathlib.Core.Path.{sym, _∙_}
+use Rattle.stab.specs.Node.{node, nodeAt, set}
+use Rattle.stab.specs.Rule.{ofRule, loweredFits}
+use Rattle.number.proofs.Signs.{read-back}
+use Rattle.steps.proofs.Answers.{refused, passed, implies-made, implies-spared}
+use Rattle.steps.proofs.steps.lowered_fits.Statement.{statement}
+use Rattle.steps.proofs.steps.lowered_fits.Tie as tie
+
+is-of-requires : tie.Need-is-of-requires
+is-of-requires c κs = search needs
+
+returns : tie.Need-returns
+unfolding loweredFits ofRule node
+returns c = implies-spared _ _ (refused (c .before .is-of .ensures) (c .if1 .taken))
+
+natural-of-requires : tie.Need-natural-of-requires
+natural-of-requires c κs = search needs
+
+mul-at : tie.Need-mul-at
+mul-at c = search needs
+
+add-at : tie.Need-add-at
+add-at c = search needs
+
+at-requires : tie.Need-at-requires
+at-requires c κs = search needs
+
+all-lowered-requires : tie.Need-all-lowered-requires
+unfolding ofRule
+all-lowered-requires c κs =
+    let e = c .before .before in
+    let p = e .before .before .before .pre in
+    let q = p .1 .1 .1 .1 (passed (e .before .is-of .ensures) (e .if1 .left)) in
+    rw (c .before .natural-of .ensures) ((p .0 .0, q .0, p .0 .1), (p .1 .0, (p .1 .1 .0, (p .1 .1 .1 .0, q .1))))
+
+returns-2 : tie.Need-returns-2
+unfolding loweredFits ofRule node nodeAt
+returns-2 c =
+    let e = c .before .before .before in
+    rw (read-back _ (c .before .at .ok), c .before .at .ensures, c .before .before .natural-of .ensures) at (c .all-lowered .ensures)
+    ∙ implies-made _ _ (passed (e .before .is-of .ensures) (e .if1 .left))
+
+pub lowered-fits-spec : {M : Type 1} → statement M
+lowered-fits-spec =
+    tie.close
+    (tie.spec
+    is-of-requires
+    returns
+    natural-of-requires
+    mul-at
+    add-at
+    at-requires
+    all-lowered-requires
+    returns-2)

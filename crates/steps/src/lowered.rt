@@ -1,0 +1,99 @@
+// The lowered rows of a link: refusal 16.
+use crate::fields;
+use nodes::counts::Counts;
+use nodes::kept;
+use nodes::node;
+ghost use mathlib.Core.Path.{_≡_};
+ghost use Prim.Native.Nat.{_+_, _<_, _≤_, _^_};
+ghost use lib.IntN.{pos};
+ghost use Rattle.stab.specs.Basic.{allOf};
+ghost use Rattle.stab.specs.Formula.{joined, tree};
+ghost use Rattle.stab.specs.Alike.{lower, agree};
+ghost use Rattle.stab.specs.Node.{set};
+ghost use Rattle.stab.specs.Rule.{hasLowered};
+ghost use Rattle.formula.specs.Facts.{AllKnown, AllFormed};
+ghost use Rattle.nodes.specs.Lent.{lent, SetOfRows};
+
+// Row x is row z lowered by k. Lowering keeps the size, so rows of different sizes are told apart at once.
+fn is_partner(
+    schema: &[i32],
+    proof: &[i32],
+    facts: &[u32],
+    t: Counts,
+    k: i32,
+    z: usize,
+    x: usize,
+) -> bool
+    requires { ⌜ (z < t .schema + t .proof) × (x < t .schema + t .proof) × (t .schema + t .proof ≤ 1024) ⌝ }
+    requires { ⌜ AllKnown (joined (now schema) (t .schema) (now proof)) (now facts) (t .schema + t .proof) ⌝ }
+    requires { ⌜ AllFormed (joined (now schema) (t .schema) (now proof)) (t .schema + t .proof) ⌝ }
+    ensures { λ r. ⌜ r ≡ agree (lower k (tree (joined (now (schema .entry)) (t .schema) (now (proof .entry))) z)) (tree (joined (now (schema .entry)) (t .schema) (now (proof .entry))) x) ⌝ }
+{
+    if kept::kept_at(facts, 4 * z) != kept::kept_at(facts, 4 * x) {
+        return false;
+    }
+    formula::compare::is_lowered(schema, t.schema, proof, k, z, x)
+}
+
+// Row z, lowered by k, stands in the set of node j.
+fn has_partner(
+    schema: &[i32],
+    proof: &[i32],
+    nodes: &[i32],
+    members: &[i32],
+    facts: &[u32],
+    t: Counts,
+    j: usize,
+    k: i32,
+    z: usize,
+) -> bool
+    requires { ⌜ (j < 2 ^ 32) × (z < t .schema + t .proof) × (t .schema + t .proof ≤ 1024) ⌝ }
+    requires { ⌜ AllKnown (joined (now schema) (t .schema) (now proof)) (now facts) (t .schema + t .proof) ⌝ }
+    requires { ⌜ AllFormed (joined (now schema) (t .schema) (now proof)) (t .schema + t .proof) ⌝ }
+    requires { ⌜ SetOfRows (now nodes) (now members) (t .schema + t .proof) j ⌝ }
+    ensures { λ r. ⌜ r ≡ hasLowered (lent (now (schema .entry)) (now (proof .entry)) (now (nodes .entry)) (now (members .entry)) t) k (set (lent (now (schema .entry)) (now (proof .entry)) (now (nodes .entry)) (now (members .entry)) t) j) (pos z) ⌝ }
+{
+    let start = node::natural_of(nodes, j, fields::START);
+    let size = node::natural_of(nodes, j, fields::SIZE);
+    let mut i: usize = 0;
+    while i < size {
+        let x = number::natural_at(members, start + i);
+        if is_partner(schema, proof, facts, t, k, z, x) {
+            return true;
+        }
+        i += 1;
+    }
+    false
+}
+
+// Each row of the set of node `to`, lowered by k, stands in the set of node j.
+pub fn all_lowered(
+    schema: &[i32],
+    proof: &[i32],
+    nodes: &[i32],
+    members: &[i32],
+    facts: &[u32],
+    t: Counts,
+    j: usize,
+    to: usize,
+    k: i32,
+) -> bool
+    requires { ⌜ (j < 2 ^ 32) × (to < 2 ^ 32) × (t .schema + t .proof ≤ 1024) ⌝ }
+    requires { ⌜ AllKnown (joined (now schema) (t .schema) (now proof)) (now facts) (t .schema + t .proof) ⌝ }
+    requires { ⌜ AllFormed (joined (now schema) (t .schema) (now proof)) (t .schema + t .proof) ⌝ }
+    requires { ⌜ SetOfRows (now nodes) (now members) (t .schema + t .proof) j ⌝ }
+    requires { ⌜ SetOfRows (now nodes) (now members) (t .schema + t .proof) to ⌝ }
+    ensures { λ r. ⌜ r ≡ allOf (hasLowered (lent (now (schema .entry)) (now (proof .entry)) (now (nodes .entry)) (now (members .entry)) t) k (set (lent (now (schema .entry)) (now (proof .entry)) (now (nodes .entry)) (now (members .entry)) t) j)) (set (lent (now (schema .entry)) (now (proof .entry)) (now (nodes .entry)) (now (members .entry)) t) to) ⌝ }
+{
+    let start = node::natural_of(nodes, to, fields::START);
+    let size = node::natural_of(nodes, to, fields::SIZE);
+    let mut i: usize = 0;
+    while i < size {
+        let z = number::natural_at(members, start + i);
+        if !has_partner(schema, proof, nodes, members, facts, t, j, k, z) {
+            return false;
+        }
+        i += 1;
+    }
+    true
+}

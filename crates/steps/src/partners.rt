@@ -1,0 +1,74 @@
+// `with` and `other` of an unfolding: refusal 15.
+use crate::fields;
+use nodes::counts::Counts;
+use nodes::node;
+ghost use mathlib.Core.Path.{_≡_};
+ghost use mathlib.Core.Bool.{true};
+ghost use mathlib.Core.List.{[]};
+ghost use Prim.Native.Nat.{_+_, _<_, _≤_, _^_};
+ghost use lib.IntN.{pos, _+ℤ_};
+ghost use Rattle.stab.specs.Basic.{_or_, eqZ};
+ghost use Rattle.stab.specs.Formula.{joined, offset};
+ghost use Rattle.stab.specs.Node.{nodeAt};
+ghost use Rattle.stab.specs.Rule.{ofRule, shortened, partnersFit};
+ghost use Rattle.formula.specs.Facts.{AllFormed};
+ghost use Rattle.nodes.specs.Lent.{lent, FieldsKnown};
+
+// Node j unfolds an iteration.
+fn unfolds(nodes: &[i32], j: usize) -> bool
+    requires { ⌜ j < 2 ^ 32 ⌝ }
+    ensures { λ r. ⌜ r ≡ (ofRule 3 (nodeAt (now (nodes .entry)) j) or ofRule 4 (nodeAt (now (nodes .entry)) j)) ⌝ }
+{
+    if node::is_of(nodes, j, fields::RULE, 3) {
+        return true;
+    }
+    node::is_of(nodes, j, fields::RULE, 4)
+}
+
+// Column c of row `with` is one more than that of row `on`.
+fn is_next(schema: &[i32], s: usize, proof: &[i32], on: usize, with: usize) -> bool
+    requires { ⌜ (on < 2 ^ 32) × (with < 2 ^ 32) ⌝ }
+    requires { ⌜ offset (joined (now schema) s (now proof) on .c) ≡ true ⌝ }
+    requires { ⌜ offset (joined (now schema) s (now proof) with .c) ≡ true ⌝ }
+    ensures { λ v. ⌜ v ≡ eqZ (joined (now (schema .entry)) s (now (proof .entry)) with .c) (joined (now (schema .entry)) s (now (proof .entry)) on .c +ℤ pos 1) ⌝ }
+{
+    formula::natural_in(schema, s, proof, with, 3) + formula::under_in(schema, s, proof, on, 3)
+        == formula::natural_in(schema, s, proof, on, 3)
+            + formula::under_in(schema, s, proof, with, 3)
+            + 1
+}
+
+// Row `with` has the body number and b of row `on`, and c + 1.
+fn is_shortened(schema: &[i32], s: usize, proof: &[i32], on: usize, with: usize) -> bool
+    requires { ⌜ (on < 2 ^ 32) × (with < 2 ^ 32) ⌝ }
+    requires { ⌜ offset (joined (now schema) s (now proof) on .c) ≡ true ⌝ }
+    requires { ⌜ offset (joined (now schema) s (now proof) with .c) ≡ true ⌝ }
+    ensures { λ v. ⌜ v ≡ shortened (joined (now (schema .entry)) s (now (proof .entry)) on) (joined (now (schema .entry)) s (now (proof .entry)) with) ⌝ }
+{
+    if !formula::compare::same_in(schema, s, proof, with, 1, on, 1) {
+        return false;
+    }
+    if !formula::compare::same_in(schema, s, proof, with, 2, on, 2) {
+        return false;
+    }
+    is_next(schema, s, proof, on, with)
+}
+
+// If node j unfolds an iteration, `with` is the shortened one and `other` its body's instance. No set is looked at.
+pub fn partners_fit(schema: &[i32], proof: &[i32], nodes: &[i32], t: Counts, j: usize) -> bool
+    requires { ⌜ (j < 2 ^ 32) × (t .schema + t .proof ≤ 1024) ⌝ }
+    requires { ⌜ FieldsKnown (lent (now schema) (now proof) (now nodes) [] t) j ⌝ }
+    requires { ⌜ AllFormed (joined (now schema) (t .schema) (now proof)) (t .schema + t .proof) ⌝ }
+    ensures { λ r. ⌜ r ≡ partnersFit (lent (now (schema .entry)) (now (proof .entry)) (now (nodes .entry)) [] t) j ⌝ }
+{
+    if !unfolds(nodes, j) {
+        return true;
+    }
+    let on = node::natural_of(nodes, j, fields::ON);
+    let with = node::natural_of(nodes, j, fields::WITH);
+    if !is_shortened(schema, t.schema, proof, on, with) {
+        return false;
+    }
+    let other = node::natural_of(nodes, j, fields::OTHER);
+    formula::compare::is_instance(schema, t.schema, proof, on, other)
+}

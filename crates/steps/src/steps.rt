@@ -1,0 +1,202 @@
+// The judgement of nodes, one by one: refusals 11 to 17.
+use crate::drawn;
+use crate::fields;
+use crate::limits;
+use crate::lowered;
+use crate::partners;
+use crate::rules;
+use nodes::above;
+use nodes::counts::Counts;
+use nodes::kept;
+use nodes::node;
+use stab::Finding;
+use stab::Place;
+use stab::Refusal;
+ghost use mathlib.Core.Path.{_≡_};
+ghost use mathlib.Core.Bool.{true};
+ghost use Prim.Native.Nat.{_+_, _*_, _<_, _≤_, _^_};
+ghost use lib.Dec.{eqb};
+ghost use lib.ListN.{getD};
+ghost use Rattle.stab.specs.Basic.{_implies_, nat, below, scan};
+ghost use Rattle.stab.specs.Formula.{joined};
+ghost use Rattle.stab.specs.Node.{nodeAt, isAncestor};
+ghost use Rattle.stab.specs.Rule.{ruleOf, ofRule, drawn, loweredFits};
+ghost use Rattle.stab.specs.Check.{finding, stepRefusal, nodeRefusal};
+ghost use Rattle.formula.specs.Facts.{AllKnown, AllFormed};
+ghost use Rattle.nodes.specs.Lent.{lent, SetOfRows, ChildKnown};
+ghost use Rattle.nodes.specs.Parents.{AllUpFit};
+ghost use Rattle.steps.specs.Ready.{Ready};
+
+// 11: the set of node j is drawn from its parent's. Node 0 has none.
+fn drawn_fits(
+    schema: &[i32],
+    proof: &[i32],
+    nodes: &[i32],
+    members: &[i32],
+    work: &[u32],
+    t: Counts,
+    j: usize,
+) -> bool
+    requires { ⌜ j < 2 ^ 32 ⌝ }
+    requires { ⌜ (0 < j → ChildKnown (now nodes) (now members) (now work) j) ⌝ }
+    ensures { λ r. ⌜ r ≡ drawn (lent (now (schema .entry)) (now (proof .entry)) (now (nodes .entry)) (now (members .entry)) t) j ⌝ }
+{
+    if j == 0 {
+        return true;
+    }
+    drawn::is_drawn(schema, proof, nodes, members, work, t, j)
+}
+
+// 13: the target of a link is a proper ancestor.
+fn target_fits(nodes: &[i32], j: usize) -> bool
+    requires { ⌜ (j < 2 ^ 32) × AllUpFit (now nodes) (j + 1) ⌝ }
+    ensures { λ r. ⌜ r ≡ (ofRule 8 (nodeAt (now (nodes .entry)) j) implies isAncestor (now (nodes .entry)) (nodeAt (now (nodes .entry)) j .to) j) ⌝ }
+{
+    if !node::is_of(nodes, j, fields::RULE, 8) {
+        return true;
+    }
+    if 0 < node::under_of(nodes, j, fields::TO) {
+        return false;
+    }
+    above::is_above(nodes, node::natural_of(nodes, j, fields::TO), j)
+}
+
+// 16: of a link, each row of the target's set, lowered, stands in the node's.
+fn lowered_fits(
+    schema: &[i32],
+    proof: &[i32],
+    nodes: &[i32],
+    members: &[i32],
+    facts: &[u32],
+    t: Counts,
+    j: usize,
+) -> bool
+    requires { ⌜ (j < 2 ^ 32) × (t .schema + t .proof ≤ 1024) ⌝ }
+    requires { ⌜ AllKnown (joined (now schema) (t .schema) (now proof)) (now facts) (t .schema + t .proof) ⌝ }
+    requires { ⌜ AllFormed (joined (now schema) (t .schema) (now proof)) (t .schema + t .proof) ⌝ }
+    requires { ⌜ SetOfRows (now nodes) (now members) (t .schema + t .proof) j ⌝ }
+    requires { ⌜ (ofRule 8 (nodeAt (now nodes) j) ≡ true → (nat (nodeAt (now nodes) j .to) < 2 ^ 32) × SetOfRows (now nodes) (now members) (t .schema + t .proof) (nat (nodeAt (now nodes) j .to))) ⌝ }
+    ensures { λ r. ⌜ r ≡ loweredFits (lent (now (schema .entry)) (now (proof .entry)) (now (nodes .entry)) (now (members .entry)) t) j ⌝ }
+{
+    if !node::is_of(nodes, j, fields::RULE, 8) {
+        return true;
+    }
+    let to = node::natural_of(nodes, j, fields::TO);
+    let by = number::at(nodes, 9 * j + fields::BY);
+    lowered::all_lowered(schema, proof, nodes, members, facts, t, j, to, by)
+}
+
+// 17: the number of children is the rule's.
+fn children_fit(nodes: &[i32], work: &[u32], j: usize) -> bool
+    requires { ⌜ (j < 2 ^ 32) × (below 9 (nodeAt (now nodes) j .rule) ≡ true) ⌝ }
+    ensures { λ r. ⌜ r ≡ eqb (getD (now (work .entry)) (4 * j + 3) 0) (ruleOf (nodeAt (now (nodes .entry)) j .rule) .children) ⌝ }
+{
+    let rule = rules::rule_at(node::natural_of(nodes, j, fields::RULE));
+    kept::kept_at(work, 4 * j + 3) == rule.children
+}
+
+// What is found of node j: 11 to 16, which look at no later node.
+fn step(
+    schema: &[i32],
+    proof: &[i32],
+    nodes: &[i32],
+    members: &[i32],
+    facts: &[u32],
+    work: &[u32],
+    t: Counts,
+    j: usize,
+) -> Finding
+    requires { ⌜ j < t .nodes ⌝ }
+    requires { ⌜ Ready (lent (now schema) (now proof) (now nodes) (now members) t) (now facts) (now work) ⌝ }
+    ensures { λ r. ⌜ finding r ≡ stepRefusal (lent (now (schema .entry)) (now (proof .entry)) (now (nodes .entry)) (now (members .entry)) t) j ⌝ }
+{
+    if !drawn_fits(schema, proof, nodes, members, work, t, j) {
+        return Finding::Found {
+            why: Refusal::Drawn,
+            place: Place::At(j),
+        };
+    }
+    if !fields::fields_fit(schema, proof, nodes, members, t, j) {
+        return Finding::Found {
+            why: Refusal::Step,
+            place: Place::At(j),
+        };
+    }
+    if !target_fits(nodes, j) {
+        return Finding::Found {
+            why: Refusal::Target,
+            place: Place::At(j),
+        };
+    }
+    if !limits::bound_fits(schema, proof, nodes, work, t, j) {
+        return Finding::Found {
+            why: Refusal::Bound,
+            place: Place::At(j),
+        };
+    }
+    if !partners::partners_fit(schema, proof, nodes, t, j) {
+        return Finding::Found {
+            why: Refusal::Partner,
+            place: Place::At(j),
+        };
+    }
+    if !lowered_fits(schema, proof, nodes, members, facts, t, j) {
+        return Finding::Found {
+            why: Refusal::Lowered,
+            place: Place::At(j),
+        };
+    }
+    Finding::Nothing
+}
+
+// What is found of node j.
+pub fn judge(
+    schema: &[i32],
+    proof: &[i32],
+    nodes: &[i32],
+    members: &[i32],
+    facts: &[u32],
+    work: &[u32],
+    t: Counts,
+    j: usize,
+) -> Finding
+    requires { ⌜ j < t .nodes ⌝ }
+    requires { ⌜ Ready (lent (now schema) (now proof) (now nodes) (now members) t) (now facts) (now work) ⌝ }
+    ensures { λ r. ⌜ finding r ≡ nodeRefusal (lent (now (schema .entry)) (now (proof .entry)) (now (nodes .entry)) (now (members .entry)) t) j ⌝ }
+{
+    let found = step(schema, proof, nodes, members, facts, work, t, j);
+    let Finding::Nothing = found else {
+        return found;
+    };
+    if !children_fit(nodes, work, j) {
+        return Finding::Found {
+            why: Refusal::Children,
+            place: Place::At(j),
+        };
+    }
+    Finding::Nothing
+}
+
+// What is found of the nodes, ascending.
+pub fn each_node(
+    schema: &[i32],
+    proof: &[i32],
+    nodes: &[i32],
+    members: &[i32],
+    facts: &[u32],
+    work: &[u32],
+    t: Counts,
+) -> Finding
+    requires { ⌜ Ready (lent (now schema) (now proof) (now nodes) (now members) t) (now facts) (now work) ⌝ }
+    ensures { λ r. ⌜ finding r ≡ scan (nodeRefusal (lent (now (schema .entry)) (now (proof .entry)) (now (nodes .entry)) (now (members .entry)) t)) (t .nodes) ⌝ }
+{
+    let mut j: usize = 0;
+    while j < t.nodes {
+        let found = judge(schema, proof, nodes, members, facts, work, t, j);
+        let Finding::Nothing = found else {
+            return found;
+        };
+        j += 1;
+    }
+    Finding::Nothing
+}
