@@ -1,4 +1,5 @@
 pub mod Column
 pub mod Facts
 pub mod Compare
+pub mod Memo
 pub mod Rows

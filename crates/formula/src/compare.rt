@@ -1,4 +1,6 @@
 // When two formulas agree, found by going down the two side by side.
+use crate::memo::remember;
+use crate::memo::was_seen;
 use crate::natural_in;
 use crate::under_in;
 ghost use mathlib.Core.Path.{_≡_};
@@ -12,6 +14,7 @@ ghost use Rattle.stab.specs.Alike.{lower, instance, agree};
 ghost use Rattle.formula.specs.Column.{column};
 ghost use Rattle.formula.specs.Compare.{changed, limit, literalOf, InRange};
 ghost use Rattle.formula.specs.Facts.{AllFormed};
+ghost use Rattle.formula.specs.Memo.{Remembers};
 
 // Column l of row q is what stands at i in t.
 fn same_as(schema: &[i32], s: usize, proof: &[i32], q: usize, l: usize, t: &[i32], i: usize) -> bool
@@ -131,7 +134,8 @@ fn ranges_agree(
 }
 
 // Row g agrees with row f, changed by the mode: 0 not at all, 1 lowered by k, 2 a body's instance at n - k, for k = up - down.
-// The first row number falls at each part. Bodies agree exactly, and most are the very same row.
+// The first row number falls at each part. Bodies agree exactly, and most are the very same row. Rows have parts in common, so
+// two that were found to agree are remembered, and not gone down again.
 pub fn agrees(
     schema: &[i32],
     s: usize,
@@ -141,13 +145,16 @@ pub fn agrees(
     down: usize,
     f: usize,
     g: usize,
+    seen: &mut [u32],
 ) -> bool
-    requires { ⌜ (f < 2 ^ 32) × (g < 2 ^ 32) ⌝ }
+    requires { ⌜ (f < 1024) × (g < 1024) ⌝ }
     requires { ⌜ (up < 2 ^ 32) × (down < 2 ^ 32) ⌝ }
     requires { ⌜ mode ≤ 2 ⌝ }
     requires { ⌜ AllFormed (joined (now schema) s (now proof)) (f + 1) ⌝ }
     requires { ⌜ AllFormed (joined (now schema) s (now proof)) (g + 1) ⌝ }
+    requires { ⌜ Remembers (joined (now schema) s (now proof)) (pos up -ℤ pos down) (now seen) ⌝ }
     ensures { λ r. ⌜ r ≡ agree (changed mode (pos up -ℤ pos down) (tree (joined (now (schema .entry)) s (now (proof .entry))) f)) (tree (joined (now (schema .entry)) s (now (proof .entry))) g) ⌝ }
+    ensures { λ _. ⌜ Remembers (joined (now (schema .entry)) s (now (proof .entry))) (pos up -ℤ pos down) (now (seen .exit)) ⌝ }
 {
     if mode == 0 {
         if f == g {
@@ -164,28 +171,49 @@ pub fn agrees(
     if kind < 4 {
         return literals_agree(schema, s, proof, mode, up, down, f, g);
     }
+    if was_seen(seen, mode, f, g) {
+        return true;
+    }
     let part = natural_in(schema, s, proof, f, 1);
     let twin = natural_in(schema, s, proof, g, 1);
     if kind < 6 {
-        if !agrees(schema, s, proof, mode, up, down, part, twin) {
+        if !agrees(schema, s, proof, mode, up, down, part, twin, seen) {
             return false;
         }
         let right = natural_in(schema, s, proof, f, 2);
         let right_twin = natural_in(schema, s, proof, g, 2);
-        return agrees(schema, s, proof, mode, up, down, right, right_twin);
+        if !agrees(schema, s, proof, mode, up, down, right, right_twin, seen) {
+            return false;
+        }
+        remember(seen, mode, f, g);
+        return true;
     }
     if !ranges_agree(schema, s, proof, mode, up, down, f, g) {
         return false;
     }
-    agrees(schema, s, proof, 0, up, down, part, twin)
+    if !agrees(schema, s, proof, 0, up, down, part, twin, seen) {
+        return false;
+    }
+    remember(seen, mode, f, g);
+    true
 }
 
-// Row x is row z lowered by k.
-pub fn is_lowered(schema: &[i32], s: usize, proof: &[i32], k: i32, z: usize, x: usize) -> bool
-    requires { ⌜ (z < 2 ^ 32) × (x < 2 ^ 32) ⌝ }
+// Row x is row z lowered by k. What is lent remembers pairs for this k.
+pub fn is_lowered(
+    schema: &[i32],
+    s: usize,
+    proof: &[i32],
+    k: i32,
+    z: usize,
+    x: usize,
+    seen: &mut [u32],
+) -> bool
+    requires { ⌜ (z < 1024) × (x < 1024) ⌝ }
     requires { ⌜ AllFormed (joined (now schema) s (now proof)) (z + 1) ⌝ }
     requires { ⌜ AllFormed (joined (now schema) s (now proof)) (x + 1) ⌝ }
+    requires { ⌜ Remembers (joined (now schema) s (now proof)) k (now seen) ⌝ }
     ensures { λ r. ⌜ r ≡ agree (lower k (tree (joined (now (schema .entry)) s (now (proof .entry))) z)) (tree (joined (now (schema .entry)) s (now (proof .entry))) x) ⌝ }
+    ensures { λ _. ⌜ Remembers (joined (now (schema .entry)) s (now (proof .entry))) k (now (seen .exit)) ⌝ }
 {
     agrees(
         schema,
@@ -196,12 +224,13 @@ pub fn is_lowered(schema: &[i32], s: usize, proof: &[i32], k: i32, z: usize, x: 
         number::under(k),
         z,
         x,
+        seen,
     )
 }
 
 // Row z is the instance at n - c of the body of the iteration in row `on`.
 pub fn is_instance(schema: &[i32], s: usize, proof: &[i32], on: usize, z: usize) -> bool
-    requires { ⌜ (on < 2 ^ 32) × (z < 2 ^ 32) ⌝ }
+    requires { ⌜ (on < 1024) × (z < 1024) ⌝ }
     requires { ⌜ 6 ≤ nat (joined (now schema) s (now proof) on .kind) ⌝ }
     requires { ⌜ AllFormed (joined (now schema) s (now proof)) (on + 1) ⌝ }
     requires { ⌜ AllFormed (joined (now schema) s (now proof)) (z + 1) ⌝ }
@@ -209,14 +238,7 @@ pub fn is_instance(schema: &[i32], s: usize, proof: &[i32], on: usize, z: usize)
 {
     let up = natural_in(schema, s, proof, on, 3);
     let down = under_in(schema, s, proof, on, 3);
-    agrees(
-        schema,
-        s,
-        proof,
-        2,
-        up,
-        down,
-        natural_in(schema, s, proof, on, 1),
-        z,
-    )
+    let body = natural_in(schema, s, proof, on, 1);
+    let mut seen = [0u32; 1024];
+    agrees(schema, s, proof, 2, up, down, body, z, &mut seen)
 }

@@ -1,5 +1,6 @@
 // Formula rows: which are well formed, how large they are, when two agree.
 pub mod compare;
+mod memo;
 pub mod rows;
 
 ghost use mathlib.Core.Path.{_≡_};

@@ -12,6 +12,7 @@ ghost use Rattle.stab.specs.Alike.{lower, agree};
 ghost use Rattle.stab.specs.Node.{set};
 ghost use Rattle.stab.specs.Rule.{hasLowered};
 ghost use Rattle.formula.specs.Facts.{AllKnown, AllFormed};
+ghost use Rattle.formula.specs.Memo.{Remembers};
 ghost use Rattle.nodes.specs.Lent.{lent, SetOfRows};
 
 // Row x is row z lowered by k. Lowering keeps the size, so rows of different sizes are told apart at once.
@@ -23,16 +24,19 @@ fn is_partner(
     k: i32,
     z: usize,
     x: usize,
+    seen: &mut [u32],
 ) -> bool
     requires { ⌜ (z < t .schema + t .proof) × (x < t .schema + t .proof) × (t .schema + t .proof ≤ 1024) ⌝ }
     requires { ⌜ AllKnown (joined (now schema) (t .schema) (now proof)) (now facts) (t .schema + t .proof) ⌝ }
     requires { ⌜ AllFormed (joined (now schema) (t .schema) (now proof)) (t .schema + t .proof) ⌝ }
+    requires { ⌜ Remembers (joined (now schema) (t .schema) (now proof)) k (now seen) ⌝ }
     ensures { λ r. ⌜ r ≡ agree (lower k (tree (joined (now (schema .entry)) (t .schema) (now (proof .entry))) z)) (tree (joined (now (schema .entry)) (t .schema) (now (proof .entry))) x) ⌝ }
+    ensures { λ _. ⌜ Remembers (joined (now (schema .entry)) (t .schema) (now (proof .entry))) k (now (seen .exit)) ⌝ }
 {
     if kept::kept_at(facts, 4 * z) != kept::kept_at(facts, 4 * x) {
         return false;
     }
-    formula::compare::is_lowered(schema, t.schema, proof, k, z, x)
+    formula::compare::is_lowered(schema, t.schema, proof, k, z, x, seen)
 }
 
 // Row z, lowered by k, stands in the set of node j.
@@ -46,19 +50,22 @@ fn has_partner(
     j: usize,
     k: i32,
     z: usize,
+    seen: &mut [u32],
 ) -> bool
     requires { ⌜ (j < 2 ^ 32) × (z < t .schema + t .proof) × (t .schema + t .proof ≤ 1024) ⌝ }
     requires { ⌜ AllKnown (joined (now schema) (t .schema) (now proof)) (now facts) (t .schema + t .proof) ⌝ }
     requires { ⌜ AllFormed (joined (now schema) (t .schema) (now proof)) (t .schema + t .proof) ⌝ }
     requires { ⌜ SetOfRows (now nodes) (now members) (t .schema + t .proof) j ⌝ }
+    requires { ⌜ Remembers (joined (now schema) (t .schema) (now proof)) k (now seen) ⌝ }
     ensures { λ r. ⌜ r ≡ hasLowered (lent (now (schema .entry)) (now (proof .entry)) (now (nodes .entry)) (now (members .entry)) t) k (set (lent (now (schema .entry)) (now (proof .entry)) (now (nodes .entry)) (now (members .entry)) t) j) (pos z) ⌝ }
+    ensures { λ _. ⌜ Remembers (joined (now (schema .entry)) (t .schema) (now (proof .entry))) k (now (seen .exit)) ⌝ }
 {
     let start = node::natural_of(nodes, j, fields::START);
     let size = node::natural_of(nodes, j, fields::SIZE);
     let mut i: usize = 0;
     while i < size {
         let x = number::natural_at(members, start + i);
-        if is_partner(schema, proof, facts, t, k, z, x) {
+        if is_partner(schema, proof, facts, t, k, z, x, seen) {
             return true;
         }
         i += 1;
@@ -87,10 +94,11 @@ pub fn all_lowered(
 {
     let start = node::natural_of(nodes, to, fields::START);
     let size = node::natural_of(nodes, to, fields::SIZE);
+    let mut seen = [0u32; 1024];
     let mut i: usize = 0;
     while i < size {
         let z = number::natural_at(members, start + i);
-        if !has_partner(schema, proof, nodes, members, facts, t, j, k, z) {
+        if !has_partner(schema, proof, nodes, members, facts, t, j, k, z, &mut seen) {
             return false;
         }
         i += 1;

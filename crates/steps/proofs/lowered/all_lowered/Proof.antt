@@ -1,7 +1,7 @@
 use borrow.Author.Needs.{needs}
 use Prim.Native.Nat.{ℕ, _+_, _-_, _<_, _≤_}
 use native.Mathlib.Omega.{arith}
-use mathlib.Core.Path.{_≡_, sym, _∙_, ap}
+use mathlib.Core.Path.{_≡_, refl, sym, _∙_, ap}
 use mathlib.Core.Bool.{true, false, true≢false}
 use lib.IntN.{ℤ, pos}
 use lib.ListN.{getD}
@@ -10,9 +10,12 @@ use mir.Val.{toZ, ofZ}
 use mir.Facts.{toZ-ofZ}
 use borrow.Author.Count.{below-more}
 use Rattle.stab.specs.Basic.{nat, below}
+use Rattle.stab.specs.Formula.{joined}
 use Rattle.stab.specs.Node.{Tableau, node, nodeAt, set, setOf}
 use Rattle.stab.specs.Rule.{hasLowered}
 use Rattle.stab.proofs.Trees.{below-nat, below-pos}
+use Rattle.formula.specs.Memo.{Remembers}
+use Rattle.formula.proofs.Remembering.{nothing-seen}
 use Rattle.nodes.specs.Lent.{lent}
 use Rattle.steps.proofs.Answers.{refused, passed}
 use Rattle.steps.proofs.HeldLaws.{set-length, member-nat}
@@ -21,12 +24,13 @@ use Rattle.steps.proofs.lowered.all_lowered.Statement.{statement}
 use Rattle.steps.proofs.lowered.all_lowered.Tie as tie
 
 abbrev Inv-loop : tie.InvT-loop
-Inv-loop schema proof nodes members facts t j to k start size i₀ i =
+Inv-loop schema proof nodes members facts t j to k start size seen₀ i₀ seen i =
     (i ≤ nat (nodeAt nodes to .size))
     × ((a : ℕ) → a < i → hasLowered (lent schema proof nodes members t) (toZ w32 k) (setOf members (nodeAt nodes j)) (getD (setOf members (nodeAt nodes to)) a (pos 0)) ≡ true)
+    × Remembers (joined schema (t .schema) proof) (toZ w32 k) seen
 
 abbrev μ-loop : tie.MeasureT-loop
-μ-loop schema proof nodes members facts t j to k start size i₀ i = size - i
+μ-loop schema proof nodes members facts t j to k start size seen₀ i₀ seen i = size - i
 
 natural-of-requires : tie.Need-natural-of-requires Inv-loop μ-loop
 natural-of-requires c κs = omega arith
@@ -35,7 +39,7 @@ natural-of-requires-2 : tie.Need-natural-of-requires-2 Inv-loop μ-loop
 natural-of-requires-2 c κs = omega arith
 
 loop-holds : tie.Need-loop-holds Inv-loop μ-loop
-loop-holds c = (omega arith, λ a p. absurd (omega arith))
+loop-holds c = (omega arith, λ a p. absurd (omega arith), nothing-seen _ _ 1024 refl)
 
 add-natural-at : tie.Need-add-natural-at Inv-loop μ-loop
 add-natural-at c =
@@ -66,24 +70,35 @@ read c =
     let s = Begin c in
     member-nat (s .args .nodes .now) (s .args .members .now) (s .args .to) (s .pre .1 .1 .1 .1 .held) _ (inside c) _ _ (c .natural-at .ensures) (c .before .before .before .before .natural-of .ensures)
 
+slice-aggregate-has-partner : tie.Need-slice-aggregate-has-partner Inv-loop μ-loop
+slice-aggregate-has-partner c = sym (c .before .before .before .loop .inv .2 .room)
+
 has-partner-requires : tie.Need-has-partner-requires Inv-loop μ-loop
 has-partner-requires c κs =
-    let p = Begin c .pre in
-    ((p .0 .0, omega (arith, read c, below-nat _ _ (named c)), p .0 .2), (p .1 .0, (p .1 .1 .0, p .1 .1 .1 .0)))
+    let n = c .before in
+    let p = Begin n .pre in
+    ((p .0 .0, omega (arith, read n, below-nat _ _ (named n)), p .0 .2), (p .1 .0, (p .1 .1 .0, (p .1 .1 .1 .0, n .before .before .loop .inv .2))))
+
+abbrev begin : tie.After-has-partner Inv-loop μ-loop → tie.Start Inv-loop μ-loop
+begin c = Begin (c .before .before)
 
 -- what was asked of it
 asked :
     (c : tie.After-has-partner Inv-loop μ-loop)
-    → c .has-partner .result ≡ hasLowered (Lent (Begin (c .before))) (toZ w32 (ofZ w32 (Begin (c .before) .args .k))) (setOf (Begin (c .before) .args .members .now) (nodeAt (Begin (c .before) .args .nodes .now) (Begin (c .before) .args .j))) (Member (c .before))
+    → c .has-partner .result ≡ hasLowered (Lent (begin c)) (toZ w32 (ofZ w32 (begin c .args .k))) (setOf (begin c .args .members .now) (nodeAt (begin c .args .nodes .now) (begin c .args .j))) (Member (c .before .before))
 unfolding set node
-asked c = c .has-partner .ensures ∙ ap (hasLowered _ _ _) (ap pos (read (c .before)) ∙ below-pos _ _ (named (c .before)))
+asked c =
+    let n = c .before .before in
+    c .has-partner .ensures .0 ∙ ap (hasLowered _ _ _) (ap pos (read n) ∙ below-pos _ _ (named n))
 
 returns : tie.Need-returns Inv-loop μ-loop
 unfolding set node
 returns c =
-    let s = Begin (c .before .before) in
-    let i = c .before .before .before .before .loop .i in
-    sym (fails _ (λ h. true≢false (sym (at-all _ (pos 0) _ h i (omega (arith, inside (c .before .before), set-length (s .args .nodes .now) (s .args .members .now) (s .args .to) (s .pre .1 .1 .1 .1 .held)))) ∙ rw (toZ-ofZ (s .fits .k)) at (refused (asked (c .before)) (c .if1 .taken)))))
+    let a = c .before .before in
+    let n = a .before .before in
+    let s = Begin n in
+    let i = n .before .before .loop .i in
+    sym (fails _ (λ h. true≢false (sym (at-all _ (pos 0) _ h i (omega (arith, inside n, set-length (s .args .nodes .now) (s .args .members .now) (s .args .to) (s .pre .1 .1 .1 .1 .held)))) ∙ rw (toZ-ofZ (s .fits .k)) at (refused (asked a) (c .if1 .taken)))))
 
 add-i : tie.Need-add-i Inv-loop μ-loop
 add-i c = omega arith
@@ -92,7 +107,10 @@ loop-less : tie.Need-loop-less Inv-loop μ-loop
 loop-less c = omega arith
 
 loop-again : tie.Need-loop-again Inv-loop μ-loop
-loop-again c = (omega (arith, inside (c .before .before)), below-more _ _ (c .before .before .before .before .loop .inv .1) (passed (asked (c .before)) (c .if1 .left)))
+loop-again c =
+    let a = c .before .before in
+    let n = a .before .before in
+    (omega (arith, inside n), below-more _ _ (n .before .before .loop .inv .1) (passed (asked a) (c .if1 .left)), a .has-partner .ensures .1)
 
 returns-2 : tie.Need-returns-2 Inv-loop μ-loop
 unfolding set node
@@ -112,6 +130,7 @@ all-lowered-spec =
     loop-holds
     add-natural-at
     natural-at-requires
+    slice-aggregate-has-partner
     has-partner-requires
     returns
     add-i

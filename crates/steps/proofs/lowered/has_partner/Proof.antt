@@ -13,21 +13,23 @@ use Rattle.stab.specs.Basic.{nat}
 use Rattle.stab.specs.Node.{Tableau, node, nodeAt, set, setOf, formula, rows}
 use Rattle.stab.specs.Rule.{isLowered, hasLowered}
 use Rattle.stab.proofs.Trees.{below-nat}
+use Rattle.formula.specs.Memo.{Remembers}
 use Rattle.nodes.specs.Lent.{lent}
 use Rattle.steps.proofs.HeldLaws.{set-length, member-nat}
 use Rattle.steps.proofs.LoweredLaws.{lowered-at, lowered-nowhere}
-use Rattle.stab.specs.Formula.{tree}
+use Rattle.stab.specs.Formula.{joined, tree}
 use Rattle.stab.specs.Alike.{lower, agree}
 use Rattle.steps.proofs.lowered.has_partner.Statement.{statement}
 use Rattle.steps.proofs.lowered.has_partner.Tie as tie
 
 abbrev Inv-loop : tie.InvT-loop
-Inv-loop schema proof nodes members facts t j k z start size i₀ i =
+Inv-loop schema proof nodes members facts t j k z seen₀ start size i₀ seen i =
     (i ≤ nat (nodeAt nodes j .size))
     × ((a : ℕ) → a < i → isLowered (lent schema proof nodes members t) (toZ w32 k) (pos z) (getD (setOf members (nodeAt nodes j)) a (pos 0)) ≡ false)
+    × Remembers (joined schema (t .schema) proof) (toZ w32 k) seen
 
 abbrev μ-loop : tie.MeasureT-loop
-μ-loop schema proof nodes members facts t j k z start size i₀ i = size - i
+μ-loop schema proof nodes members facts t j k z seen₀ start size i₀ seen i = size - i
 
 natural-of-requires : tie.Need-natural-of-requires Inv-loop μ-loop
 natural-of-requires c κs = omega arith
@@ -35,19 +37,24 @@ natural-of-requires c κs = omega arith
 natural-of-requires-2 : tie.Need-natural-of-requires-2 Inv-loop μ-loop
 natural-of-requires-2 c κs = omega arith
 
+abbrev first : tie.After-natural-of Inv-loop μ-loop → tie.Start Inv-loop μ-loop
+first c = c .before .before .before
+
 loop-holds : tie.Need-loop-holds Inv-loop μ-loop
-loop-holds c = (omega arith, λ a p. absurd (omega arith))
+loop-holds c =
+    let s = first (c .before) in
+    (omega arith, λ a p. absurd (omega arith), rw (toZ-ofZ (s .fits .k)) (s .pre .1 .1 .1 .1))
 
 add-natural-at : tie.Need-add-natural-at Inv-loop μ-loop
 add-natural-at c =
-    let s = c .before .before .before .before .before in
-    omega (arith, c .before .before .before .natural-of .ensures, c .before .before .natural-of2 .ensures, s .pre .1 .1 .1 .held .within, s .good)
+    let s = first (c .before .before .before) in
+    omega (arith, c .before .before .before .natural-of .ensures, c .before .before .natural-of2 .ensures, s .pre .1 .1 .1 .0 .held .within, s .good)
 
 natural-at-requires : tie.Need-natural-at-requires Inv-loop μ-loop
 natural-at-requires c κs = search needs
 
 abbrev Begin : tie.After-natural-at Inv-loop μ-loop → tie.Start Inv-loop μ-loop
-Begin c = c .before .before .before .before .before .before
+Begin c = first (c .before .before .before .before)
 
 abbrev Lent : tie.Start Inv-loop μ-loop → Tableau
 Lent s = lent (s .args .schema .now) (s .args .proof .now) (s .args .nodes .now) (s .args .members .now) (s .args .t)
@@ -62,30 +69,43 @@ inside c = omega (arith, c .before .before .before .natural-of2 .ensures)
 read : (c : tie.After-natural-at Inv-loop μ-loop) → c .natural-at .result ≡ nat (Member c)
 read c =
     let s = Begin c in
-    member-nat (s .args .nodes .now) (s .args .members .now) (s .args .j) (s .pre .1 .1 .1 .held) _ (inside c) _ _ (c .natural-at .ensures) (c .before .before .before .before .natural-of .ensures)
+    member-nat (s .args .nodes .now) (s .args .members .now) (s .args .j) (s .pre .1 .1 .1 .0 .held) _ (inside c) _ _ (c .natural-at .ensures) (c .before .before .before .before .natural-of .ensures)
 
 is-partner-requires : tie.Need-is-partner-requires Inv-loop μ-loop
 is-partner-requires c κs =
-    let s = Begin c in
-    ((s .pre .0 .1, omega (arith, read c, below-nat _ _ (s .pre .1 .1 .1 .rows _ (inside c))), s .pre .0 .2), (s .pre .1 .0, s .pre .1 .1 .0))
+    let n = c .before in
+    let s = Begin n in
+    ((s .pre .0 .1, omega (arith, read n, below-nat _ _ (s .pre .1 .1 .1 .0 .rows _ (inside n))), s .pre .0 .2), (s .pre .1 .0, (s .pre .1 .1 .0, n .before .before .loop .inv .2)))
+
+abbrev begin : tie.After-is-partner Inv-loop μ-loop → tie.Start Inv-loop μ-loop
+begin c = Begin (c .before .before)
 
 -- what was asked of it
 asked :
     (c : tie.After-is-partner Inv-loop μ-loop)
-    → c .is-partner .result ≡ isLowered (Lent (Begin (c .before))) (toZ w32 (ofZ w32 (Begin (c .before) .args .k))) (pos (Begin (c .before) .args .z)) (Member (c .before))
+    → c .is-partner .result ≡ isLowered (Lent (begin c)) (toZ w32 (ofZ w32 (begin c .args .k))) (pos (begin c .args .z)) (Member (c .before .before))
 unfolding isLowered formula rows nat
 asked c =
-    let s = Begin (c .before) in
-    c .is-partner .ensures
-    ∙ ap (λ (n : ℕ). agree (lower (toZ w32 (ofZ w32 (s .args .k))) (tree (rows (Lent s)) (s .args .z))) (tree (rows (Lent s)) n)) (read (c .before))
+    let s = begin c in
+    c .is-partner .ensures .0
+    ∙ ap (λ (n : ℕ). agree (lower (toZ w32 (ofZ w32 (s .args .k))) (tree (rows (Lent s)) (s .args .z))) (tree (rows (Lent s)) n)) (read (c .before .before))
+
+same-length : tie.Need-same-length Inv-loop μ-loop
+same-length c =
+    let a = c .before .before .before in
+    a .is-partner .ensures .1 .room ∙ sym (begin a .pre .1 .1 .1 .1 .room)
 
 returns : tie.Need-returns Inv-loop μ-loop
 unfolding set node
 returns c =
-    let s = Begin (c .before .before) in
-    lowered-at (Lent s) _ _ _ (c .before .before .before .before .loop .i)
-    (omega (arith, inside (c .before .before), set-length (s .args .nodes .now) (s .args .members .now) (s .args .j) (s .pre .1 .1 .1 .held)))
-    (rw (toZ-ofZ (s .fits .k)) at (sym (asked (c .before)) ∙ c .if1 .taken))
+    let a = c .before .before .before in
+    let n = a .before .before in
+    let s = Begin n in (
+      lowered-at (Lent s) _ _ _ (n .before .before .loop .i)
+          (omega (arith, inside n, set-length (s .args .nodes .now) (s .args .members .now) (s .args .j) (s .pre .1 .1 .1 .0 .held)))
+          (rw (toZ-ofZ (s .fits .k)) at (sym (asked a) ∙ c .if1 .taken)),
+      rw (toZ-ofZ (s .fits .k)) at (a .is-partner .ensures .1),
+    )
 
 add-i : tie.Need-add-i Inv-loop μ-loop
 add-i c = omega arith
@@ -94,14 +114,22 @@ loop-less : tie.Need-loop-less Inv-loop μ-loop
 loop-less c = omega arith
 
 loop-again : tie.Need-loop-again Inv-loop μ-loop
-loop-again c = (omega (arith, inside (c .before .before)), below-more _ _ (c .before .before .before .before .loop .inv .1) (sym (asked (c .before)) ∙ c .if1 .left))
+loop-again c =
+    let a = c .before .before .before in
+    let n = a .before .before in
+    (omega (arith, inside n), below-more _ _ (n .before .before .loop .inv .1) (sym (asked a) ∙ c .if1 .left), a .is-partner .ensures .1)
+
+same-length-2 : tie.Need-same-length-2 Inv-loop μ-loop
+same-length-2 c = c .before .loop .inv .2 .room ∙ sym (first (c .before .before .before) .pre .1 .1 .1 .1 .room)
 
 returns-2 : tie.Need-returns-2 Inv-loop μ-loop
 unfolding set node
 returns-2 c =
-    let s = c .before .before .before .before .before in
-    lowered-nowhere (Lent s) _ _ _
-    (λ i q. rw (toZ-ofZ (s .fits .k)) at (c .before .loop .inv .1 i (omega (arith, c .before .before .natural-of2 .ensures, set-length (s .args .nodes .now) (s .args .members .now) (s .args .j) (s .pre .1 .1 .1 .held)))))
+    let s = first (c .before .before .before) in (
+      lowered-nowhere (Lent s) _ _ _
+          (λ i q. rw (toZ-ofZ (s .fits .k)) at (c .before .loop .inv .1 i (omega (arith, c .before .before .natural-of2 .ensures, set-length (s .args .nodes .now) (s .args .members .now) (s .args .j) (s .pre .1 .1 .1 .0 .held))))),
+      rw (toZ-ofZ (s .fits .k)) at (c .before .loop .inv .2),
+    )
 
 pub has-partner-spec : {M : Type 1} → statement M
 has-partner-spec =
@@ -115,8 +143,10 @@ has-partner-spec =
     add-natural-at
     natural-at-requires
     is-partner-requires
+    same-length
     returns
     add-i
     loop-less
     loop-again
+    same-length-2
     returns-2)

@@ -19,18 +19,28 @@ mul-kept-at-2 c = search needs
 kept-at-requires-2 : tie.Need-kept-at-requires-2
 kept-at-requires-2 c κs = search needs
 
+abbrev start : tie.After-kept-at2 → tie.Start
+start c = c .before .before .before .before
+
 returns : tie.Need-returns
 returns c =
-    let s = c .before .before .before .before in
-    sizes-differ _ _ _ (λ h. c .if1 .taken (c .before .before .kept-at .ensures .0 ∙ s .pre .1 .0 (s .args .z) (s .pre .0 .0) .size ∙ h ∙ sym (c .before .kept-at2 .ensures .0 ∙ s .pre .1 .0 (s .args .x) (s .pre .0 .1) .size)))
+    let s = start (c .before) in
+    (sizes-differ _ _ _ (λ h. c .if1 .taken (c .before .before .kept-at .ensures .0 ∙ s .pre .1 .0 (s .args .z) (s .pre .0 .0) .size ∙ h ∙ sym (c .before .kept-at2 .ensures .0 ∙ s .pre .1 .0 (s .args .x) (s .pre .0 .1) .size))), s .pre .1 .1 .1)
 
 is-lowered-requires : tie.Need-is-lowered-requires
 is-lowered-requires c κs =
-    let s = c .before .before .before .before in
-    ((omega (arith, s .pre .0), omega (arith, s .pre .0)), (λ r h. s .pre .1 .1 r (omega (arith, s .pre .0)), λ r h. s .pre .1 .1 r (omega (arith, s .pre .0))))
+    let s = start (c .before .before) in
+    ((omega (arith, s .pre .0), omega (arith, s .pre .0)), (λ r h. s .pre .1 .1 .0 r (omega (arith, s .pre .0)), (λ r h. s .pre .1 .1 .0 r (omega (arith, s .pre .0)), rw (toZ-ofZ (s .fits .k)) (s .pre .1 .1 .1))))
+
+same-length : tie.Need-same-length
+same-length c =
+    let a = c .before .before in
+    a .is-lowered .ensures .1 .room ∙ sym (start (a .before .before .before) .pre .1 .1 .1 .room)
 
 returns-2 : tie.Need-returns-2
-returns-2 c = rw (toZ-ofZ (c .before .before .before .before .before .fits .k)) at (c .is-lowered .ensures)
+returns-2 c =
+    let a = c .before .before in
+    rw (toZ-ofZ (start (a .before .before .before) .fits .k)) at (a .is-lowered .ensures)
 
 pub is-partner-spec : {M : Type 1} → statement M
 is-partner-spec =
@@ -42,4 +52,5 @@ is-partner-spec =
     kept-at-requires-2
     returns
     is-lowered-requires
+    same-length
     returns-2)
