@@ -1,28 +1,29 @@
 -- The order of pairs in range is the order of their keys.
-use Prim.Native.Nat.{ℕ, zero, suc, _+_, _-_, _*_, _<_, _≤_}
+use Prim.Native.Nat.{ℕ, zero, suc, _+_, _-_, _*_, _^_, _<_, _≤_}
 use native.Mathlib.Omega.{arith}
-use native.Mathlib.Numerals.{sub-one}
-use native.Mathlib.Decide.{decLt}
+use native.Mathlib.Numerals.{add-one, sub-one}
 use mathlib.Core.Path.{_≡_, refl, sym, _∙_, ap, ap₂, subst}
 use mathlib.Core.Logic.{⊎-elim}
-use mathlib.Core.Bool.{true, false}
+use mathlib.Core.Bool.{Bool, true, false, true≢false}
 use mathlib.Core.List.{List}
 use mathlib.Core.Option.{none, some}
 use lib.Dec.{ltb, eqb}
 use lib.IntN.{ℤ, pos, negℤ, _+ℤ_}
 use lib.Signed.{leZ, ltZ}
-use borrow.Author.Tests.{ltb-true, lt-ltb, eqb-true, eq-eqb, ne-eqb}
-use Rattle.stab.specs.Basic.{_and_, eqZ, nat, within, scan}
+use borrow.Author.Tests.{ltb-true, ltb-false, lt-ltb, le-ltb, eqb-true, eq-eqb, ne-eqb}
+use Rattle.stab.specs.Basic.{if_then_else_, _and_, _or_, eqZ, nat, within, count, scan}
 use Rattle.stab.specs.Model.{symbolAt, indexOf, pairInRange, pairBefore, pairFollows, pairRefusal, isPair, listed}
 use Rattle.stab.specs.Check.{atUnless}
 use Rattle.stab.specs.declared.Place.the-variants.{At}
 use Rattle.stab.specs.declared.Refusal.the-variants.{Pair}
 use Rattle.stab.specs.declared.Verdict.the-variants.{Refused}
-use Rattle.stab.proofs.Bools.{and-left, and-right, and-both, or-cases, or-left, or-right, or-false, decide, same-test, none-unless, unless-none, some-unless}
+use Rattle.stab.proofs.Bools.{and-left, and-right, and-both, or-cases, or-left, or-right, or-false, if-true, if-false, decide, same-test, none-unless, unless-none, some-unless}
 use Rattle.stab.proofs.Whole.{atom, num, _⊕_, _⊖_, lt-of, of-lt, of-not-lt, of-eq, plus-nat, nat-pos, eqZ-true, eqZ-of}
 use Rattle.stab.proofs.Scans.{below-suc, none-scan, scan-more, scan-found}
 use Rattle.model.specs.Index.{unbiased}
-use Rattle.model.specs.Pairs.{AllInRange, Sorted, keyAt}
+use Rattle.model.specs.Pairs.{AllInRange, Sorted, keyAt, keysBelow}
+use Rattle.model.specs.Word.{wordAt}
+use Rattle.model.proofs.Words.{word-same, word-none, word-set}
 use Rattle.model.proofs.Parts.{minus-nat, within-under, within-nat, biased-parts, unbiased-of}
 
 -- ---- two pairs, by numbers
@@ -140,7 +141,16 @@ key-less t n s k (suc l) p q =
     (λ e. subst (λ (m : ℕ). keyAt t m < keyAt t (suc l)) (sym e) step)
     (below-suc k l p)
 
+pub key-rises : (t : List ℤ) (n : ℕ) → Sorted t n → (k l : ℕ) → k ≤ l → l < n → keyAt t k ≤ keyAt t l
+key-rises t n s k l p q =
+    ⊎-elim (λ b. omega (arith, key-less t n s k l b q)) (λ e. omega (arith, ap (keyAt t) e)) (below-suc k l (omega arith))
+
 -- ---- the list
+
+or-second : (a b : Bool) → a ≡ false → (a or b) ≡ b
+unfolding _or_
+or-second true b h = absurd (true≢false h)
+or-second false b h = refl
 
 pub listed-at : (t : List ℤ) (n : ℕ) (s i : ℤ) (k : ℕ) → k < n → isPair t s i k ≡ true → listed t n s i ≡ true
 unfolding listed
@@ -156,14 +166,26 @@ unfolding listed
 listed-none t zero s i h = refl
 listed-none t (suc n) s i h = or-false (isPair t s i n) _ (h n (omega arith)) (listed-none t n s i (λ k p. h k (omega arith)))
 
+-- no pair from k on is the pair of s and i
+pub listed-stop : (t : List ℤ) (k n : ℕ) (s i : ℤ) → k ≤ n → ((l : ℕ) → k ≤ l → l < n → isPair t s i l ≡ false) → listed t k s i ≡ listed t n s i
+unfolding listed
+listed-stop t k zero s i p h =
+    let e : k ≡ 0 = omega arith in
+    ap (λ (m : ℕ). listed t m s i) e
+listed-stop t k (suc n) s i p h =
+    ⊎-elim
+    (λ q. listed-stop t k n s i (omega arith) (λ l u v. h l u (omega arith)) ∙ sym (or-second (isPair t s i n) _ (h n (omega arith) (omega arith))))
+    (λ e. ap (λ (m : ℕ). listed t m s i) e)
+    (below-suc k (suc n) (omega arith))
+
 -- ---- the search
 
--- a key that is in the list stands at one of lo .. hi - 1
+-- where the keys reach `key`, of lo .. hi
 pub record Bracket (t : List ℤ) (n key lo hi : ℕ) : Type 0 where
   pub order : lo ≤ hi
   pub end : hi ≤ n
   pub below : (k : ℕ) → k < lo → keyAt t k < key
-  pub above : (k : ℕ) → hi ≤ k → k < n → key < keyAt t k
+  pub above : (k : ℕ) → hi ≤ k → k < n → key ≤ keyAt t k
 
 pub bracket-start : (t : List ℤ) (n key : ℕ) → Bracket t n key 0 n
 bracket-start t n key =
@@ -179,28 +201,106 @@ module _ (t : List ℤ) (n key lo hi : ℕ) (s : Sorted t n) (b : Bracket t n ke
         above = b .above;
       }
 
-  pub bracket-down : lo ≤ m → key < keyAt t m → Bracket t n key lo m
+  pub bracket-down : lo ≤ m → key ≤ keyAt t m → Bracket t n key lo m
   bracket-down l h =
       record {
         order = l;
         end = omega (arith, b .end);
         below = b .below;
-        above = λ k q r. ⊎-elim (λ u. omega (arith, key-less t n s m k u r)) (λ e. subst (λ (j : ℕ). key < keyAt t j) e h) (below-suc m k (omega arith));
+        above = λ k q r. ⊎-elim (λ u. omega (arith, key-less t n s m k u r)) (λ e. subst (λ (j : ℕ). key ≤ keyAt t j) e h) (below-suc m k (omega arith));
       }
 
-module _ (t : List ℤ) (n a x lo hi : ℕ) (s : Sorted t n) (q : x < 131072) where
-  pub search-found : (m : ℕ) → m < n → keyAt t m ≡ a * 131072 + x → listed t n (pos a) (unbiased x) ≡ true
-  search-found m p e =
-      listed-at t n (pos a) (unbiased x) m p (pair-is t m a x (s .inRange m p) q ∙ eq-eqb (keyAt t m) (a * 131072 + x) e)
+-- what passes stands first
+count-first : (p : ℕ → Bool) (r n : ℕ) → r ≤ n → ((k : ℕ) → k < r → p k ≡ true) → ((k : ℕ) → r ≤ k → k < n → p k ≡ false) → r ≡ count p n
+unfolding count
+count-first p r zero l f g = omega arith
+count-first p r (suc n) l f g =
+    ⊎-elim
+    (λ (m : r < suc n). count-first p r n (omega arith) f (λ k u v. g k u (omega arith)) ∙ sym (if-false (p n) _ _ (g n (omega arith) (omega arith))))
+    (λ (e : r ≡ suc n).
+    e
+    ∙ ap suc (count-first p n n (omega arith) (λ k u. f k (omega arith)) (λ k u v. absurd (omega arith)))
+    ∙ sym (if-true (p n) _ _ (f n (omega arith))))
+    (below-suc r (suc n) (omega arith))
 
-  pub search-none : Bracket t n (a * 131072 + x) lo hi → hi ≤ lo → listed t n (pos a) (unbiased x) ≡ false
-  search-none b l =
-      listed-none t n (pos a) (unbiased x)
-      (λ k p. pair-is t k a x (s .inRange k p) q ∙ ne-eqb (keyAt t k) (a * 131072 + x) (apart k p (decLt k lo)))
-    where
-      apart : (k : ℕ) → k < n → Dec (k < lo) → keyAt t k ≡ a * 131072 + x → ⊥
-      apart k p (yes h) e = omega (arith, b .below k h)
-      apart k p (no h) e = omega (arith, b .above k (omega arith) p)
+pub bracket-end : (t : List ℤ) (n key lo hi : ℕ) → Bracket t n key lo hi → hi ≤ lo → lo ≡ keysBelow t n key
+unfolding keysBelow
+bracket-end t n key lo hi b l =
+    count-first (λ k. ltb (keyAt t k) key) lo n (omega (arith, b .order, b .end))
+    (λ k p. lt-ltb (keyAt t k) key (b .below k p))
+    (λ k p q. le-ltb (keyAt t k) key (b .above k (omega arith) q))
+
+-- of the first n pairs, those before pair r have a smaller key, the others do not
+pub record Parted (t : List ℤ) (n key r : ℕ) : Type 0 where
+  pub end : r ≤ n
+  pub below : (k : ℕ) → k < r → keyAt t k < key
+  pub above : (k : ℕ) → r ≤ k → k < n → key ≤ keyAt t k
+
+sorted-less : (t : List ℤ) (n : ℕ) → Sorted t (suc n) → Sorted t n
+sorted-less t n s = record { inRange = λ k p. s .inRange k (omega arith); follows = λ k p. s .follows k (omega arith) }
+
+parted-more : (t : List ℤ) (n key r : ℕ) (v : Bool) → Sorted t (suc n) → Parted t n key r → ltb (keyAt t n) key ≡ v → Parted t (suc n) key (if v then suc r else r)
+unfolding if_then_else_
+parted-more t n key r true s b e =
+    let here : keyAt t n < key = ltb-true (keyAt t n) key e in
+    let all : r ≡ n =
+    ⊎-elim
+    (λ (l : r < n). absurd (omega (arith, b .above r (omega arith) l, key-less t (suc n) s r n l (omega arith))))
+    (λ (l : r ≡ n). l)
+    (below-suc r n (omega (arith, b .end)))
+    in
+    record {
+      end = omega arith;
+      below = λ k p. omega (arith, key-rises t (suc n) s k n (omega arith) (omega arith));
+      above = λ k p q. absurd (omega arith);
+    }
+parted-more t n key r false s b e =
+    record {
+      end = omega (arith, b .end);
+      below = b .below;
+      above = λ k p q. ⊎-elim (λ l. b .above k p l) (λ l. omega (arith, ltb-false (keyAt t n) key e, ap (keyAt t) l)) (below-suc k n q);
+    }
+
+pub keys-parted : (t : List ℤ) (n key : ℕ) → Sorted t n → Parted t n key (keysBelow t n key)
+unfolding keysBelow count
+keys-parted t zero key s =
+    record { end = omega arith; below = λ k p. absurd (omega arith); above = λ k p q. absurd (omega arith) }
+keys-parted t (suc n) key s = parted-more t n key _ _ s (keys-parted t n key (sorted-less t n s)) refl
+
+-- ---- the walk from there on
+
+module _ (t : List ℤ) (n a x w : ℕ) (s : Sorted t n) (q : x + w ≤ 131072) where
+  -- pair k is that of the symbol a and what x + j stands for
+  pair-at : (k j : ℕ) → k < n → j < w → isPair t (pos a) (unbiased (x + j)) k ≡ eqb (keyAt t k) (a * 131072 + (x + j))
+  pair-at k j p l = pair-is t k a (x + j) (s .inRange k p) (omega arith)
+
+  not-at : (k j : ℕ) → k < n → j < w → (keyAt t k ≡ a * 131072 + (x + j) → ⊥) → isPair t (pos a) (unbiased (x + j)) k ≡ false
+  not-at k j p l f = pair-at k j p l ∙ ne-eqb (keyAt t k) (a * 131072 + (x + j)) f
+
+  pub walk-start : (k : ℕ) → Parted t n (a * 131072 + x) k → 0 ≡ wordAt (listed t k (pos a)) x w
+  unfolding wordAt
+  walk-start k b =
+      sym
+      (word-same _ (λ j. false) w
+      (λ j l. listed-none t k (pos a) (unbiased (x + j)) (λ m p. not-at m j (omega (arith, b .end)) l (λ e. omega (arith, b .below m p))))
+      ∙ word-none w)
+
+  pub walk-more : (k : ℕ) → k < n → a * 131072 + x ≤ keyAt t k → keyAt t k < a * 131072 + x + w → wordAt (listed t (k + 1) (pos a)) x w ≡ wordAt (listed t k (pos a)) x w + 2 ^ (keyAt t k - (a * 131072 + x))
+  unfolding wordAt listed
+  walk-more k p l h =
+      let d = keyAt t k - (a * 131072 + x) in
+      let here : keyAt t k ≡ a * 131072 + (x + d) = omega arith in
+      ap (λ (m : ℕ). wordAt (listed t m (pos a)) x w) (add-one k)
+      ∙ word-set (λ j. listed t k (pos a) (unbiased (x + j))) (λ j. listed t (suc k) (pos a) (unbiased (x + j))) w d (omega arith)
+      (listed-none t k (pos a) (unbiased (x + d)) (λ m u. not-at m d (omega arith) (omega arith) (λ e. omega (arith, key-less t n s m k u p))))
+      (listed-at t (suc k) (pos a) (unbiased (x + d)) k (omega arith) (pair-at k d p (omega arith) ∙ eq-eqb (keyAt t k) (a * 131072 + (x + d)) here))
+      (λ j u f. sym (or-second (isPair t (pos a) (unbiased (x + j)) k) _ (not-at k j p u (λ e. f (omega arith)))))
+
+  pub walk-end : (k : ℕ) → k ≤ n → ((l : ℕ) → k ≤ l → l < n → a * 131072 + x + w ≤ keyAt t l) → wordAt (listed t k (pos a)) x w ≡ wordAt (listed t n (pos a)) x w
+  unfolding wordAt
+  walk-end k p h =
+      word-same _ _ w
+      (λ j l. listed-stop t k n (pos a) (unbiased (x + j)) p (λ m u v. not-at m j v l (λ e. omega (arith, h m u v))))
 
 -- ---- the pass over the pairs
 

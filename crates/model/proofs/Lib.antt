@@ -1,4 +1,5 @@
 pub mod Parts
+pub mod Words
 pub mod Keys
 pub mod Values
 pub mod Passes

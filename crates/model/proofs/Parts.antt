@@ -84,6 +84,13 @@ pub moved-high : (r x : ℕ) (z : ℤ) → unbiased r ≡ (unbiased x +ℤ z) �
 unfolding unbiased
 moved-high r x z e = omega (arith, of-eq (num r ⊖ num 65536) (num x ⊖ num 65536 ⊕ atom z) e, plus-nat z)
 
+-- the same further on
+pub moved-more : (r x j : ℕ) (z : ℤ) → unbiased r ≡ (unbiased x +ℤ z) → unbiased (r + j) ≡ (unbiased (x + j) +ℤ z)
+unfolding unbiased
+moved-more r x j z e =
+    eq-of (num (r + j) ⊖ num 65536) (num (x + j) ⊖ num 65536 ⊕ atom z)
+    (omega (arith, of-eq (num r ⊖ num 65536) (num x ⊖ num 65536 ⊕ atom z) e))
+
 pub unbiased-zero : unbiased 65536 ≡ pos 0
 unfolding unbiased
 unbiased-zero = refl

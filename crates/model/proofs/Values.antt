@@ -7,16 +7,16 @@ use mathlib.Core.Path.{_≡_, refl, sym, _∙_, ap, ap₂}
 use mathlib.Core.List.{List}
 use mathlib.Core.Bool.{Bool, true, false, not, Bool·beq, true≢false, false≢true}
 use lib.Dec.{eqb}
-use lib.IntN.{ℤ, pos, negsuc, _+ℤ_, _-ℤ_, +ℤ-idl, +ℤ-idr}
+use lib.IntN.{ℤ, pos, negsuc, _+ℤ_, _-ℤ_, +ℤ-idl}
 use Rattle.stab.specs.Basic.{if_then_else_, _and_, _or_, eqZ, nat, below, within}
 use Rattle.stab.specs.Formula.{Row, Op, conj, disj, Kind, constant, literal, junction, iteration, unknown, kindOf, nothing, parameter, index, baseOf, Formula, part, decode, tree, offset, isBody, mixes, wellFormedAs, wellFormed}
 use Rattle.stab.specs.Meaning.{Assignment, base, signed, op, empty, over, rangeSize, value}
 use Rattle.stab.proofs.Bools.{and-left, and-right, if-true, if-false}
-use Rattle.stab.proofs.Whole.{atom, num, _⊕_, _⊖_, eq-of, of-eq, plus-nat}
+use Rattle.stab.proofs.Whole.{atom, num, _⊕_, _⊖_, eq-of, of-eq, plus-nat, eqZ-not}
 use Rattle.stab.proofs.Trees.{part-of, tree-is}
 use Rattle.formula.proofs.RowLaws.{unknown-kind}
 use Rattle.model.specs.Index.{unbiased, ReachedRange}
-use Rattle.model.specs.Reading.{Readable, opOf}
+use Rattle.model.specs.Reading.{Readable, opOf, symbolValue}
 use Rattle.model.proofs.Parts.{minus-nat, within-under, within-nat, unbiased-zero, unbiased-more, size-is}
 
 -- ---- kinds by their numbers
@@ -109,13 +109,18 @@ module _ (rows : ℕ → Row) (r : ℕ) (formed : wellFormed rows r ≡ true) wh
     pub literal-symbol : 2 ≤ m → m < 4 → within (pos 0) (pos 255) (rows r .a) ≡ true
     literal-symbol l h = and-left (within (pos 0) (pos 255) (rows r .a)) _ (literal-formed l h)
 
+    pub literal-base : 2 ≤ m → m < 4 → within (pos 0) (pos 2) (rows r .b) ≡ true
+    literal-base l h =
+        and-left (within (pos 0) (pos 2) (rows r .b)) _
+        (and-right (within (pos 0) (pos 255) (rows r .a)) _ (literal-formed l h))
+
     pub literal-offset : 2 ≤ m → m < 4 → offset (rows r .c) ≡ true
     literal-offset l h =
         and-right (within (pos 0) (pos 2) (rows r .b)) _
         (and-right (within (pos 0) (pos 255) (rows r .a)) _ (literal-formed l h))
 
-    pub value-literal : 2 ≤ m → m < 4 → (σ : Assignment) (n : ℕ) (i : ℤ) → value σ n (tree rows r) i ≡ signed (eqb m 2) (σ (rows r .a) (base n i (baseOf (rows r .b)) +ℤ rows r .c))
-    unfolding decode value
+    pub value-literal : 2 ≤ m → m < 4 → (σ : Assignment) (n : ℕ) (i : ℤ) → value σ n (tree rows r) i ≡ signed (eqb m 2) (symbolValue σ n (rows r) i)
+    unfolding decode value symbolValue
     value-literal l h σ n i = value-as (literal (eqb m 2)) σ n i (is-literal l h)
 
     -- ---- and, or
@@ -183,6 +188,21 @@ pub base-index : (n : ℕ) (i z : ℤ) → eqZ z (pos 0) ≡ false → eqZ z (po
 unfolding base baseOf
 base-index n i z h k = ap (base n i) (if-false (eqZ z (pos 0)) nothing _ h ∙ if-false (eqZ z (pos 1)) parameter index k)
 
+-- the same by the number that says it: one below 2 leaves i out
+pub base-fixed : (n : ℕ) (i j z : ℤ) → within (pos 0) (pos 2) z ≡ true → nat z < 2 → base n i (baseOf z) ≡ base n j (baseOf z)
+unfolding base baseOf if_then_else_ eqZ nat within _and_
+base-fixed n i j (pos zero) h l = refl
+base-fixed n i j (pos (suc zero)) h l = refl
+base-fixed n i j (pos (suc (suc m))) h l = absurd (omega arith)
+base-fixed n i j (negsuc m) h l = absurd (false≢true h)
+
+pub base-moves : (n : ℕ) (i z : ℤ) → 2 ≤ nat z → base n i (baseOf z) ≡ i
+unfolding nat
+base-moves n i z h =
+    base-index n i z
+    (eqZ-not z (pos 0) (λ e. omega (arith, ap nat e)))
+    (eqZ-not z (pos 1) (λ e. omega (arith, ap nat e)))
+
 -- a literal's value from its symbol's
 pub signed-true : (v w : Bool) → v ≡ true → signed v w ≡ w
 unfolding signed
@@ -225,21 +245,12 @@ op-empty conj false = refl
 op-empty disj true = refl
 op-empty disj false = refl
 
-empty-op : (o : Op) (v : Bool) → op o (empty o) v ≡ v
-unfolding op empty _and_ _or_
-empty-op conj v = refl
-empty-op disj v = refl
-
 -- ---- ranges
 
 pub over-none : (any : Bool) (p : ℤ → Bool) (b : ℤ) → over (opOf any) p b 0 ≡ not any
 unfolding over opOf empty
 over-none true p b = refl
 over-none false p b = refl
-
-pub over-one : (o : Op) (p : ℤ → Bool) (b : ℤ) → over o p b 1 ≡ p b
-unfolding over
-over-one o p b = empty-op o (p (b +ℤ pos 0)) ∙ ap p (+ℤ-idr b)
 
 pub over-split : (o : Op) (p : ℤ → Bool) (b : ℤ) (j k : ℕ) → over o p b (j + k) ≡ op o (over o p b j) (over o p (b +ℤ pos j) k)
 unfolding over

@@ -21,3 +21,10 @@ pub record Reached (x : ℕ) : Type 0 where
 pub record ReachedRange (x k : ℕ) : Type 0 where
   pub low : 55537 ≤ x
   pub high : x + k ≤ 85535
+
+-- x, x + 1, .. x + (w - 1) are reached, as many as a word has digits
+pub record ReachedWord (x w : ℕ) : Type 0 where
+  pub low : 55537 ≤ x
+  pub high : x + w ≤ 85535
+  pub some : 1 ≤ w
+  pub few : w ≤ 63

@@ -1,4 +1,5 @@
 pub mod Index
+pub mod Word
 pub mod Pairs
 pub mod Reading
 pub mod Passes

@@ -3,8 +3,9 @@ use Prim.Native.Nat.{ℕ, _+_, _*_, _<_}
 use mathlib.Core.Path.{_≡_}
 use mathlib.Core.Bool.{true}
 use mathlib.Core.List.{List}
+use lib.Dec.{ltb}
 use lib.IntN.{ℤ, pos, _+ℤ_}
-use Rattle.stab.specs.Basic.{nat}
+use Rattle.stab.specs.Basic.{nat, count}
 use Rattle.stab.specs.Model.{symbolAt, indexOf, pairInRange, pairFollows}
 
 -- the first n pairs are in range
@@ -19,3 +20,7 @@ pub record Sorted (t : List ℤ) (n : ℕ) : Type 0 where
 -- pair k as one number, whose order is that of pairs in range
 unfoldable pub keyAt : List ℤ → ℕ → ℕ
 keyAt t k = nat (symbolAt t k) * 131072 + nat (indexOf t k +ℤ pos 65536)
+
+-- how many of the first n pairs have a key smaller than this one
+unfoldable pub keysBelow : List ℤ → ℕ → ℕ → ℕ
+keysBelow t n key = count (λ k. ltb (keyAt t k) key) n

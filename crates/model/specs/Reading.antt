@@ -3,9 +3,10 @@ use Prim.Native.Nat.{ℕ, _+_, _≤_, _<_}
 use mathlib.Core.Path.{_≡_}
 use mathlib.Core.Bool.{Bool, true, false}
 use mathlib.Core.List.{List}
-use lib.IntN.{ℤ}
+use lib.IntN.{ℤ, _+ℤ_}
 use Rattle.stab.specs.Basic.{nat}
-use Rattle.stab.specs.Formula.{Op, conj, disj, rowAt, offset}
+use Rattle.stab.specs.Formula.{Op, conj, disj, Row, rowAt, baseOf, offset}
+use Rattle.stab.specs.Meaning.{Assignment, base}
 use Rattle.formula.specs.Facts.{AllFormed}
 use Rattle.model.specs.Pairs.{Sorted}
 
@@ -30,3 +31,7 @@ pub record Iterates (schema : List ℤ) (f : ℕ) : Type 0 where
 unfoldable pub opOf : Bool → Op
 opOf true = disj
 opOf false = conj
+
+-- the value at n and i of the symbol of a literal's row
+unfoldable pub symbolValue : Assignment → ℕ → Row → ℤ → Bool
+symbolValue σ n r i = σ (r .a) (base n i (baseOf (r .b)) +ℤ r .c)

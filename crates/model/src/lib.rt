@@ -9,6 +9,7 @@ ghost use Prim.Native.Nat.{ℕ, _+_, _*_, _<_, _≤_, _^_};
 ghost use lib.IntN.{pos, negℤ, _+ℤ_, _-ℤ_};
 ghost use mathlib.Core.Bool.{true};
 ghost use mathlib.Core.Option.{none};
+ghost use lib.Dec.{eqb};
 ghost use lib.Signed.{leZ};
 ghost use lib.ListN.{length, getD};
 ghost use Rattle.stab.specs.Basic.{_and_, within, scan};
@@ -21,9 +22,10 @@ ghost use Rattle.stab.specs.declared.Verdict.the-variants.{Accepted};
 ghost use Rattle.stab.specs.Model.{listed, pairInRange, pairFollows, pairRefusal, modelRefusal, checkModel};
 ghost use Rattle.stab.specs.Refuted.{Irrefutable};
 ghost use Rattle.formula.specs.Facts.{AllFormed};
-ghost use Rattle.model.specs.Index.{unbiased, Movable, Reached, ReachedRange};
-ghost use Rattle.model.specs.Pairs.{AllInRange, Sorted, keyAt};
-ghost use Rattle.model.specs.Reading.{Readable, IsLiteral, Iterates, opOf};
+ghost use Rattle.model.specs.Index.{unbiased, Movable, Reached, ReachedRange, ReachedWord};
+ghost use Rattle.model.specs.Pairs.{AllInRange, Sorted, keyAt, keysBelow};
+ghost use Rattle.model.specs.Reading.{Readable, IsLiteral, Iterates, opOf, symbolValue};
+ghost use Rattle.model.specs.Word.{word, wordAt, joinedWord, wholeWord};
 ghost use Rattle.model.specs.Passes.{tablesRefusal, truthRefusal, RootReadable};
 
 // ---- pairs
@@ -44,27 +46,42 @@ fn key_at(pairs: &[i32], k: usize) -> usize
     number::natural_at(pairs, 2 * k) * 131072 + moved(65536, pairs, 2 * k + 1)
 }
 
-// The pair of a symbol and the index that x stands for is among the first pairs.
-fn lists(pairs: &[i32], count: usize, symbol: usize, x: usize) -> bool
-    requires { ⌜ (count ≤ 4096) × (symbol ≤ 255) × (x < 131072) × Sorted (now pairs) count ⌝ }
-    ensures { λ r. ⌜ r ≡ listed (now (pairs .entry)) count (pos symbol) (unbiased x) ⌝ }
+// How many of the first pairs have a smaller key. They stand before the others.
+fn keys_below(pairs: &[i32], count: usize, key: usize) -> usize
+    requires { ⌜ (count ≤ 4096) × Sorted (now pairs) count ⌝ }
+    ensures { λ r. ⌜ r ≡ keysBelow (now (pairs .entry)) count key ⌝ }
 {
-    let key = symbol * 131072 + x;
     let mut lo = 0;
     let mut hi = count;
     while lo < hi {
         let mid = lo + (hi - lo) / 2;
-        let there = key_at(pairs, mid);
-        if there == key {
-            return true;
-        }
-        if there < key {
+        if key_at(pairs, mid) < key {
             lo = mid + 1;
         } else {
             hi = mid;
         }
     }
-    false
+    lo
+}
+
+// The values of a symbol at what x, x + 1, .. stand for, by the first pairs.
+fn listed_word(pairs: &[i32], count: usize, symbol: usize, x: usize, width: usize) -> u64
+    requires { ⌜ (count ≤ 4096) × (symbol ≤ 255) × (1 ≤ width) × (width ≤ 63) × (x + width ≤ 131072) × Sorted (now pairs) count ⌝ }
+    ensures { λ r. ⌜ r ≡ wordAt (listed (now (pairs .entry)) count (pos symbol)) x width ⌝ }
+{
+    let key = symbol * 131072 + x;
+    let last = key + width - 1;
+    let mut next = keys_below(pairs, count, key);
+    let mut w: u64 = 0;
+    while next < count {
+        let there = key_at(pairs, next);
+        if last < there {
+            return w;
+        }
+        w += 1u64 << (there - key);
+        next += 1;
+    }
+    w
 }
 
 // What stands at i lies in -low .. high.
@@ -128,6 +145,50 @@ fn pairs_pass(pairs: &[i32], count: usize) -> Finding
     Finding::Nothing
 }
 
+// ---- words: the values at up to 63 numbers, as the digits of one
+
+// All of `width` digits.
+fn ones(width: usize) -> u64
+    requires { ⌜ width ≤ 63 ⌝ }
+    ensures { λ r. ⌜ r + 1 ≡ 2 ^ width ⌝ }
+{
+    (1u64 << width) - 1
+}
+
+// The same value at each.
+fn same(held: bool, width: usize) -> u64
+    requires { ⌜ width ≤ 63 ⌝ }
+    ensures { λ r. ⌜ r ≡ word (λ j. held) width ⌝ }
+{
+    if held { ones(width) } else { 0 }
+}
+
+// A word that stays as it is, whatever it is joined to: by or where `any`, else by and.
+fn settled(any: bool, w: u64, width: usize) -> bool
+    requires { ⌜ width ≤ 63 ⌝ }
+    ensures { λ r. ⌜ r ≡ eqb w (word (λ j. any) width) ⌝ }
+{
+    w == same(any, width)
+}
+
+// Two words, joined: by or where `any`, else by and.
+fn joined(any: bool, v: u64, w: u64) -> u64
+    ensures { λ r. ⌜ r ≡ joinedWord any v w ⌝ }
+{
+    if any { v | w } else { v & w }
+}
+
+// The values of one word, joined.
+fn whole_word(any: bool, w: u64, width: usize) -> bool
+    requires { ⌜ width ≤ 63 ⌝ }
+    ensures { λ r. ⌜ r ≡ wholeWord any w width ⌝ }
+{
+    if any {
+        return w != 0;
+    }
+    w == ones(width)
+}
+
 // ---- the value of a formula
 
 // What a literal's c is added to, by column b of row f: nothing, n, or what i stands for.
@@ -144,17 +205,45 @@ fn base_of(schema: &[i32], f: usize, n: usize, i: usize) -> usize
     i
 }
 
-// The value of row f, a literal, at n and i.
-fn literal_value(schema: &[i32], f: usize, n: usize, i: usize, pairs: &[i32], count: usize) -> bool
-    requires { ⌜ Readable (now schema) f n (now pairs) count × Reached i × IsLiteral (now schema) f ⌝ }
-    ensures { λ r. ⌜ r ≡ value (listed (now (pairs .entry)) count) n (tree (rowAt (now (schema .entry))) f) (unbiased i) ⌝ }
+// The values of the symbol of row f, a literal, at n and i, i + 1, ..: one look-up where i does not matter.
+fn symbol_word(
+    schema: &[i32],
+    f: usize,
+    n: usize,
+    i: usize,
+    width: usize,
+    pairs: &[i32],
+    count: usize,
+) -> u64
+    requires { ⌜ Readable (now schema) f n (now pairs) count × ReachedWord i width × IsLiteral (now schema) f ⌝ }
+    ensures { λ r. ⌜ r ≡ wordAt (symbolValue (listed (now (pairs .entry)) count) n (rowAt (now (schema .entry)) f)) i width ⌝ }
 {
     let x = moved(base_of(schema, f, n, i), schema, 4 * f + 3);
-    let holds = lists(pairs, count, number::natural_at(schema, 4 * f + 1), x);
-    if number::natural_at(schema, 4 * f) == 2 {
-        return holds;
+    let symbol = number::natural_at(schema, 4 * f + 1);
+    if number::natural_at(schema, 4 * f + 2) < 2 {
+        return same(listed_word(pairs, count, symbol, x, 1) == 1, width);
     }
-    !holds
+    listed_word(pairs, count, symbol, x, width)
+}
+
+// The values of row f, a literal, at n and i, i + 1, ..
+fn literal_value(
+    schema: &[i32],
+    f: usize,
+    n: usize,
+    i: usize,
+    width: usize,
+    pairs: &[i32],
+    count: usize,
+) -> u64
+    requires { ⌜ Readable (now schema) f n (now pairs) count × ReachedWord i width × IsLiteral (now schema) f ⌝ }
+    ensures { λ r. ⌜ r ≡ wordAt (value (listed (now (pairs .entry)) count) n (tree (rowAt (now (schema .entry))) f)) i width ⌝ }
+{
+    let w = symbol_word(schema, f, n, i, width, pairs, count);
+    if number::natural_at(schema, 4 * f) == 2 {
+        return w;
+    }
+    ones(width) - w
 }
 
 // How many i there are from b up to n - c, for the columns of row f, an iteration.
@@ -167,35 +256,44 @@ fn range_size(schema: &[i32], f: usize, n: usize) -> usize
     if up < down { 0 } else { up - down }
 }
 
-// The value of row f at n and i.
-fn formula_value(schema: &[i32], f: usize, n: usize, i: usize, pairs: &[i32], count: usize) -> bool
-    requires { ⌜ Readable (now schema) f n (now pairs) count × Reached i ⌝ }
-    ensures { λ r. ⌜ r ≡ value (listed (now (pairs .entry)) count) n (tree (rowAt (now (schema .entry))) f) (unbiased i) ⌝ }
+// The values of row f at n and i, i + 1, .. i + (width - 1).
+fn formula_value(
+    schema: &[i32],
+    f: usize,
+    n: usize,
+    i: usize,
+    width: usize,
+    pairs: &[i32],
+    count: usize,
+) -> u64
+    requires { ⌜ Readable (now schema) f n (now pairs) count × ReachedWord i width ⌝ }
+    ensures { λ r. ⌜ r ≡ wordAt (value (listed (now (pairs .entry)) count) n (tree (rowAt (now (schema .entry))) f)) i width ⌝ }
 {
     let kind = number::natural_at(schema, 4 * f);
     if kind < 2 {
-        return kind == 0;
+        return same(kind == 0, width);
     }
     if kind < 4 {
-        return literal_value(schema, f, n, i, pairs, count);
+        return literal_value(schema, f, n, i, width, pairs, count);
     }
     let a = number::natural_at(schema, 4 * f + 1);
     if 6 <= kind {
         let first = moved(65536, schema, 4 * f + 2);
         let left = range_size(schema, f, n);
-        return range_value(schema, a, n, kind == 7, first, left, pairs, count);
+        let held = range_value(schema, a, n, kind == 7, first, left, pairs, count);
+        return same(held, width);
     }
     let any = kind == 5;
-    let held = formula_value(schema, a, n, i, pairs, count);
-    if held == any {
-        return held;
+    let v = formula_value(schema, a, n, i, width, pairs, count);
+    if settled(any, v, width) {
+        return v;
     }
     let b = number::natural_at(schema, 4 * f + 2);
-    formula_value(schema, b, n, i, pairs, count)
+    joined(any, v, formula_value(schema, b, n, i, width, pairs, count))
 }
 
-// The values of the body at `first` and the `left - 1` numbers after it, joined: by or where `any`, else by and. The range
-// is halved at each call, so that few calls are open at once however long it is.
+// The values of the body at `first` and the `left - 1` numbers after it, joined: by or where `any`, else by and. A long
+// range is halved at each call, so that few calls are open at once however long it is.
 fn range_value(
     schema: &[i32],
     body: usize,
@@ -212,8 +310,9 @@ fn range_value(
     if left == 0 {
         return !any;
     }
-    if left == 1 {
-        return formula_value(schema, body, n, first, pairs, count);
+    if left <= 63 {
+        let w = formula_value(schema, body, n, first, left, pairs, count);
+        return whole_word(any, w, left);
     }
     let half = left / 2;
     let held = range_value(schema, body, n, any, first, half, pairs, count);
@@ -309,7 +408,7 @@ fn truth_pass(
     }
     let f = number::natural(root);
     let m = number::natural(n);
-    if !formula_value(schema, f, m, 65536, pairs, pair_rows) {
+    if formula_value(schema, f, m, 65536, 1, pairs, pair_rows) != 1 {
         return whole(Refusal::False);
     }
     Finding::Nothing

@@ -7,6 +7,7 @@ use lib.Dec.{eqb}
 use lib.IntN.{ℤ}
 use denote.Ref.{now}
 use borrow.Author.Needs.{needs}
+use borrow.Author.Tests.{eqb-true}
 use borrow.Fn.Kinds.{In}
 use borrow.Fn.PlainCycle.{Measures, is, falls, and}
 use Rattle.stab.specs.Basic.{nat}
@@ -16,8 +17,10 @@ use Rattle.stab.specs.Model.{listed}
 use Rattle.stab.proofs.Trees.{below-nat}
 use Rattle.model.specs.Index.{unbiased}
 use Rattle.model.specs.Reading.{opOf}
+use Rattle.model.specs.Word.{word, wordAt, joinedWord, wholeWord}
 use Rattle.model.proofs.Parts.{within-under, within-nat}
-use Rattle.model.proofs.Values.{value-constant, junction-left, junction-right, value-junction, iteration-body, iteration-start, iteration-end, value-iteration, op-decided, op-open, over-none, over-one, over-parts, first-is, range-reached, readable-below}
+use Rattle.model.proofs.Values.{value-constant, junction-left, junction-right, value-junction, iteration-body, iteration-start, iteration-end, value-iteration, op-decided, op-open, over-none, over-parts, first-is, range-reached, readable-below}
+use Rattle.model.proofs.Words.{word-same, joined-word, settled-word, over-word}
 use Rattle.model.proofs.formula_value.Reads as formula-value
 use Rattle.model.proofs.formula_value.Kinds as formula-value-kinds
 use Rattle.model.proofs.+formula_value+range_value.Lts-formula_value as formula-value-lts
@@ -27,6 +30,10 @@ use Rattle.model.proofs.+formula_value+range_value.Lts-range_value as r
 use Rattle.model.proofs.literal_value.Reads as literal-value
 use Rattle.model.proofs.moved.Reads as moved
 use Rattle.model.proofs.range_size.Reads as range-size
+use Rattle.model.proofs.same.Reads as same
+use Rattle.model.proofs.settled.Reads as settled
+use Rattle.model.proofs.joined.Reads as joined
+use Rattle.model.proofs.whole_word.Reads as whole-word
 use Rattle.number.proofs.natural_at.Reads as natural-at
 use Rattle.model.proofs.+formula_value+range_value.{statement}
 use Rattle.model.proofs.+formula_value+range_value.Tie.{close}
@@ -55,6 +62,8 @@ abbrev formula-calls : ℕ → formula-value-lts.Claims
 formula-calls t = (
   natural-at.Asked,
   natural-at.Learnt,
+  same.Asked,
+  same.Learnt,
   literal-value.Asked,
   literal-value.Learnt,
   moved.Asked,
@@ -65,10 +74,14 @@ formula-calls t = (
   range-value.Post,
   formula-value-below t,
   formula-value.Post,
+  settled.Asked,
+  settled.Learnt,
+  joined.Asked,
+  joined.Learnt,
 )
 
 abbrev range-calls : ℕ → range-value-lts.Claims
-range-calls t = (formula-value-below t, formula-value.Post, range-value-below t, range-value.Post)
+range-calls t = (formula-value-below t, formula-value.Post, whole-word.Asked, whole-word.Learnt, range-value-below t, range-value.Post)
 
 -- ---- the value of a row
 
@@ -84,6 +97,10 @@ row c = table c (c .args .f)
 abbrev σ : {t : ℕ} → Start t → Assignment
 σ c = listed (now (c .args .pairs)) (c .args .count)
 
+-- the value of row g, j further on
+abbrev row-at : {t : ℕ} → Start t → ℕ → ℕ → Bool
+row-at c g j = value (σ c) (c .args .n) (tree (table c) g) (unbiased (c .args .i + j))
+
 formed : {t : ℕ} (c : Start t) → wellFormed (table c) (c .args .f) ≡ true
 formed c = c .pre .1 .0 .formed _ (omega arith)
 
@@ -93,11 +110,16 @@ mul-natural-at t c = omega arith
 natural-at-requires : (t : ℕ) → formula-value-lts.Need-natural-at-requires (formula-calls t) (formula-value-at t) formula-value.Post
 natural-at-requires t c κs = search needs
 
+constant-requires : (t : ℕ) → formula-value-lts.Need-same-requires (formula-calls t) (formula-value-at t) formula-value.Post
+constant-requires t c κs = omega arith
+
 constant-returns : (t : ℕ) → formula-value-lts.Need-returns (formula-calls t) (formula-value-at t) formula-value.Post
-unfolding rowAt
+unfolding rowAt wordAt
 constant-returns t c =
-    let start = c .before .before in
-    sym (value-constant _ _ (formed start) _ (c .before .natural-at .ensures) (c .if1 .taken) _ _ _)
+    let start = c .before .before .before in
+    c .same .ensures
+    ∙ word-same _ (row-at start (start .args .f)) (start .args .width)
+    (λ j l. sym (value-constant _ _ (formed start) _ (c .before .before .natural-at .ensures) (c .before .if1 .taken) _ _ _))
 
 literal-value-requires : (t : ℕ) → formula-value-lts.Need-literal-value-requires (formula-calls t) (formula-value-at t) formula-value.Post
 unfolding rowAt
@@ -161,9 +183,15 @@ range-value-requires t c κs =
       ),
     )
 
-iteration-returns : (t : ℕ) → formula-value-lts.Need-returns-3 (formula-calls t) (formula-value-at t) formula-value.Post
+iteration-requires : (t : ℕ) → formula-value-lts.Need-same-requires-2 (formula-calls t) (formula-value-at t) formula-value.Post
+iteration-requires t c κs = omega (arith, c .before .before .before .before .before .before .before .before .pre .1 .1)
+
+-- the value of an iteration, which i does not change
+iteration-is : {t : ℕ} (c : formula-value-lts.After-range-value (formula-calls t) (formula-value-at t) formula-value.Post) (i : ℤ) →
+    let start = c .before .before .before .before .before .before .before .before in
+    c .range-value .result ≡ value (σ start) (start .args .n) (tree (table start) (start .args .f)) i
 unfolding rowAt
-iteration-returns t c =
+iteration-is c i =
     let start = c .before .before .before .before .before .before .before .before in
     let kind = c .before .before .before .before .before .before .before .natural-at .ensures in
     let any = opOf (eqb (c .before .before .before .before .before .before .before .natural-at .result) 7) in
@@ -171,6 +199,13 @@ iteration-returns t c =
     ∙ ap (λ (g : ℕ). over any (value (σ start) (start .args .n) (tree (table start) g)) (unbiased (c .before .before .moved .result)) (c .before .range-size .result)) (c .before .before .before .before .natural-at2 .ensures)
     ∙ ap₂ (over any (value (σ start) (start .args .n) (tree (table start) (nat (row start .a))))) (first-is _ _ (c .before .before .moved .ensures)) (c .before .range-size .ensures)
     ∙ sym (value-iteration _ _ (formed start) _ kind (c .before .before .before .if3 .taken) _ _ _)
+
+iteration-returns : (t : ℕ) → formula-value-lts.Need-returns-3 (formula-calls t) (formula-value-at t) formula-value.Post
+unfolding wordAt
+iteration-returns t c =
+    let start = c .before .before .before .before .before .before .before .before .before in
+    c .same2 .ensures
+    ∙ word-same _ (row-at start (start .args .f)) (start .args .width) (λ j l. iteration-is (c .before) _)
 
 left-requires : (t : ℕ) → formula-value-lts.Need-formula-value-requires (formula-calls t) (formula-value-at t) formula-value.Post
 unfolding rowAt
@@ -181,31 +216,38 @@ left-requires t c κs =
       (readable-below _ _ _ _ _ _ (start .pre .1 .0) (omega (arith, left, c .before .natural-at2 .ensures)), start .pre .1 .1),
     )
 
--- the value of the left part, and of the whole from both parts
+settled-requires : (t : ℕ) → formula-value-lts.Need-settled-requires (formula-calls t) (formula-value-at t) formula-value.Post
+settled-requires t c κs = omega (arith, c .before .before .before .before .before .before .pre .1 .1)
+
+-- the values of the left part, and of the whole from both parts
 left-is : {t : ℕ} (c : formula-value-lts.After-formula-value (formula-calls t) (formula-value-at t) formula-value.Post) →
     let start = c .before .before .before .before .before .before in
-    c .formula-value .result ≡ value (σ start) (start .args .n) (tree (table start) (nat (row start .a))) (unbiased (start .args .i))
-unfolding rowAt
+    c .formula-value .result ≡ word (row-at start (nat (row start .a))) (start .args .width)
+unfolding rowAt wordAt
 left-is c =
     let start = c .before .before .before .before .before .before in
     c .formula-value .ensures
-    ∙ ap (λ (g : ℕ). value (σ start) (start .args .n) (tree (table start) g) (unbiased (start .args .i))) (c .before .before .natural-at2 .ensures)
+    ∙ ap (λ (g : ℕ). word (row-at start g) (start .args .width)) (c .before .before .natural-at2 .ensures)
 
 whole-is : {t : ℕ} (c : formula-value-lts.After-formula-value (formula-calls t) (formula-value-at t) formula-value.Post) →
     let start = c .before .before .before .before .before .before in
-    op (opOf (eqb (c .before .before .before .before .before .natural-at .result) 5)) (c .formula-value .result) (value (σ start) (start .args .n) (tree (table start) (nat (row start .b))) (unbiased (start .args .i)))
-    ≡ value (σ start) (start .args .n) (tree (table start) (start .args .f)) (unbiased (start .args .i))
+    word (λ j. op (opOf (eqb (c .before .before .before .before .before .natural-at .result) 5)) (row-at start (nat (row start .a)) j) (row-at start (nat (row start .b)) j)) (start .args .width)
+    ≡ word (row-at start (start .args .f)) (start .args .width)
 unfolding rowAt
 whole-is c =
     let start = c .before .before .before .before .before .before in
-    let at-kind = c .before .before .before .before .before in
-    ap (λ (v : Bool). op (opOf (eqb (at-kind .natural-at .result) 5)) v (value (σ start) (start .args .n) (tree (table start) (nat (row start .b))) (unbiased (start .args .i)))) (left-is c)
-    ∙ sym (value-junction _ _ (formed start) _ (at-kind .natural-at .ensures) (c .before .before .before .if2 .left) (c .before .if3 .left) _ _ _)
+    word-same _ (row-at start (start .args .f)) (start .args .width)
+    (λ j l. sym (value-junction _ _ (formed start) _ (c .before .before .before .before .before .natural-at .ensures) (c .before .before .before .if2 .left) (c .before .if3 .left) _ _ _))
 
 left-returns : (t : ℕ) → formula-value-lts.Need-returns-4 (formula-calls t) (formula-value-at t) formula-value.Post
-unfolding rowAt
+unfolding wordAt
 left-returns t c =
-    sym (op-decided _ _ _ (c .if4 .taken)) ∙ whole-is (c .before)
+    let start = c .before .before .before .before .before .before .before .before in
+    let at = c .before .before in
+    left-is at
+    ∙ settled-word _ (row-at start (nat (row start .a))) (row-at start (nat (row start .b))) (start .args .width)
+    (sym (left-is at) ∙ eqb-true _ _ (sym (c .before .settled .ensures) ∙ c .if4 .taken))
+    ∙ whole-is at
 
 mul-natural-at-3 : (t : ℕ) → formula-value-lts.Need-mul-natural-at-3 (formula-calls t) (formula-value-at t) formula-value.Post
 mul-natural-at-3 t c = omega arith
@@ -219,22 +261,27 @@ natural-at-requires-3 t c κs = search needs
 right-requires : (t : ℕ) → formula-value-lts.Need-formula-value-requires-2 (formula-calls t) (formula-value-at t) formula-value.Post
 unfolding rowAt
 right-requires t c κs =
-    let start = c .before .before .before .before .before .before .before .before in
+    let at = c .before .before .before in
+    let start = at .before .before .before .before .before .before in
     let right =
-    below-nat _ _ (junction-right _ _ (formed start) _ (c .before .before .before .before .before .before .before .natural-at .ensures) (c .before .before .before .before .before .if2 .left) (c .before .before .before .if3 .left))
+    below-nat _ _ (junction-right _ _ (formed start) _ (at .before .before .before .before .before .natural-at .ensures) (at .before .before .before .if2 .left) (at .before .if3 .left))
     in (
       omega (arith, right, c .natural-at3 .ensures, start .pre .0),
       (readable-below _ _ _ _ _ _ (start .pre .1 .0) (omega (arith, right, c .natural-at3 .ensures)), start .pre .1 .1),
     )
 
+joined-requires : (t : ℕ) → formula-value-lts.Need-joined-requires (formula-calls t) (formula-value-at t) formula-value.Post
+joined-requires t c κs = search needs
+
 right-returns : (t : ℕ) → formula-value-lts.Need-returns-5 (formula-calls t) (formula-value-at t) formula-value.Post
-unfolding rowAt
+unfolding rowAt wordAt
 right-returns t c =
-    let start = c .before .before .before .before .before .before .before .before .before in
-    c .formula-value2 .ensures
-    ∙ ap (λ (g : ℕ). value (σ start) (start .args .n) (tree (table start) g) (unbiased (start .args .i))) (c .before .natural-at3 .ensures)
-    ∙ sym (op-open _ _ _ (c .before .before .if4 .left))
-    ∙ whole-is (c .before .before .before)
+    let at = c .before .before .before .before .before in
+    let start = at .before .before .before .before .before .before in
+    c .joined .ensures
+    ∙ ap₂ (joinedWord _) (left-is at) (c .before .formula-value2 .ensures ∙ ap (λ (g : ℕ). word (row-at start g) (start .args .width)) (c .before .before .natural-at3 .ensures))
+    ∙ joined-word (row-at start (nat (row start .a))) (row-at start (nat (row start .b))) _ (start .args .width)
+    ∙ whole-is at
 
 -- ---- the value of a range
 
@@ -249,17 +296,20 @@ none-returns t c =
     let a = c .before .args in
     sym (over-none (a .any) (body-value (c .before)) (unbiased (a .first))) ∙ ap (over (opOf (a .any)) (body-value (c .before)) (unbiased (a .first))) (sym (c .if1 .taken))
 
-one-requires : (t : ℕ) → range-value-lts.Need-formula-value-requires (range-calls t) (range-value-at t) range-value.Post
-one-requires t c κs =
+word-requires : (t : ℕ) → range-value-lts.Need-formula-value-requires (range-calls t) (range-value-at t) range-value.Post
+word-requires t c κs =
     let start = c .before .before in
-    (omega (arith, start .pre .0), (start .pre .1 .0, omega (arith, start .pre .1 .1, c .if2 .taken)))
+    (omega (arith, start .pre .0), (start .pre .1 .0, omega (arith, start .pre .1 .1, c .if2 .taken, c .before .if1 .left)))
 
-one-returns : (t : ℕ) → range-value-lts.Need-returns-2 (range-calls t) (range-value-at t) range-value.Post
-one-returns t c =
-    let start = c .before .before .before in
-    c .formula-value .ensures
-    ∙ sym (over-one (opOf (start .args .any)) (body-value start) (unbiased (start .args .first)))
-    ∙ ap (over (opOf (start .args .any)) (body-value start) (unbiased (start .args .first))) (sym (c .before .if2 .taken))
+whole-word-requires : (t : ℕ) → range-value-lts.Need-whole-word-requires (range-calls t) (range-value-at t) range-value.Post
+whole-word-requires t c κs = omega arith
+
+word-returns : (t : ℕ) → range-value-lts.Need-returns-2 (range-calls t) (range-value-at t) range-value.Post
+word-returns t c =
+    let start = c .before .before .before .before in
+    c .whole-word .ensures
+    ∙ ap (λ (w : ℕ). wholeWord (start .args .any) w (start .args .left)) (c .before .formula-value .ensures)
+    ∙ sym (over-word (start .args .any) (body-value start) (start .args .first) (start .args .left))
 
 lower-requires : (t : ℕ) → range-value-lts.Need-range-value-requires (range-calls t) (range-value-at t) range-value.Post
 lower-requires t c κs =
@@ -308,6 +358,7 @@ pub +formula-value+range-value-spec : {M : Type 1} → statement M
     formula-value.Post
     (mul-natural-at t)
     (natural-at-requires t)
+    (constant-requires t)
     (constant-returns t)
     (literal-value-requires t)
     (literal-returns t)
@@ -319,13 +370,16 @@ pub +formula-value+range-value-spec : {M : Type 1} → statement M
     (moved-requires t)
     (range-size-requires t)
     (range-value-requires t)
+    (iteration-requires t)
     (iteration-returns t)
     (left-requires t)
+    (settled-requires t)
     (left-returns t)
     (mul-natural-at-3 t)
     (add-natural-at-2 t)
     (natural-at-requires-3 t)
     (right-requires t)
+    (joined-requires t)
     (right-returns t))
     (λ t.
     range-value-lts.spec
@@ -333,8 +387,9 @@ pub +formula-value+range-value-spec : {M : Type 1} → statement M
     (range-value-at t)
     range-value.Post
     (none-returns t)
-    (one-requires t)
-    (one-returns t)
+    (word-requires t)
+    (whole-word-requires t)
+    (word-returns t)
     (lower-requires t)
     (lower-returns t)
     (add-range-value t)

@@ -2,11 +2,13 @@ use Prim.Native.Nat.{ℕ}
 use native.Mathlib.Omega.{arith}
 use mathlib.Core.Path.{_≡_, sym, _∙_, ap, ap₂}
 use mathlib.Core.Bool.{true}
+use lib.Dec.{eqb}
 use lib.IntN.{ℤ, pos}
 use lib.Signed.{leZ}
 use mir.Facts.{toZ-ofZ}
 use denote.Ref.{now}
 use borrow.Author.Needs.{needs}
+use borrow.Author.Tests.{eq-eqb, ne-eqb}
 use Rattle.stab.specs.Basic.{_and_, nat}
 use Rattle.stab.specs.Formula.{rowAt, tree}
 use Rattle.stab.specs.Meaning.{value, truth}
@@ -16,6 +18,7 @@ use Rattle.stab.proofs.Bools.{false-of-not, true-of-not}
 use Rattle.model.specs.Passes.{truthRefusal}
 use Rattle.model.specs.Index.{unbiased}
 use Rattle.model.proofs.Parts.{unbiased-zero}
+use Rattle.model.proofs.Words.{word-one}
 use Rattle.model.proofs.Passes.{n-small, whole-none, found-last, found-here, found-later}
 use Rattle.model.proofs.truth_pass.Statement.{statement}
 use Rattle.model.proofs.truth_pass.Tie as tie
@@ -43,13 +46,15 @@ n-is c = c .natural2 .ensures ∙ ap nat (toZ-ofZ (c .before .before .before .be
 
 value-is : (c : tie.After-formula-value) →
     let a = c .before .before .before .before .before .args in
-    c .formula-value .result ≡ truth (listed (now (a .pairs)) (a .pair-rows)) (nat (a .n)) (tree (rowAt (now (a .schema))) (nat (a .root)))
+    truth (listed (now (a .pairs)) (a .pair-rows)) (nat (a .n)) (tree (rowAt (now (a .schema))) (nat (a .root))) ≡ eqb (c .formula-value .result) 1
 unfolding truth
 value-is c =
     let a = c .before .before .before .before .before .args in
-    c .formula-value .ensures
+    sym
+    (ap (λ (w : ℕ). eqb w 1) (c .formula-value .ensures)
+    ∙ word-one (value (listed (now (a .pairs)) (a .pair-rows)) (c .before .natural2 .result) (tree (rowAt (now (a .schema))) (c .before .before .natural .result))) 65536
     ∙ ap₂ (λ (m f : ℕ). value (listed (now (a .pairs)) (a .pair-rows)) m (tree (rowAt (now (a .schema))) f) (unbiased 65536)) (n-is (c .before)) (root-is (c .before .before))
-    ∙ ap (value (listed (now (a .pairs)) (a .pair-rows)) (nat (a .n)) (tree (rowAt (now (a .schema))) (nat (a .root)))) unbiased-zero
+    ∙ ap (value (listed (now (a .pairs)) (a .pair-rows)) (nat (a .n)) (tree (rowAt (now (a .schema))) (nat (a .root)))) unbiased-zero)
 
 returns : tie.Need-returns
 unfolding truthRefusal
@@ -79,11 +84,11 @@ whole-requires-2 c κs = search needs
 
 returns-2 : tie.Need-returns-2
 unfolding truthRefusal
-returns-2 c = found-later _ _ _ _ (width (c .before .before .before .before .before)) (found-last _ _ _ (c .whole2 .ensures) (sym (value-is (c .before .before)) ∙ false-of-not _ (c .before .if2 .taken)))
+returns-2 c = found-later _ _ _ _ (width (c .before .before .before .before .before)) (found-last _ _ _ (c .whole2 .ensures) (value-is (c .before .before) ∙ ne-eqb _ _ (c .before .if2 .taken)))
 
 returns-3 : tie.Need-returns-3
 unfolding truthRefusal finding
-returns-3 c = found-later _ _ _ _ (width (c .before .before .before .before)) (sym (whole-none _ _ (sym (value-is (c .before)) ∙ true-of-not _ (c .if2 .left))))
+returns-3 c = found-later _ _ _ _ (width (c .before .before .before .before)) (sym (whole-none _ _ (value-is (c .before) ∙ eq-eqb _ _ (c .if2 .left))))
 
 pub truth-pass-spec : {M : Type 1} → statement M
 truth-pass-spec =
