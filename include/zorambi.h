@@ -1,8 +1,9 @@
-/* Zorambi: the proved check of schema tableaux, and the model check, from C.
+/* Zorambi: the proved check of schema tableaux, the model check, and the readers and writers of their texts, from C.
  *
- * A slice is a pointer and the count of its numbers. The counts of rows, nodes and members are those that refusals 2 and 5
- * speak of: a table may be longer than its count. Whatever numbers stand in the tables, and whatever the counts, the answer is
- * a verdict or a numbered refusal; nothing is read outside the slices, and nothing is written.
+ * A slice is a pointer and the count of its numbers or bytes. The counts of rows, nodes and members are those that refusals 2
+ * and 5 speak of: a table may be longer than its count. Whatever stands in the tables and texts, and whatever the counts, the
+ * answer is a verdict or a numbered refusal; nothing is read or written outside the slices, and only those that are not const
+ * are written. No two slices of a call may overlap if one of them is written.
  * A pointer whose count is 0 may be any pointer that is not NULL. */
 #ifndef ZORAMBI_H
 #define ZORAMBI_H
@@ -29,11 +30,37 @@ uint64_t zorambi_check_model(const int32_t *schema, size_t schema_len, size_t sc
                              int32_t root, int32_t least, int32_t n,
                              const int32_t *pairs, size_t pairs_len, size_t pair_rows);
 
-/* The one number that comes back: ((answer * 8192 + place + 1) * 8192 + nodes) * 8192 + links. */
+/* Reading a text into lent tables, which need their full sizes: 4096 numbers for formula rows, 9216 for nodes, 8192 for members,
+ * 8192 for pairs. The results of a success are root, least and the number of rows; the numbers of rows, nodes and members; or
+ * n and the number of pairs. The tables are 0 past the last row and member. After a refusal tables and results are all 0, and
+ * the place is the line, counted from 1, or 0 for the whole text. */
+uint64_t zorambi_read_schema(const uint8_t *text, size_t text_len, int32_t *table, size_t table_len, int32_t results[3]);
+uint64_t zorambi_read_proof(const uint8_t *text, size_t text_len, int32_t *table, size_t table_len,
+                            int32_t *nodes, size_t nodes_len, int32_t *members, size_t members_len, int32_t results[3]);
+uint64_t zorambi_read_model(const uint8_t *text, size_t text_len, int32_t *pairs, size_t pairs_len, int32_t results[2]);
+
+/* Writing a text into the lent output: zorambi_bytes says how long it is. The output is 0 past the text, and all 0 after a
+ * refusal, whose place is -1. */
+uint64_t zorambi_write_schema(const int32_t *table, size_t table_len, size_t rows, int32_t root, int32_t least,
+                              uint8_t *out, size_t out_len);
+uint64_t zorambi_write_proof(const int32_t *table, size_t table_len, size_t rows,
+                             const int32_t *nodes, size_t nodes_len, size_t node_rows,
+                             const int32_t *members, size_t members_len, size_t member_count,
+                             uint8_t *out, size_t out_len);
+uint64_t zorambi_write_model(int32_t n, const int32_t *pairs, size_t pairs_len, size_t pair_rows,
+                             uint8_t *out, size_t out_len);
+
+/* Line k of a text, counted from 1: its start in the text, and its length without its byte 10. Both are 0 if there is no such
+ * line; line 0 and an unfinished last line count as none. */
+void zorambi_line(const uint8_t *text, size_t text_len, size_t k, size_t span[2]);
+
+/* The one number that comes back: ((answer * 8192 + place + 1) * 8192 + nodes) * 8192 + links. In reading and writing both
+ * counts are 0, but that a text that was written has its bytes in their place. */
 static inline unsigned zorambi_answer(uint64_t packed) { return (unsigned)(packed >> 39); }
 static inline int zorambi_place(uint64_t packed) { return (int)((packed >> 26) & 8191) - 1; }
 static inline unsigned zorambi_nodes(uint64_t packed) { return (unsigned)((packed >> 13) & 8191); }
 static inline unsigned zorambi_links(uint64_t packed) { return (unsigned)(packed & 8191); }
+static inline unsigned zorambi_bytes(uint64_t packed) { return (unsigned)(packed & 67108863); }
 
 enum zorambi_answer_number {
   ZORAMBI_ACCEPTED = 0,

@@ -21,6 +21,14 @@ pub fn natural(z: i32) -> usize
     if z < 0 { 0 } else { z as usize }
 }
 
+// A natural number as a whole number.
+pub fn of(n: usize) -> i32
+    requires { ⌜ n < 2 ^ 31 ⌝ }
+    ensures { λ r. ⌜ r ≡ pos n ⌝ }
+{
+    n as i32
+}
+
 // -1 - z, which is a number of the type for every z.
 fn mirrored(z: i32) -> i32
     ensures { λ r. ⌜ r ≡ (negsuc 0 -ℤ z) ⌝ }

@@ -17,6 +17,7 @@ pub mod Exactness
 pub mod Texts
 pub mod Audit
 pub mod Packed
+pub mod Entries
 -- The definitions computed.
 pub mod Evaluate
 pub mod Cases

@@ -14,4 +14,5 @@ pub mod Read
 pub mod Write
 pub mod LineNumber
 pub mod Answer
+pub mod Entry
 pub mod Program

@@ -159,12 +159,20 @@ past-end text n h = span-none n 0 (drop n text) (omega (arith, length-drop n tex
 
 -- ---- parts
 
--- a part of no bytes at the start, and one from a to e
-pub part-empty : (text part : RefT (List ℕ)) (s : Span) → s ≡ emptyStart
-    → now part ≡ [] → part .ptr .0 ≡ text .ptr .0 → part .ptr .1 ≡ 0 + text .ptr .1 → PartOf text part s
-unfolding spanned emptyStart
-part-empty text part s e a b c =
-    subst (PartOf text part) (sym e) (record { bytes = a; block = b; place = c })
+-- a span, told by its start and its length
+pub is-span : (s : Span) (start len : ℕ) → s ≡ record { start = start; len = len } → (start ≡ s .start) × (len ≡ s .len)
+is-span s start len e = (ap (λ (x : Span). x .start) (sym e), ap (λ (x : Span). x .len) (sym e))
+
+-- the part from a place on that is as long as the span
+pub part-is : (text part : RefT (List ℕ)) (s : Span) (at n : ℕ) → at ≡ s .start → n ≡ s .len
+    → now part ≡ take n (drop at (now text)) → part .ptr .0 ≡ text .ptr .0 → part .ptr .1 ≡ at + text .ptr .1 → PartOf text part s
+unfolding spanned
+part-is text part s at n e f a b c =
+    record {
+      bytes = a ∙ ap₂ (λ (i j : ℕ). take i (drop j (now text))) f e;
+      block = b;
+      place = c ∙ ap (λ (i : ℕ). i + text .ptr .1) e;
+    }
 
 pub line-zero : (text : List ℕ) (k : ℕ) → k ≡ 0 → lineSpan text k ≡ emptyStart
 unfolding lineSpan

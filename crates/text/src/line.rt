@@ -39,19 +39,39 @@ fn start_of(text: &[u8], k: usize) -> usize
     at
 }
 
-// Line k, counted from 1, without its byte 10; the text's empty start where there is no such line.
-fn line_in(text: &[u8], k: usize) -> &[u8]
-    ensures { λ r. ⌜ PartOf (text .entry) r (lineSpan (now (text .entry)) k) ⌝ }
+// Where a line stands in its text: its start, and its length without its byte 10.
+pub struct Span {
+    pub start: usize,
+    pub len: usize,
+}
+
+// The place of line k, counted from 1; all 0 where there is no such line.
+pub fn span_of(text: &[u8], k: usize) -> Span
+    ensures { λ r. ⌜ (r .start ≡ lineSpan (now (text .entry)) k .start) × (r .len ≡ lineSpan (now (text .entry)) k .len) ⌝ }
+    ensures { λ r. ⌜ r .start + r .len ≤ length (now (text .entry)) ⌝ }
 {
     if k == 0 {
-        return &text[0..0];
+        return Span { start: 0, len: 0 };
     }
     let at = start_of(text, k);
     let end = end_of(text, at);
     if end < text.len() {
-        return &text[at..end];
+        return Span {
+            start: at,
+            len: end - at,
+        };
     }
-    &text[0..0]
+    Span { start: 0, len: 0 }
+}
+
+// Line k, counted from 1, without its byte 10; the text's empty start where there is no such line.
+fn line_in(text: &[u8], k: usize) -> &[u8]
+    ensures { λ r. ⌜ PartOf (text .entry) r (lineSpan (now (text .entry)) k) ⌝ }
+{
+    let s = span_of(text, k);
+    let at = s.start;
+    let end = at + s.len;
+    &text[at..end]
 }
 
 // Line k of the proof text, or of the schema text.

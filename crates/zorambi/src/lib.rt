@@ -1,4 +1,6 @@
 // The entries that provers call, from Rust and C: numbers and slices in, one number back.
+pub mod texts;
+
 ghost use mathlib.Core.Path.{_≡_};
 ghost use Prim.Native.Nat.{ℕ, _/_};
 ghost use Rattle.stab.specs.Check.{check};

@@ -28,6 +28,62 @@ extern "C" {
         pairs_len: usize,
         pair_rows: usize,
     ) -> u64;
+    fn zorambi_read_schema(
+        text: *const u8,
+        text_len: usize,
+        table: *mut i32,
+        table_len: usize,
+        results: *mut i32,
+    ) -> u64;
+    fn zorambi_read_proof(
+        text: *const u8,
+        text_len: usize,
+        table: *mut i32,
+        table_len: usize,
+        nodes: *mut i32,
+        nodes_len: usize,
+        members: *mut i32,
+        members_len: usize,
+        results: *mut i32,
+    ) -> u64;
+    fn zorambi_read_model(
+        text: *const u8,
+        text_len: usize,
+        pairs: *mut i32,
+        pairs_len: usize,
+        results: *mut i32,
+    ) -> u64;
+    fn zorambi_write_schema(
+        table: *const i32,
+        table_len: usize,
+        rows: usize,
+        root: i32,
+        least: i32,
+        out: *mut u8,
+        out_len: usize,
+    ) -> u64;
+    fn zorambi_write_proof(
+        table: *const i32,
+        table_len: usize,
+        rows: usize,
+        nodes: *const i32,
+        nodes_len: usize,
+        node_rows: usize,
+        members: *const i32,
+        members_len: usize,
+        member_count: usize,
+        out: *mut u8,
+        out_len: usize,
+    ) -> u64;
+    fn zorambi_write_model(
+        n: i32,
+        pairs: *const i32,
+        pairs_len: usize,
+        pair_rows: usize,
+        out: *mut u8,
+        out_len: usize,
+    ) -> u64;
+    fn zorambi_line(text: *const u8, text_len: usize, k: usize, span: *mut usize);
 }
 
 /// The check. Any numbers, counts and lengths: no entry has a requirement.
@@ -88,4 +144,116 @@ pub fn check_model(
             pair_rows,
         )
     }
+}
+
+/// Reads a schema text into the table; the results are root, least and rows.
+pub fn read_schema(text: &[u8], table: &mut [i32], results: &mut [i32; 3]) -> u64 {
+    unsafe {
+        zorambi_read_schema(
+            text.as_ptr(),
+            text.len(),
+            table.as_mut_ptr(),
+            table.len(),
+            results.as_mut_ptr(),
+        )
+    }
+}
+
+/// Reads a proof text into the tables; the results are rows, nodes and members.
+pub fn read_proof(
+    text: &[u8],
+    table: &mut [i32],
+    nodes: &mut [i32],
+    members: &mut [i32],
+    results: &mut [i32; 3],
+) -> u64 {
+    unsafe {
+        zorambi_read_proof(
+            text.as_ptr(),
+            text.len(),
+            table.as_mut_ptr(),
+            table.len(),
+            nodes.as_mut_ptr(),
+            nodes.len(),
+            members.as_mut_ptr(),
+            members.len(),
+            results.as_mut_ptr(),
+        )
+    }
+}
+
+/// Reads a model text into the table of pairs; the results are n and pairs.
+pub fn read_model(text: &[u8], pairs: &mut [i32], results: &mut [i32; 2]) -> u64 {
+    unsafe {
+        zorambi_read_model(
+            text.as_ptr(),
+            text.len(),
+            pairs.as_mut_ptr(),
+            pairs.len(),
+            results.as_mut_ptr(),
+        )
+    }
+}
+
+/// Writes a schema's text.
+pub fn write_schema(table: &[i32], rows: usize, root: i32, least: i32, out: &mut [u8]) -> u64 {
+    unsafe {
+        zorambi_write_schema(
+            table.as_ptr(),
+            table.len(),
+            rows,
+            root,
+            least,
+            out.as_mut_ptr(),
+            out.len(),
+        )
+    }
+}
+
+/// Writes a proof's text.
+pub fn write_proof(
+    table: &[i32],
+    rows: usize,
+    nodes: &[i32],
+    node_rows: usize,
+    members: &[i32],
+    member_count: usize,
+    out: &mut [u8],
+) -> u64 {
+    unsafe {
+        zorambi_write_proof(
+            table.as_ptr(),
+            table.len(),
+            rows,
+            nodes.as_ptr(),
+            nodes.len(),
+            node_rows,
+            members.as_ptr(),
+            members.len(),
+            member_count,
+            out.as_mut_ptr(),
+            out.len(),
+        )
+    }
+}
+
+/// Writes a model's text.
+pub fn write_model(n: i32, pairs: &[i32], pair_rows: usize, out: &mut [u8]) -> u64 {
+    unsafe {
+        zorambi_write_model(
+            n,
+            pairs.as_ptr(),
+            pairs.len(),
+            pair_rows,
+            out.as_mut_ptr(),
+            out.len(),
+        )
+    }
+}
+
+/// Line k of a text: its start and its length.
+pub fn line(text: &[u8], k: usize) -> [usize; 2] {
+    let mut span = [0; 2];
+    unsafe { zorambi_line(text.as_ptr(), text.len(), k, span.as_mut_ptr()) }
+    span
 }

@@ -1,0 +1,174 @@
+-- What the text entries give fits into the numbers that they give: the counts of what is read, the places of refusals, the bytes of a text.
+use Prim.Native.Nat.{ℕ, suc, _+_, _-_, _/_, _≤_, _<_}
+use native.Mathlib.Omega.{arith}
+use mathlib.Core.Path.{_≡_, refl, sym, _∙_, ap, subst}
+use mathlib.Core.Bool.{Bool, true, false}
+use mathlib.Core.List.{List, [], _∷_}
+use mathlib.Core.Option.{Option, none, some}
+use lib.Dec.{leb, eqb}
+use lib.IntN.{ℤ}
+use lib.ListN.{length}
+use borrow.Author.Tests.{leb-true}
+use Rattle.stab.specs.Basic.{if_then_else_, _and_, _otherwise_}
+use Rattle.stab.specs.Text.{Line, lines, numbers, textLimit}
+use Rattle.stab.specs.Read.{Reading, read, stopped, _andThen_, require, headingAt, valuesOf, values, valuesAt, rowsFrom, nodesFrom, proofRowsFrom, readSchemaLines, readProofLines, readModelLines, readText, readSchema, readProof, readModel, schemaAnswer, proofAnswer, modelAnswer}
+use Rattle.stab.specs.Write.{writingOf, writing, outputRefusal, written}
+use Rattle.stab.specs.Answer.{Packs}
+use Rattle.stab.specs.Entry.{WrittenFits}
+use Rattle.stab.specs.declared.Refusal.{Refusal}
+use Rattle.stab.specs.declared.Place.the-variants.{At}
+use Rattle.stab.specs.declared.Verdict.the-variants.{Refused}
+use Rattle.stab.specs.declared.SchemaRead.{SchemaRead}
+use Rattle.stab.specs.declared.SchemaRead.the-variants.{Schema, Refused as SchemaRefused}
+use Rattle.stab.specs.declared.ProofRead.{ProofRead}
+use Rattle.stab.specs.declared.ProofRead.the-variants.{Proof, Refused as ProofRefused}
+use Rattle.stab.specs.declared.ModelRead.{ModelRead}
+use Rattle.stab.specs.declared.ModelRead.the-variants.{Model, Refused as ModelRefused}
+use Rattle.stab.proofs.Bools.{and-left, and-right, unless-none, otherwise-second}
+use Rattle.stab.proofs.Texts.{schema-counts, proof-counts, model-counts}
+
+-- ---- a refusal in reading is at line b or above it
+
+abbrev Stops : {A : Type 0} → ℕ → Reading A → Type 0
+Stops b (read a) = Unit {0}
+Stops b (stopped why k) = k ≤ b
+
+stops-then : {A B : Type 0} (b : ℕ) (r : Reading A) (f : A → Reading B) → Stops b r → ((a : A) → Stops b (f a)) → Stops b (r andThen f)
+unfolding _andThen_
+stops-then b (read a) f h g = g a
+stops-then b (stopped why k) f h g = h
+
+stops-require : {A : Type 0} (b : ℕ) (t : Bool) (why : Refusal) (k : ℕ) (r : Reading A) → k ≤ b → (t ≡ true → Stops b r) → Stops b (require t why k r)
+unfolding require
+stops-require b true why k r h g = g refl
+stops-require b false why k r h g = h
+
+stops-heading : (b : ℕ) (h : List ℕ) (k : ℕ) (ls : List Line) → k ≤ b → Stops b (headingAt h k ls)
+unfolding headingAt
+stops-heading b h k [] near = near
+stops-heading b h k (l ∷ ls) near = stops-require b _ _ k (read ls) near (λ e. tt)
+
+stops-values-of : (b : ℕ) (fits : ℕ → Bool) (k : ℕ) (o : Option (List ℤ)) → k ≤ b → Stops b (valuesOf fits k o)
+unfolding valuesOf
+stops-values-of b fits k none near = near
+stops-values-of b fits k (some vs) near = stops-require b _ _ k (read vs) near (λ e. tt)
+
+stops-values : (b : ℕ) (fits : ℕ → Bool) (k : ℕ) (l : Line) → k ≤ b → Stops b (values fits k l)
+unfolding values
+stops-values b fits k l near = stops-require b (l .ended) _ k _ near (λ e. stops-values-of b fits k (numbers (l .content)) near)
+
+stops-values-at : (b : ℕ) (fits : ℕ → Bool) (k : ℕ) (ls : List Line) → k ≤ b → Stops b (valuesAt fits k ls)
+unfolding valuesAt
+stops-values-at b fits k [] near = near
+stops-values-at b fits k (l ∷ ls) near = stops-then b (values fits k l) _ (stops-values b fits k l near) (λ vs. tt)
+
+stops-rows : (b w m k : ℕ) (ls : List Line) → k + m ≤ b → Stops b (rowsFrom w m k ls)
+unfolding rowsFrom
+stops-rows b w m k [] near = tt
+stops-rows b w m k (l ∷ ls) near =
+    stops-then b (values (eqb w) k l) _ (stops-values b (eqb w) k l (omega arith))
+    (λ vs. stops-require b (leb 1 m) _ k _ (omega arith)
+    (λ e. stops-then b (rowsFrom w (m - 1) (suc k) ls) _ (stops-rows b w (m - 1) (suc k) ls (omega (arith, leb-true 1 m e))) (λ rest. tt)))
+
+stops-nodes : (b m start k : ℕ) (ls : List Line) → k + m ≤ b → Stops b (nodesFrom m start k ls)
+unfolding nodesFrom
+stops-nodes b m start k [] near = tt
+stops-nodes b m start k (l ∷ ls) near =
+    stops-then b (values (leb 7) k l) _ (stops-values b (leb 7) k l (omega arith))
+    (λ vs. stops-require b (leb 1 m and leb (start + (length vs - 7)) 8192) _ k _ (omega arith)
+    (λ e. stops-then b (nodesFrom (m - 1) (start + (length vs - 7)) (suc k) ls) _
+    (stops-nodes b (m - 1) (start + (length vs - 7)) (suc k) ls (omega (arith, leb-true 1 m (and-left _ _ e))))
+    (λ rest. tt)))
+
+stops-if : {A : Type 0} (b : ℕ) (t : Bool) (x y : Reading A) → Stops b x → Stops b y → Stops b (if t then x else y)
+unfolding if_then_else_
+stops-if b true x y h g = h
+stops-if b false x y h g = g
+
+stops-proof-rows : (b m k : ℕ) (ls : List Line) → k + m + 1025 ≤ b → Stops b (proofRowsFrom m k ls)
+unfolding proofRowsFrom
+stops-proof-rows b m k [] near = omega arith
+stops-proof-rows b m k (l ∷ ls) near =
+    stops-if b _ _ _
+    (stops-require b _ _ k _ (omega arith) (λ e. stops-then b (nodesFrom 1024 0 (suc k) ls) _ (stops-nodes b 1024 0 (suc k) ls (omega arith)) (λ r. tt)))
+    (stops-then b (values (eqb 4) k l) _ (stops-values b (eqb 4) k l (omega arith))
+    (λ vs. stops-require b (leb 1 m) _ k _ (omega arith)
+    (λ e. stops-then b (proofRowsFrom (m - 1) (suc k) ls) _ (stops-proof-rows b (m - 1) (suc k) ls (omega (arith, leb-true 1 m e))) (λ r. tt))))
+
+stops-text : {A : Type 0} (b : ℕ) (full : Bool) (reader : List Line → Reading A) (text : List ℕ) → Stops b (reader (lines text)) → Stops b (readText full reader text)
+unfolding readText
+stops-text b full reader text h = stops-require b _ _ 0 _ (omega arith) (λ e. stops-require b full _ 0 _ (omega arith) (λ g. h))
+
+stops-schema : (n : ℕ) (text : List ℕ) → Stops 4100 (readSchema n text)
+unfolding readSchema readSchemaLines
+stops-schema n text =
+    stops-text 4100 _ readSchemaLines text
+    (stops-then 4100 _ _ (stops-heading 4100 _ 1 (lines text) (omega arith))
+    (λ a. stops-then 4100 _ _ (stops-values-at 4100 _ 2 a (omega arith))
+    (λ v. stops-then 4100 _ _ (stops-heading 4100 _ 3 (v .1) (omega arith))
+    (λ c. stops-then 4100 _ _ (stops-rows 4100 4 1024 4 c (omega arith)) (λ t. tt)))))
+
+stops-proof : (a b d : ℕ) (text : List ℕ) → Stops 4100 (readProof a b d text)
+unfolding readProof readProofLines
+stops-proof a b d text =
+    stops-text 4100 _ readProofLines text
+    (stops-then 4100 _ _ (stops-heading 4100 _ 1 (lines text) (omega arith)) (λ c. stops-proof-rows 4100 1024 2 c (omega arith)))
+
+stops-model : (n : ℕ) (text : List ℕ) → Stops 4100 (readModel n text)
+unfolding readModel readModelLines
+stops-model n text =
+    stops-text 4100 _ readModelLines text
+    (stops-then 4100 _ _ (stops-heading 4100 _ 1 (lines text) (omega arith))
+    (λ a. stops-then 4100 _ _ (stops-values-at 4100 _ 2 a (omega arith))
+    (λ v. stops-then 4100 _ _ (stops-heading 4100 _ 3 (v .1) (omega arith))
+    (λ c. stops-then 4100 _ _ (stops-rows 4100 2 4096 4 c (omega arith)) (λ t. tt)))))
+
+-- ---- what a reader answers: counts of five digits, a refusal that packs
+
+abbrev pub SchemaFits : SchemaRead → Type 0
+SchemaFits (Schema root least rows) = rows ≤ 1024
+SchemaFits (SchemaRefused why p) = Packs (Refused why p)
+
+abbrev pub ProofFits : ProofRead → Type 0
+ProofFits (Proof rows nodes members) = (rows ≤ 1024) × (nodes ≤ 1024) × (members ≤ 8192)
+ProofFits (ProofRefused why p) = Packs (Refused why p)
+
+abbrev pub ModelFits : ModelRead → Type 0
+ModelFits (Model n pairs) = pairs ≤ 4096
+ModelFits (ModelRefused why p) = Packs (Refused why p)
+
+pub schema-fits : (n : ℕ) (text : List ℕ) → SchemaFits (schemaAnswer (readSchema n text))
+unfolding schemaAnswer
+schema-fits n text = go (readSchema n text) refl (stops-schema n text)
+  where
+    go : (r : Reading _) → readSchema n text ≡ r → Stops 4100 r → SchemaFits (schemaAnswer r)
+    go (read s) e h = omega (arith, schema-counts n text s e .0, schema-counts n text s e .1)
+    go (stopped why k) e h = omega arith
+
+pub proof-fits : (a b d : ℕ) (text : List ℕ) → ProofFits (proofAnswer (readProof a b d text))
+unfolding proofAnswer
+proof-fits a b d text = go (readProof a b d text) refl (stops-proof a b d text)
+  where
+    go : (r : Reading _) → readProof a b d text ≡ r → Stops 4100 r → ProofFits (proofAnswer r)
+    go (read p) e h =
+        let c = proof-counts a b d text p e in
+        (omega (arith, c .0, c .1), omega (arith, c .2, c .3), c .4)
+    go (stopped why k) e h = omega arith
+
+pub model-fits : (n : ℕ) (text : List ℕ) → ModelFits (modelAnswer (readModel n text))
+unfolding modelAnswer
+model-fits n text = go (readModel n text) refl (stops-model n text)
+  where
+    go : (r : Reading _) → readModel n text ≡ r → Stops 4100 r → ModelFits (modelAnswer r)
+    go (read s) e h = omega (arith, model-counts n text s e .0, model-counts n text s e .1)
+    go (stopped why k) e h = omega arith
+
+-- ---- what a writer answers: at most 65,536 bytes, a refusal that packs
+
+pub written-fits : (o : Option Refusal) (n : ℕ) (text : List ℕ) → WrittenFits (written (writing o n text))
+unfolding writing written writingOf outputRefusal textLimit
+written-fits o n text = go (o otherwise outputRefusal n text) refl
+  where
+    go : (x : Option Refusal) → (o otherwise outputRefusal n text) ≡ x → WrittenFits (written (writingOf x text))
+    go none e = leb-true (length text) 65536 (and-right (leb (length text) n) _ (unless-none (leb (length text) n and leb (length text) 65536) _ (otherwise-second o _ e)))
+    go (some why) e = tt

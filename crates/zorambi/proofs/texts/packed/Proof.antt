@@ -1,0 +1,28 @@
+use native.Mathlib.Omega.{arith}
+use mathlib.Core.Path.{sym, _∙_, ap, subst}
+use borrow.Author.Needs.{needs}
+use Rattle.stab.specs.Entry.{writtenPacked, WrittenFits}
+use Rattle.zorambi.proofs.texts.packed.Statement.{statement}
+use Rattle.zorambi.proofs.texts.packed.Tie as tie
+
+enum-known-w : tie.Need-enum-known-w
+enum-known-w c = search needs
+
+add-result : tie.Need-add-result
+add-result c = let b = c .before in record { fits = omega (arith, subst WrittenFits (b .w .given .1) (b .before .before .pre)) }
+
+enum-known-w-2 : tie.Need-enum-known-w-2
+enum-known-w-2 c = search needs
+
+pack-requires : tie.Need-pack-requires
+pack-requires c κs = let b = c .before in subst WrittenFits (b .w2 .given .1) (b .before .before .pre)
+
+returns : tie.Need-returns
+returns c = ap writtenPacked (sym (c .before .w .given .1))
+
+returns-2 : tie.Need-returns-2
+returns-2 c = c .pack .ensures ∙ ap writtenPacked (sym (c .before .before .w2 .given .1))
+
+pub packed-spec : {M : Type 1} → statement M
+packed-spec =
+    tie.close (tie.spec enum-known-w add-result enum-known-w-2 pack-requires returns returns-2)

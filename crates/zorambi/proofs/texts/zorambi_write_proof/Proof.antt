@@ -1,0 +1,26 @@
+use mathlib.Core.Path.{sym, _∙_, ap, subst}
+use borrow.Author.Needs.{needs}
+use Rattle.stab.specs.Entry.{writtenPacked, WrittenFits}
+use Rattle.stab.specs.Write.{writeProof}
+use Rattle.stab.proofs.Entries.{written-fits}
+use Rattle.zorambi.proofs.texts.zorambi_write_proof.Statement.{statement}
+use Rattle.zorambi.proofs.texts.zorambi_write_proof.Tie as tie
+
+write-proof-requires : tie.Need-write-proof-requires
+write-proof-requires c κs = search needs
+
+packed-requires : tie.Need-packed-requires
+unfolding writeProof
+packed-requires c κs = subst WrittenFits (sym (c .before .before .write-proof .ensures .0)) (written-fits _ _ _)
+
+same-length : tie.Need-same-length
+same-length c = search needs
+
+returns : tie.Need-returns
+returns c =
+    let b = c .before .before .before in
+    (c .packed .ensures ∙ ap writtenPacked (b .write-proof .ensures .0), b .write-proof .ensures .1)
+
+pub zorambi-write-proof-spec : {M : Type 1} → statement M
+zorambi-write-proof-spec =
+    tie.close (tie.spec write-proof-requires packed-requires same-length returns)
