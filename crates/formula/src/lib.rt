@@ -1,6 +1,4 @@
-// Formula rows: which are well formed, how large they are, when two agree.
-pub mod compare;
-mod memo;
+// Formula rows: which are well formed, and how large they are.
 pub mod rows;
 
 ghost use mathlib.Core.Path.{_≡_};

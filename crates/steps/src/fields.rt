@@ -147,7 +147,7 @@ fn symbol_fits(
     }
     let on = node::natural_of(nodes, j, ON);
     let with = node::natural_of(nodes, j, WITH);
-    formula::compare::same_in(schema, t.schema, proof, on, 1, with, 1)
+    alike::compare::same_in(schema, t.schema, proof, on, 1, with, 1)
 }
 
 // `on` and `with` are as the rule says.

@@ -87,10 +87,10 @@ fn same_place(schema: &[i32], s: usize, proof: &[i32], on: usize, with: usize) -
     requires { ⌜ (on < 2 ^ 32) × (with < 2 ^ 32) ⌝ }
     ensures { λ v. ⌜ v ≡ (eqZ (joined (now (schema .entry)) s (now (proof .entry)) on .b) (joined (now (schema .entry)) s (now (proof .entry)) with .b) and eqZ (joined (now (schema .entry)) s (now (proof .entry)) on .c) (joined (now (schema .entry)) s (now (proof .entry)) with .c)) ⌝ }
 {
-    if !formula::compare::same_in(schema, s, proof, on, 2, with, 2) {
+    if !alike::compare::same_in(schema, s, proof, on, 2, with, 2) {
         return false;
     }
-    formula::compare::same_in(schema, s, proof, on, 3, with, 3)
+    alike::compare::same_in(schema, s, proof, on, 3, with, 3)
 }
 
 // Rule 6: the same index, at every n or at the one that the node knows.

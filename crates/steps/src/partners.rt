@@ -45,10 +45,10 @@ fn is_shortened(schema: &[i32], s: usize, proof: &[i32], on: usize, with: usize)
     requires { ⌜ offset (joined (now schema) s (now proof) with .c) ≡ true ⌝ }
     ensures { λ v. ⌜ v ≡ shortened (joined (now (schema .entry)) s (now (proof .entry)) on) (joined (now (schema .entry)) s (now (proof .entry)) with) ⌝ }
 {
-    if !formula::compare::same_in(schema, s, proof, with, 1, on, 1) {
+    if !alike::compare::same_in(schema, s, proof, with, 1, on, 1) {
         return false;
     }
-    if !formula::compare::same_in(schema, s, proof, with, 2, on, 2) {
+    if !alike::compare::same_in(schema, s, proof, with, 2, on, 2) {
         return false;
     }
     is_next(schema, s, proof, on, with)
@@ -70,5 +70,5 @@ pub fn partners_fit(schema: &[i32], proof: &[i32], nodes: &[i32], t: Counts, j: 
         return false;
     }
     let other = node::natural_of(nodes, j, fields::OTHER);
-    formula::compare::is_instance(schema, t.schema, proof, on, other)
+    alike::compare::is_instance(schema, t.schema, proof, on, other)
 }

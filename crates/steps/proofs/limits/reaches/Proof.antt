@@ -4,7 +4,7 @@ use Prim.Native.Nat.{ℕ, _+_}
 use mathlib.Core.Path.{_∙_, ap₂}
 use lib.Dec.{leb}
 use Rattle.formula.specs.Column.{column}
-use Rattle.formula.proofs.Compares.{offset-small}
+use Rattle.alike.proofs.Compares.{offset-small}
 use Rattle.steps.proofs.LimitLaws.{reach-test}
 use Rattle.steps.proofs.limits.reaches.Statement.{statement}
 use Rattle.steps.proofs.limits.reaches.Tie as tie

@@ -4,7 +4,7 @@ use Prim.Native.Nat.{ℕ, _+_}
 use mathlib.Core.Path.{_∙_, ap₂}
 use lib.Dec.{eqb}
 use Rattle.formula.specs.Column.{column}
-use Rattle.formula.proofs.Compares.{offset-small}
+use Rattle.alike.proofs.Compares.{offset-small}
 use Rattle.steps.proofs.LimitLaws.{index-test}
 use Rattle.steps.proofs.limits.same_index.Statement.{statement}
 use Rattle.steps.proofs.limits.same_index.Tie as tie

@@ -14,8 +14,8 @@ use Rattle.stab.specs.Formula.{joined}
 use Rattle.stab.specs.Node.{Tableau, node, nodeAt, set, setOf}
 use Rattle.stab.specs.Rule.{hasLowered}
 use Rattle.stab.proofs.Trees.{below-nat, below-pos}
-use Rattle.formula.specs.Memo.{Remembers}
-use Rattle.formula.proofs.Remembering.{nothing-seen}
+use Rattle.alike.specs.Memo.{Remembers}
+use Rattle.alike.proofs.Remembering.{nothing-seen}
 use Rattle.nodes.specs.Lent.{lent}
 use Rattle.steps.proofs.Answers.{refused, passed}
 use Rattle.steps.proofs.HeldLaws.{set-length, member-nat}
