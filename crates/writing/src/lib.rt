@@ -28,7 +28,7 @@ ghost use Rattle.writing.specs.NodeTexts.{columnsWidth, NodesWritable};
 ghost use Rattle.writing.specs.Headed.{headedText, writeHeaded, Writable, Front, Short};
 
 // All bytes 0.
-fn clear(out: &mut [u8])
+pub fn clear(out: &mut [u8])
     ensures { λ r. ⌜ now (out .exit) ≡ replicate (length (now (out .entry))) 0 ⌝ }
 {
     let mut i = 0;
@@ -39,7 +39,7 @@ fn clear(out: &mut [u8])
 }
 
 // A heading's line.
-fn put_heading(out: &mut [u8], text: &[u8]) -> usize
+pub fn put_heading(out: &mut [u8], text: &[u8]) -> usize
     requires { ⌜ length (headingLine (now text)) ≤ length (now out) ⌝ }
     ensures { λ r. ⌜ (r ≡ length (headingLine (now (text .entry)))) × (now (out .exit) ≡ over (headingLine (now (text .entry))) (now (out .entry))) ⌝ }
 {
@@ -77,7 +77,7 @@ fn put_numbers(out: &mut [u8], t: &[i32]) -> usize
 }
 
 // A row's line: byte 10 takes the place of the last space.
-fn put_row(out: &mut [u8], row: &[i32]) -> usize
+pub fn put_row(out: &mut [u8], row: &[i32]) -> usize
     requires { ⌜ (1 ≤ length (now row)) × (allOf fiveDigits (now row) ≡ true) × (length (rowLine (now row)) ≤ length (now out)) ⌝ }
     ensures { λ r. ⌜ (r ≡ length (rowLine (now (row .entry)))) × (now (out .exit) ≡ over (rowLine (now (row .entry))) (now (out .entry))) ⌝ }
 {

@@ -1,0 +1,2 @@
+pub mod FromTexts
+pub mod FromRows
