@@ -41,3 +41,7 @@ proofRowLine S r = 2 + r - S
 
 unfoldable pub nodeLine : ℕ → ℕ → ℕ
 nodeLine P j = 3 + P + j
+
+-- pairs start on the fourth line of a model text: "Model: `n`, one line, `symbol index`, rows."
+unfoldable pub pairLine : ℕ → ℕ
+pairLine r = 4 + r

@@ -1,15 +1,23 @@
--- 01, "A whole record, and its neighbours": what the programs print.
+-- 01, "A whole record, and its neighbours": what the programs print; "Model, texts, lines": where a refusal points.
 use Prim.Native.Nat.{ℕ, _/_}
+use mathlib.Core.Bool.{Bool, true, false}
 use mathlib.Core.List.{List, [], _∷_, _++_}
+use lib.Dec.{leb, ltb}
 use lib.IntN.{ℤ, pos}
 use lib.ListN.{length}
+use Rattle.stab.specs.Basic.{if_then_else_, _and_}
 use Rattle.stab.specs.Node.{Tableau}
 use Rattle.stab.specs.Check.{check}
 use Rattle.stab.specs.Model.{Model, checkModel}
 use Rattle.stab.specs.Text.{bytes, headingLine, rowLine, padded}
 use Rattle.stab.specs.Read.{Reading, read, stopped, SchemaText, ProofText, ModelText, readSchema, readProof, readModel}
-use Rattle.stab.specs.Answer.{Numbers, refusedNumbers, verdictNumbers}
-use Rattle.stab.specs.declared.Place.the-variants.{At}
+use Rattle.stab.specs.LineNumber.{schemaRowLine, proofRowLine, nodeLine, pairLine}
+use Rattle.stab.specs.Answer.{Numbers, refusalNumber, refusedNumbers, verdictNumbers}
+use Rattle.stab.specs.declared.Place.the-variants.{Whole, At}
+use Rattle.stab.specs.declared.Refusal.{Refusal}
+use Rattle.stab.specs.declared.Verdict.{Verdict}
+use Rattle.stab.specs.declared.Verdict.the-variants.{Accepted, Refused}
+use Rattle.stab.specs.declared.Fault.{Fault}
 
 -- "prints `answer place nodes links`, then" the four numbers. "Each line ends with byte 10."
 unfoldable pub printed : Numbers → List ℕ
@@ -56,3 +64,54 @@ checkProgram schema proof =
 unfoldable pub modelProgram : List ℕ → List ℕ → List ℕ
 modelProgram schema model =
     printed (afterReading (λ s m. verdictNumbers (checkModel (modelOf s m))) (readSchema 4096 schema) (readModel 8192 model))
+
+-- ---- where a refusal points
+
+unfoldable pub noFault : Fault
+noFault = record { second = false; line = 0 }
+
+unfoldable pub inFirst : ℕ → Fault
+inFirst k = record { second = false; line = k }
+
+unfoldable pub inSecond : ℕ → Fault
+inSecond k = record { second = true; line = k }
+
+-- "Schema row r is line 4 + r; with S schema and P proof rows, proof row r is line 2 + r - S"
+unfoldable pub rowFault : ℕ → ℕ → Fault
+rowFault S r = if ltb r S then inFirst (schemaRowLine r) else inSecond (proofRowLine S r)
+
+-- refusals a to b
+unfoldable pub among : ℕ → ℕ → Refusal → Bool
+among a b why = leb a (refusalNumber why) and leb (refusalNumber why) b
+
+-- at place k of a tableau: 7 and 8 name a formula row, 9 to 17 a node, "node j line 3 + P + j"
+unfoldable pub checkPoints : ℕ → ℕ → Refusal → ℕ → Fault
+checkPoints S P why k = if among 7 8 why then rowFault S k else if among 9 17 why then inSecond (nodeLine P k) else noFault
+
+-- at place k of a model: 7 and 8 name a schema row, 18 a pair
+unfoldable pub modelPoints : Refusal → ℕ → Fault
+modelPoints why k = if among 7 8 why then inFirst (schemaRowLine k) else if among 18 18 why then inSecond (pairLine k) else noFault
+
+unfoldable pub verdictFault : (Refusal → ℕ → Fault) → Verdict → Fault
+verdictFault points (Accepted nodes links) = noFault
+verdictFault points (Refused why Whole) = noFault
+verdictFault points (Refused why (At k)) = points why k
+
+-- a text refused in reading is refused at a line, the schema's first
+unfoldable pub faultAfterReading : {A B : Type 0} → (A → B → Fault) → Reading A → Reading B → Fault
+faultAfterReading judge (read a) (read b) = judge a b
+faultAfterReading judge (read a) (stopped why k) = inSecond k
+faultAfterReading judge (stopped why k) r = inFirst k
+
+-- where the check program's refusal of the bytes of schema.txt and of proof.txt points
+unfoldable pub checkFault : List ℕ → List ℕ → Fault
+checkFault schema proof =
+    faultAfterReading
+    (λ s p. verdictFault (checkPoints (length (s .table) / 4) (length (p .table) / 4)) (check (tableauOf s p)))
+    (readSchema 4096 schema)
+    (readProof 4096 9216 8192 proof)
+
+-- where the model check program's refusal of the bytes of schema.txt and of model.txt points
+unfoldable pub modelFault : List ℕ → List ℕ → Fault
+modelFault schema model =
+    faultAfterReading (λ s m. verdictFault modelPoints (checkModel (modelOf s m))) (readSchema 4096 schema) (readModel 8192 model)

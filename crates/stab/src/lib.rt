@@ -1,4 +1,4 @@
-// The answers of the paper as enums, and the row of its rule table as a struct.
+// The answers of the paper as enums; the row of its rule table, and where a refusal points, as structs.
 // What each case means in the paper's numbers is in specs/Answer.antt.
 pub mod heading;
 
@@ -85,4 +85,10 @@ pub struct Rule {
     pub other: bool,
     pub link: bool,
     pub children: usize,
+}
+
+// Which of two texts a refusal points into, and the line there, counted from 1; line 0 is none.
+pub struct Fault {
+    pub second: bool,
+    pub line: usize,
 }

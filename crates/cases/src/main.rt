@@ -1,0 +1,142 @@
+// The paper's cases that no lemma computes, and the shipped records, through the functions that the programs are made of:
+// a line for each, its name and the four numbers.
+use libc::STDOUT_FILENO;
+
+// The record's schema with root 3.
+const SCHEMA: [u8; 66] =
+    *b"root least\n3 1\nkind a b c\n2 0 2 0\n3 0 2 0\n7 0 2 0\n6 1 2 0\n4 2 3 0\n";
+
+// The name, and what was printed after the heading's line.
+fn tell(name: &[u8], printed: &[u8]) {
+    io::write_all(STDOUT_FILENO, name);
+    io::write_all(STDOUT_FILENO, b": ");
+    if 25 <= printed.len() {
+        io::write_all(STDOUT_FILENO, &printed[25..]);
+    }
+}
+
+// A model of the schema above.
+fn case(name: &[u8], model: &[u8]) {
+    let mut out = [0u8; 64];
+    let n = program::model_texts(&SCHEMA, model, &mut out);
+    tell(name, &out[..n]);
+}
+
+// The texts of a record.
+fn record(name: &[u8], schema: &[u8], proof: &[u8]) {
+    let mut first = files::room();
+    let mut second = files::room();
+    let s = files::load(schema, &mut first);
+    let p = files::load(proof, &mut second);
+    let mut out = [0u8; 64];
+    let n = program::check_texts(&first[..s], &second[..p], &mut out);
+    tell(name, &out[..n]);
+}
+
+// The model of a record's schema.
+fn model(name: &[u8], schema: &[u8], model: &[u8]) {
+    let mut first = files::room();
+    let mut second = files::room();
+    let s = files::load(schema, &mut first);
+    let m = files::load(model, &mut second);
+    let mut out = [0u8; 64];
+    let n = program::model_texts(&first[..s], &second[..m], &mut out);
+    tell(name, &out[..n]);
+}
+
+fn cases() {
+    case(b"root 3, n = 0", b"n\n0\nsymbol index\n");
+    case(b"root 3, n = 3, pair 0 1", b"n\n3\nsymbol index\n0 1\n");
+    case(b"root 3, n = 3, pair 0 3", b"n\n3\nsymbol index\n0 3\n");
+}
+
+fn accepted() {
+    record(
+        b"accepted/arbiter_at_most_one",
+        b"accepted/arbiter_at_most_one/schema.txt",
+        b"accepted/arbiter_at_most_one/proof.txt",
+    );
+    record(
+        b"accepted/chain_531",
+        b"accepted/chain_531/schema.txt",
+        b"accepted/chain_531/proof.txt",
+    );
+    record(
+        b"accepted/cmp_transitive",
+        b"accepted/cmp_transitive/schema.txt",
+        b"accepted/cmp_transitive/proof.txt",
+    );
+    record(
+        b"accepted/period_two",
+        b"accepted/period_two/schema.txt",
+        b"accepted/period_two/proof.txt",
+    );
+    record(
+        b"accepted/rca_zero",
+        b"accepted/rca_zero/schema.txt",
+        b"accepted/rca_zero/proof.txt",
+    );
+}
+
+fn refused() {
+    record(
+        b"refused/link_bound_of_leaf",
+        b"refused/link_bound_of_leaf/schema.txt",
+        b"refused/link_bound_of_leaf/proof.txt",
+    );
+    record(
+        b"refused/link_by_zero",
+        b"refused/link_by_zero/schema.txt",
+        b"refused/link_by_zero/proof.txt",
+    );
+    record(
+        b"refused/link_lost_row_cmp_transitive",
+        b"refused/link_lost_row_cmp_transitive/schema.txt",
+        b"refused/link_lost_row_cmp_transitive/proof.txt",
+    );
+    record(
+        b"refused/open_clash",
+        b"refused/open_clash/schema.txt",
+        b"refused/open_clash/proof.txt",
+    );
+    record(
+        b"refused/size_4097",
+        b"refused/size_4097/schema.txt",
+        b"refused/size_4097/proof.txt",
+    );
+    record(
+        b"refused/unfold_empty_open",
+        b"refused/unfold_empty_open/schema.txt",
+        b"refused/unfold_empty_open/proof.txt",
+    );
+}
+
+fn models() {
+    model(
+        b"refused/link_bound_of_leaf, its model",
+        b"refused/link_bound_of_leaf/schema.txt",
+        b"refused/link_bound_of_leaf/model.txt",
+    );
+    model(
+        b"refused/link_by_zero, its model",
+        b"refused/link_by_zero/schema.txt",
+        b"refused/link_by_zero/model.txt",
+    );
+    model(
+        b"refused/open_clash, its model",
+        b"refused/open_clash/schema.txt",
+        b"refused/open_clash/model.txt",
+    );
+    model(
+        b"refused/unfold_empty_open, its model",
+        b"refused/unfold_empty_open/schema.txt",
+        b"refused/unfold_empty_open/model.txt",
+    );
+}
+
+fn main() {
+    cases();
+    accepted();
+    refused();
+    models();
+}

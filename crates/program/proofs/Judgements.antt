@@ -1,0 +1,59 @@
+-- The outcome of two texts gives what the programs print, and its verdict's numbers are small.
+use Prim.Native.Nat.{ℕ}
+use native.Mathlib.Omega.{arith}
+use mathlib.Core.Path.{_≡_, refl, ap}
+use mathlib.Core.List.{List}
+use Rattle.stab.specs.Check.{check}
+use Rattle.stab.specs.Model.{checkModel}
+use Rattle.stab.specs.Read.{Reading, read, stopped, SchemaText, ProofText, ModelText, readSchema, readProof, readModel}
+use Rattle.stab.specs.Answer.{verdictNumbers, Packs}
+use Rattle.stab.specs.Program.{printed, tableauOf, modelOf, afterReading, checkProgram, modelProgram}
+use Rattle.stab.proofs.Packed.{check-packs, model-packs}
+use Rattle.program.specs.Outcomes.{verdictOf, afterSchema, checkAfter, checkOutcome, modelAfter, modelOutcome}
+use Rattle.program.proofs.LineBounds.{Under, schema-under, proof-under, model-under}
+
+-- ---- what is printed
+
+check-numbers : (s : Reading SchemaText) (p : Reading ProofText)
+    → afterReading (λ a b. verdictNumbers (check (tableauOf a b))) s p ≡ verdictNumbers (verdictOf (afterSchema (checkAfter p) s))
+unfolding afterReading afterSchema checkAfter tableauOf verdictNumbers
+check-numbers (read a) (read b) = refl
+check-numbers (read a) (stopped why k) = refl
+check-numbers (stopped why k) p = refl
+
+pub check-prints : (schema proof : List ℕ) → checkProgram schema proof ≡ printed (verdictNumbers (verdictOf (checkOutcome schema proof)))
+unfolding checkProgram checkOutcome
+check-prints schema proof = ap printed (check-numbers (readSchema 4096 schema) (readProof 4096 9216 8192 proof))
+
+model-numbers : (s : Reading SchemaText) (m : Reading ModelText)
+    → afterReading (λ a b. verdictNumbers (checkModel (modelOf a b))) s m ≡ verdictNumbers (verdictOf (afterSchema (modelAfter m) s))
+unfolding afterReading afterSchema modelAfter modelOf verdictNumbers
+model-numbers (read a) (read b) = refl
+model-numbers (read a) (stopped why k) = refl
+model-numbers (stopped why k) m = refl
+
+pub model-prints : (schema model : List ℕ) → modelProgram schema model ≡ printed (verdictNumbers (verdictOf (modelOutcome schema model)))
+unfolding modelProgram modelOutcome
+model-prints schema model = ap printed (model-numbers (readSchema 4096 schema) (readModel 8192 model))
+
+-- ---- how large its numbers are
+
+check-small : (s : Reading SchemaText) (p : Reading ProofText) → Under 1028 s → Under 2051 p → Packs (verdictOf (afterSchema (checkAfter p) s))
+unfolding afterSchema checkAfter
+check-small (read a) (read b) u v = check-packs _
+check-small (read a) (stopped why k) u v = omega arith
+check-small (stopped why k) p u v = omega arith
+
+pub check-outcome-packs : (schema proof : List ℕ) → Packs (verdictOf (checkOutcome schema proof))
+unfolding checkOutcome
+check-outcome-packs schema proof = check-small (readSchema 4096 schema) (readProof 4096 9216 8192 proof) (schema-under schema) (proof-under proof)
+
+model-small : (s : Reading SchemaText) (m : Reading ModelText) → Under 1028 s → Under 4100 m → Packs (verdictOf (afterSchema (modelAfter m) s))
+unfolding afterSchema modelAfter
+model-small (read a) (read b) u v = model-packs _
+model-small (read a) (stopped why k) u v = omega arith
+model-small (stopped why k) m u v = omega arith
+
+pub model-outcome-packs : (schema model : List ℕ) → Packs (verdictOf (modelOutcome schema model))
+unfolding modelOutcome
+model-outcome-packs schema model = model-small (readSchema 4096 schema) (readModel 8192 model) (schema-under schema) (model-under model)

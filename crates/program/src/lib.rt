@@ -1,0 +1,47 @@
+// The programs as functions: two texts in, what is printed out.
+mod fault;
+mod outcome;
+mod print;
+
+use crate::outcome::check_outcome;
+use crate::outcome::model_outcome;
+use crate::outcome::verdict;
+use crate::print::print;
+use stab::Fault;
+ghost use mathlib.Core.Path.{_≡_};
+ghost use lib.ListN.{length};
+ghost use Rattle.stab.specs.Text.{padded};
+ghost use Rattle.stab.specs.Program.{checkProgram, modelProgram, checkFault, modelFault};
+ghost use Rattle.program.specs.Printing.{Counts};
+
+// What the check program prints for the bytes of schema.txt and of proof.txt: how many bytes, and those, with 0 past them.
+pub fn check_texts(schema: &[u8], proof: &[u8], out: &mut [u8; 64]) -> usize
+    ensures count { λ r. ⌜ r ≡ length (checkProgram (now (schema .entry)) (now (proof .entry))) ⌝ }
+    ensures text { λ r. ⌜ now (out .exit) ≡ padded 0 64 (checkProgram (now (schema .entry)) (now (proof .entry))) ⌝ }
+    ensures within { λ r. ⌜ Counts r (now (out .exit)) ⌝ }
+{
+    print(verdict(check_outcome(schema, proof)), out)
+}
+
+// What the model check program prints for the bytes of schema.txt and of model.txt.
+pub fn model_texts(schema: &[u8], model: &[u8], out: &mut [u8; 64]) -> usize
+    ensures count { λ r. ⌜ r ≡ length (modelProgram (now (schema .entry)) (now (model .entry))) ⌝ }
+    ensures text { λ r. ⌜ now (out .exit) ≡ padded 0 64 (modelProgram (now (schema .entry)) (now (model .entry))) ⌝ }
+    ensures within { λ r. ⌜ Counts r (now (out .exit)) ⌝ }
+{
+    print(verdict(model_outcome(schema, model)), out)
+}
+
+// Where the check program's refusal points.
+pub fn check_fault(schema: &[u8], proof: &[u8]) -> Fault
+    ensures { λ r. ⌜ r ≡ checkFault (now (schema .entry)) (now (proof .entry)) ⌝ }
+{
+    fault::checked(check_outcome(schema, proof))
+}
+
+// Where the model check program's refusal points.
+pub fn model_fault(schema: &[u8], model: &[u8]) -> Fault
+    ensures { λ r. ⌜ r ≡ modelFault (now (schema .entry)) (now (model .entry)) ⌝ }
+{
+    fault::modelled(model_outcome(schema, model))
+}
