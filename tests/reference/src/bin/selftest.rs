@@ -48,7 +48,7 @@ fn main() {
     let arguments: Vec<String> = std::env::args().skip(1).collect();
     let number = |at: usize, default: u64| arguments.get(at).and_then(|word| word.parse().ok()).unwrap_or(default);
     let (cases, seed) = (number(0, 20_000), number(1, 1));
-    let records = arguments.get(2).cloned().unwrap_or_else(|| "/work/shared/records".to_string());
+    let records = arguments.get(2).cloned().unwrap_or_else(|| "../../records".to_string());
     let mut tally = Tally::default();
     paper(&mut tally);
     println!("paper: {} passed, {} failed", tally.passed, tally.failed);

@@ -1,0 +1,69 @@
+//! The proved check of schema tableaux, and the model check, for programs in Rust.
+//!
+//! A record is a propositional schema and a closed tableau with loop links for it. If [`check`] accepts
+//! it, the schema is false at every natural n from its least value up, under every assignment. If
+//! [`check_model`] accepts a model, the schema is true in it. That these are so is proved of the library
+//! that this crate calls; the crate itself only lends it memory and names its answers.
+//!
+//! Any numbers and any bytes may be given: what comes back is a [`Verdict`], or the text or tables asked
+//! for, or a numbered [`Refusal`] with its place. All functions may be called from several threads.
+//!
+//! ```
+//! use zorambi::{check, Proof, Record, Refusal, Schema, Verdict};
+//!
+//! // Some p_i for i from 2 to n, and no p_i for i from 2 to n.
+//! let schema = Schema {
+//!     root: 4,
+//!     least: 1,
+//!     rows: vec![[2, 0, 2, 0], [3, 0, 2, 0], [7, 0, 2, 0], [6, 1, 2, 0], [4, 2, 3, 0]],
+//! };
+//! let mut proof = Proof { rows: vec![[7, 0, 2, 1], [2, 0, 1, 0], [6, 1, 2, 1], [3, 0, 1, 0]], ..Proof::default() };
+//! proof.push_node([-1, 0, 4, -1, -1, -1, 0], &[4]);
+//! proof.push_node([0, 2, -1, -1, -1, -1, 0], &[2, 3]);
+//! proof.push_node([1, 7, 2, -1, -1, -1, 0], &[2, 3]);
+//! proof.push_node([1, 3, 3, 7, 8, -1, 0], &[2, 3]);
+//! proof.push_node([3, 4, 2, 5, 6, -1, 0], &[2, 7, 8]);
+//! proof.push_node([4, 8, -1, -1, -1, 1, 1], &[5, 7]);
+//! proof.push_node([4, 6, 6, 8, -1, -1, 0], &[6, 8]);
+//! let mut record = Record { schema, proof };
+//! assert_eq!(check(&record), Verdict::Accepted { nodes: 7, links: 1 });
+//!
+//! // Node 5 links by 2: it would go below what the ancestor knows of n.
+//! record.proof.nodes[5][6] = 2;
+//! let verdict = check(&record);
+//! assert_eq!(verdict, Verdict::Refused { refusal: Refusal::Bound, place: Some(5) });
+//! assert_eq!(verdict.to_string(), "refused: 14 at node 5 (a bound, or the index of a clash)");
+//! ```
+//!
+//! The same from texts:
+//!
+//! ```
+//! use zorambi::{check_model_texts, read_schema, write_schema, Refusal, Verdict};
+//!
+//! let schema = b"root least\n1 0\nkind a b c\n2 0 2 0\n6 0 1 0\n";
+//! let read = read_schema(schema)?;
+//! assert_eq!((read.root, read.least, read.rows.len()), (1, 0, 2));
+//! assert_eq!(write_schema(&read)?, schema);
+//!
+//! // All p_i for i from 1 to n: true at n = 1 if p_1 is.
+//! let verdict = check_model_texts(schema, b"n\n1\nsymbol index\n0 1\n");
+//! assert!(verdict.is_accepted());
+//! let verdict = check_model_texts(schema, b"n\n1\nsymbol index\n0 2\n");
+//! assert_eq!(verdict, Verdict::Refused { refusal: Refusal::False, place: None });
+//!
+//! let refused = read_schema(b"root least\n007 0\n").unwrap_err();
+//! assert_eq!(refused.to_string(), "refused: 4 at line 2 (not a line of the required form and number of values)");
+//! # Ok::<(), zorambi::Refused>(())
+//! ```
+
+pub mod entries;
+mod record;
+mod text;
+mod verdict;
+
+pub use record::{check, check_model, Model, Node, Pair, Proof, Record, Row, Schema, Text};
+pub use text::{
+    check_model_texts, check_texts, line, read_model, read_proof, read_schema, write_model, write_proof, write_schema,
+    MAX_TEXT,
+};
+pub use verdict::{Refusal, Refused, Verdict};

@@ -1,0 +1,105 @@
+//! Records and models as tables, and the two checks.
+
+use crate::entries;
+use crate::verdict::{Refusal, Verdict};
+
+/// A formula row: kind a b c.
+pub type Row = [i32; 4];
+/// A node row: up rule on with other to by, then its set's start among the members and its length.
+pub type Node = [i32; 9];
+/// A true pair of a model: symbol index.
+pub type Pair = [i32; 2];
+
+/// A schema: its formula rows, one of them as the root, and the least value of n.
+#[derive(Clone, Debug, Default, PartialEq, Eq, Hash)]
+pub struct Schema {
+    pub root: i32,
+    pub least: i32,
+    pub rows: Vec<Row>,
+}
+
+/// A tableau for a schema: further formula rows, which go on counting where the schema's rows end, and
+/// nodes with their sets. The sets follow one another in `members`.
+#[derive(Clone, Debug, Default, PartialEq, Eq, Hash)]
+pub struct Proof {
+    pub rows: Vec<Row>,
+    pub nodes: Vec<Node>,
+    pub members: Vec<i32>,
+}
+
+impl Proof {
+    /// Adds a node (up rule on with other to by) with its set at the end.
+    pub fn push_node(&mut self, [up, rule, on, with, other, to, by]: [i32; 7], set: &[i32]) {
+        let number = |count: usize| i32::try_from(count).unwrap_or(i32::MAX);
+        let (start, length) = (number(self.members.len()), number(set.len()));
+        self.nodes.push([up, rule, on, with, other, to, by, start, length]);
+        self.members.extend_from_slice(set);
+    }
+}
+
+/// A schema and its tableau.
+#[derive(Clone, Debug, Default, PartialEq, Eq, Hash)]
+pub struct Record {
+    pub schema: Schema,
+    pub proof: Proof,
+}
+
+/// A model: n, and the pairs that are true, strictly ascending.
+#[derive(Clone, Debug, Default, PartialEq, Eq, Hash)]
+pub struct Model {
+    pub n: i32,
+    pub pairs: Vec<Pair>,
+}
+
+/// Checks a record. If it is accepted, its schema is false at every natural n from the least value up,
+/// under every assignment.
+pub fn check(record: &Record) -> Verdict {
+    let Record { schema, proof } = record;
+    Verdict::of_packed(entries::check(
+        schema.rows.as_flattened(),
+        schema.rows.len(),
+        proof.rows.as_flattened(),
+        proof.rows.len(),
+        schema.root,
+        schema.least,
+        proof.nodes.as_flattened(),
+        proof.nodes.len(),
+        &proof.members,
+        proof.members.len(),
+    ))
+}
+
+/// Checks a model. If it is accepted, the schema is true at its n where exactly its pairs are true.
+pub fn check_model(schema: &Schema, model: &Model) -> Verdict {
+    Verdict::of_packed(entries::check_model(
+        schema.rows.as_flattened(),
+        schema.rows.len(),
+        schema.root,
+        schema.least,
+        model.n,
+        model.pairs.as_flattened(),
+        model.pairs.len(),
+    ))
+}
+
+/// One of a record's texts.
+#[derive(Clone, Copy, Debug, PartialEq, Eq, Hash)]
+pub enum Text {
+    Schema,
+    Proof,
+}
+
+impl Record {
+    /// The text and the line, from 1, of the formula row or node at which [`check`] refused this record;
+    /// `None` if the refusal has no such place.
+    pub fn line_of(&self, refusal: Refusal, place: Option<usize>) -> Option<(Text, usize)> {
+        let place = place?;
+        let (schema_rows, proof_rows) = (self.schema.rows.len(), self.proof.rows.len());
+        match refusal.place_counts()? {
+            "row" if place < schema_rows => Some((Text::Schema, 4 + place)),
+            "row" => Some((Text::Proof, 2 + place - schema_rows)),
+            "node" => Some((Text::Proof, 3 + proof_rows + place)),
+            _ => None,
+        }
+    }
+}

@@ -1,0 +1,172 @@
+//! The paper's record and its neighbours, from texts and from tables.
+
+use zorambi::{
+    check, check_model_texts, check_texts, line, read_model, read_proof, read_schema, write_model, write_proof,
+    write_schema, Model, Proof, Record, Refusal, Refused, Schema, Text, Verdict,
+};
+
+const SCHEMA: &str = "root least\n4 1\nkind a b c\n2 0 2 0\n3 0 2 0\n7 0 2 0\n6 1 2 0\n4 2 3 0\n";
+const PROOF: &str = "kind a b c\n7 0 2 1\n2 0 1 0\n6 1 2 1\n3 0 1 0\nup rule on with other to by set\n\
+-1 0 4 -1 -1 -1 0 4\n0 2 -1 -1 -1 -1 0 2 3\n1 7 2 -1 -1 -1 0 2 3\n1 3 3 7 8 -1 0 2 3\n\
+3 4 2 5 6 -1 0 2 7 8\n4 8 -1 -1 -1 1 1 5 7\n4 6 6 8 -1 -1 0 6 8\n";
+
+fn changed(text: &str, from: &str, to: &str) -> String {
+    assert_eq!(text.matches(from).count(), 1, "{from:?} does not stand once in the text");
+    text.replace(from, to)
+}
+
+fn record() -> Record {
+    Record { schema: read_schema(SCHEMA.as_bytes()).unwrap(), proof: read_proof(PROOF.as_bytes()).unwrap() }
+}
+
+const ACCEPTED: Verdict = Verdict::Accepted { nodes: 7, links: 1 };
+
+fn refused(refusal: Refusal, place: impl Into<Option<usize>>) -> Verdict {
+    Verdict::Refused { refusal, place: place.into() }
+}
+
+#[test]
+fn the_record_and_its_neighbours() {
+    let with_schema = |from: &str, to: &str| check_texts(changed(SCHEMA, from, to).as_bytes(), PROOF.as_bytes());
+    let with_proof = |from: &str, to: &str| check_texts(SCHEMA.as_bytes(), changed(PROOF, from, to).as_bytes());
+    assert_eq!(check_texts(SCHEMA.as_bytes(), PROOF.as_bytes()), ACCEPTED);
+    assert_eq!(with_schema("4 1\n", "4 0\n"), refused(Refusal::Bound, 3));
+    assert_eq!(with_schema("4 1\n", "4 2\n"), refused(Refusal::Bound, 2));
+    assert_eq!(with_proof("-1 1 1 5 7\n", "-1 1 2 5 7\n"), refused(Refusal::Bound, 5));
+    assert_eq!(with_proof("1 1 5 7\n", "1 1 5\n"), refused(Refusal::Lowered, 5));
+    assert_eq!(with_proof("4 6 6 8 ", "4 6 8 6 "), refused(Refusal::Step, 6));
+    assert_eq!(with_proof("3 4 2 5 6 ", "3 4 2 5 8 "), refused(Refusal::Partner, 4));
+    assert_eq!(with_proof("4 6 6 8 -1 -1 0 6 8\n", ""), refused(Refusal::Children, 4));
+    assert_eq!(with_proof("0 6 8\n", "0 6 7 8\n"), ACCEPTED);
+    assert_eq!(with_proof("0 6 8\n", "0 5 6 8\n"), refused(Refusal::Drawn, 6));
+}
+
+#[test]
+fn the_models() {
+    let root_3 = changed(SCHEMA, "4 1\n", "3 1\n");
+    let model = |schema: &str, model: &str| check_model_texts(schema.as_bytes(), model.as_bytes());
+    let accepted = Verdict::Accepted { nodes: 0, links: 0 };
+    assert_eq!(model(SCHEMA, "n\n1\nsymbol index\n"), refused(Refusal::False, None));
+    assert_eq!(model(&root_3, "n\n1\nsymbol index\n"), accepted);
+    assert_eq!(model(&root_3, "n\n0\nsymbol index\n"), refused(Refusal::Width, None));
+    assert_eq!(model(&root_3, "n\n3\nsymbol index\n0 1\n"), accepted);
+    assert_eq!(model(&root_3, "n\n3\nsymbol index\n0 3\n"), refused(Refusal::False, None));
+    assert_eq!(model(&root_3, "n\n3\nsymbol index\n0 1\n0 1\n"), refused(Refusal::Pair, 1));
+}
+
+#[test]
+fn the_record_as_tables() {
+    let record = record();
+    assert_eq!((record.schema.root, record.schema.least, record.schema.rows.len()), (4, 1, 5));
+    assert_eq!(record.schema.rows[3], [6, 1, 2, 0]);
+    assert_eq!((record.proof.rows.len(), record.proof.nodes.len(), record.proof.members.len()), (4, 7, 14));
+    assert_eq!(record.proof.nodes[4], [3, 4, 2, 5, 6, -1, 0, 7, 3]);
+    assert_eq!(record.proof.members[7..10], [2, 7, 8]);
+    assert_eq!(check(&record), ACCEPTED);
+
+    let mut built = Proof { rows: record.proof.rows.clone(), ..Proof::default() };
+    for node in &record.proof.nodes {
+        let [start, length] = [node[7], node[8]].map(|number| number as usize);
+        built.push_node(node[..7].try_into().unwrap(), &record.proof.members[start..start + length]);
+    }
+    assert_eq!(built, record.proof);
+}
+
+#[test]
+fn tables_that_are_no_record() {
+    assert_eq!(check(&Record::default()), refused(Refusal::Root, None));
+    let mut long = record();
+    long.proof.rows.resize(1020, [0; 4]);
+    assert_eq!(check(&long), refused(Refusal::TooMany, None));
+    let mut without_nodes = record();
+    without_nodes.proof = Proof::default();
+    assert_eq!(check(&without_nodes), refused(Refusal::Parent, None));
+    let mut extreme = record();
+    extreme.proof.nodes[3] = [i32::MIN; 9];
+    assert_eq!(check(&extreme), refused(Refusal::Set, 3));
+    extreme = record();
+    extreme.schema.rows[2] = [i32::MAX; 4];
+    assert_eq!(check(&extreme), refused(Refusal::IllFormed, 2));
+}
+
+#[test]
+fn texts_are_written_as_they_were_read() {
+    let Record { schema, proof } = record();
+    assert_eq!(write_schema(&schema).unwrap(), SCHEMA.as_bytes());
+    assert_eq!(write_proof(&proof).unwrap(), PROOF.as_bytes());
+    let model = b"n\n12\nsymbol index\n0 -3\n0 5\n255 29997\n";
+    assert_eq!(read_model(model), Ok(Model { n: 12, pairs: vec![[0, -3], [0, 5], [255, 29997]] }));
+    assert_eq!(write_model(&read_model(model).unwrap()).unwrap(), model);
+}
+
+#[test]
+fn texts_refused_in_reading() {
+    let err = |refusal, place: usize| Err(Refused { refusal, place: Some(place) });
+    assert_eq!(read_schema(&vec![b'\n'; 65_537]), err(Refusal::TextTooLong, 0));
+    assert_eq!(read_schema(b""), err(Refusal::Heading, 1));
+    assert_eq!(read_schema(b"root least\r\n4 1\r\n"), err(Refusal::Heading, 1));
+    assert_eq!(read_schema(b"root least\n4  1\n"), err(Refusal::Line, 2));
+    assert_eq!(read_schema(b"root least\n4 1\nkind a b c\n0 0 0 0"), err(Refusal::Line, 4));
+    assert_eq!(
+        read_proof(b"kind a b c\n0 0 0 -0\n").map(|_| ()),
+        Err(Refused { refusal: Refusal::Line, place: Some(2) })
+    );
+    assert_eq!(
+        read_model(b"n\n1\nsymbol index\n0 100000\n").map(|_| ()),
+        Err(Refused { refusal: Refusal::Line, place: Some(4) })
+    );
+    let many = ["n\n1\nsymbol index\n", &"0 0\n".repeat(4097)].concat();
+    assert_eq!(read_model(many.as_bytes()).map(|_| ()), Err(Refused { refusal: Refusal::TooMany, place: Some(4100) }));
+    assert_eq!(check_texts(b"", PROOF.as_bytes()), refused(Refusal::Heading, 1));
+    assert_eq!(check_texts(SCHEMA.as_bytes(), b""), refused(Refusal::Heading, 1));
+}
+
+#[test]
+fn tables_refused_in_writing() {
+    let err = |refusal| Err(Refused { refusal, place: None });
+    let schema = |count: usize, number: i32| Schema { root: number, least: 0, rows: vec![[number; 4]; count] };
+    assert_eq!(write_schema(&schema(1, 100_000)), err(Refusal::Number));
+    assert_eq!(write_schema(&schema(1025, 0)), err(Refusal::TooMany));
+    assert!(write_schema(&schema(1024, -99_999)).is_ok());
+    let Record { mut proof, .. } = record();
+    proof.nodes[6][8] = 1;
+    assert_eq!(write_proof(&proof), err(Refusal::Number));
+    let long = Proof {
+        rows: vec![[-99_999; 4]; 1024],
+        nodes: vec![[-99_999, -99_999, -99_999, -99_999, -99_999, -99_999, -99_999, 0, 0]; 1024],
+        members: vec![],
+    };
+    assert_eq!(write_proof(&long), err(Refusal::Output));
+}
+
+#[test]
+fn lines_of_places() {
+    let record = record();
+    let at = |refusal, place: usize| record.line_of(refusal, Some(place));
+    let text = |located: Option<(Text, usize)>| match located {
+        Some((Text::Schema, number)) => line(SCHEMA.as_bytes(), number),
+        Some((Text::Proof, number)) => line(PROOF.as_bytes(), number),
+        None => panic!("no line"),
+    };
+    assert_eq!(at(Refusal::IllFormed, 4), Some((Text::Schema, 8)));
+    assert_eq!(text(at(Refusal::IllFormed, 4)), b"4 2 3 0");
+    assert_eq!(text(at(Refusal::TooLarge, 5)), b"7 0 2 1");
+    assert_eq!(text(at(Refusal::IllFormed, 8)), b"3 0 1 0");
+    assert_eq!(at(Refusal::Bound, 5), Some((Text::Proof, 12)));
+    assert_eq!(text(at(Refusal::Bound, 5)), b"4 8 -1 -1 -1 1 1 5 7");
+    assert_eq!(record.line_of(Refusal::Root, None), None);
+    assert_eq!(line(b"one\ntwo", 1), b"one");
+    for (text, number) in [(&b"one\ntwo"[..], 0), (b"one\ntwo", 2), (b"one\n", usize::MAX), (b"", 1)] {
+        let found = line(text, number);
+        assert_eq!((found.as_ptr(), found.len()), (text.as_ptr(), 0));
+    }
+}
+
+#[test]
+fn several_threads_at_once() {
+    let record = record();
+    std::thread::scope(|scope| {
+        let threads: Vec<_> = (0..4).map(|_| scope.spawn(|| (0..500).all(|_| check(&record) == ACCEPTED))).collect();
+        assert!(threads.into_iter().all(|thread| thread.join().unwrap()));
+    });
+}

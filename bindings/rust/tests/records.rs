@@ -1,0 +1,62 @@
+//! The shipped records: their verdicts are those of their `expected` files, their models are accepted,
+//! and their texts are written as they were read.
+
+use std::fs;
+use std::path::{Path, PathBuf};
+use zorambi::{
+    check_model_texts, check_texts, read_model, read_proof, read_schema, write_model, write_proof, write_schema,
+    Refusal, Verdict,
+};
+
+fn records(sort: &str) -> Vec<PathBuf> {
+    let folder = Path::new(env!("CARGO_MANIFEST_DIR")).join("../../records").join(sort);
+    let mut found: Vec<PathBuf> = fs::read_dir(folder).unwrap().map(|entry| entry.unwrap().path()).collect();
+    found.sort();
+    assert!(!found.is_empty());
+    found
+}
+
+fn expected(record: &Path) -> Verdict {
+    let text = fs::read_to_string(record.join("expected")).unwrap();
+    let numbers: Vec<i64> = text.split_whitespace().map(|word| word.parse().unwrap()).collect();
+    let [answer, place, nodes, links] = numbers[..] else { panic!("{text}") };
+    match Refusal::of_number(answer as u64) {
+        None => Verdict::Accepted { nodes: nodes as usize, links: links as usize },
+        Some(refusal) => Verdict::Refused { refusal, place: usize::try_from(place).ok() },
+    }
+}
+
+#[test]
+fn verdicts() {
+    for (sort, accepted) in [("accepted", true), ("refused", false)] {
+        for record in records(sort) {
+            let [schema, proof] = ["schema.txt", "proof.txt"].map(|name| fs::read(record.join(name)).unwrap());
+            let verdict = check_texts(&schema, &proof);
+            assert_eq!(verdict, expected(&record), "{}", record.display());
+            assert_eq!(verdict.is_accepted(), accepted, "{}", record.display());
+        }
+    }
+}
+
+#[test]
+fn models() {
+    let mut found = 0;
+    for record in records("refused") {
+        if let Ok(model) = fs::read(record.join("model.txt")) {
+            let schema = fs::read(record.join("schema.txt")).unwrap();
+            assert!(check_model_texts(&schema, &model).is_accepted(), "{}", record.display());
+            assert_eq!(write_model(&read_model(&model).unwrap()).unwrap(), model);
+            found += 1;
+        }
+    }
+    assert!(found > 0);
+}
+
+#[test]
+fn round_trips() {
+    for record in [records("accepted"), records("refused")].concat() {
+        let [schema, proof] = ["schema.txt", "proof.txt"].map(|name| fs::read(record.join(name)).unwrap());
+        assert_eq!(write_schema(&read_schema(&schema).unwrap()).unwrap(), schema, "{}", record.display());
+        assert_eq!(write_proof(&read_proof(&proof).unwrap()).unwrap(), proof, "{}", record.display());
+    }
+}

@@ -1,0 +1,251 @@
+//! One case put to the library and to the other implementation.
+
+use zorambi::entries;
+use zorambi_reference::generate::models::ModelTables;
+use zorambi_reference::generate::rng::mix;
+use zorambi_reference::generate::tables::Tables;
+use zorambi_reference::generate::{run, Input, Outcome};
+use zorambi_reference::text::Named;
+
+/// All that comes back from a call: the one number, the results, and the lent memory.
+#[derive(Clone, Debug, Default, PartialEq, Eq)]
+pub struct Seen {
+    pub packed: u64,
+    pub results: Vec<i32>,
+    pub tables: Vec<Vec<i32>>,
+    pub out: Vec<u8>,
+    pub span: [usize; 2],
+    /// Something was written next to the lent memory.
+    pub outside: bool,
+}
+
+impl Seen {
+    fn number(packed: u64) -> Seen {
+        Seen { packed, ..Seen::default() }
+    }
+
+    pub fn answer(&self) -> u64 {
+        self.packed >> 39
+    }
+
+    pub fn links(&self) -> u64 {
+        self.packed & 8191
+    }
+
+    /// What differs from another's, in few words.
+    pub fn difference(&self, other: &Seen) -> Option<String> {
+        if self == other {
+            return None;
+        }
+        let place = |seen: &Seen| (seen.packed >> 26 & 8191) as i64 - 1;
+        let ours = format!("answer {} place {} {:?} {:?}", self.answer(), place(self), self.results, self.span);
+        let theirs = format!("answer {} place {} {:?} {:?}", other.answer(), place(other), other.results, other.span);
+        let memory = match (self.outside, self.tables != other.tables || self.out != other.out) {
+            (true, _) => ", written outside of what was lent",
+            (false, true) => ", other memory",
+            (false, false) => "",
+        };
+        Some(format!(
+            "library {ours} ({:#x}), other implementation {theirs} ({:#x}){memory}",
+            self.packed, other.packed
+        ))
+    }
+}
+
+/// Memory that is lent between two guards, all of it garbage.
+struct Lent<T> {
+    memory: Vec<T>,
+    length: usize,
+}
+
+const GUARD: usize = 16;
+
+impl<T: Copy + PartialEq> Lent<T> {
+    fn new(length: usize, garbage: fn(usize) -> T) -> Lent<T> {
+        Lent { memory: (0..length + 2 * GUARD).map(garbage).collect(), length }
+    }
+
+    fn lend(&mut self) -> &mut [T] {
+        &mut self.memory[GUARD..GUARD + self.length]
+    }
+
+    /// The lent part. The guards have to be as they were; otherwise `outside` is told so.
+    fn back(self, garbage: fn(usize) -> T, outside: &mut bool) -> Vec<T> {
+        let end = GUARD + self.length;
+        *outside |= (0..GUARD).chain(end..end + GUARD).any(|at| self.memory[at] != garbage(at));
+        self.memory[GUARD..end].to_vec()
+    }
+}
+
+fn number(at: usize) -> i32 {
+    mix(at as u64) as i32 | 1
+}
+
+fn byte(at: usize) -> u8 {
+    mix(at as u64) as u8 | 1
+}
+
+/// A copy of exactly this length, so that a reading past its end shows under valgrind.
+fn exact<T: Clone>(table: &[T]) -> Box<[T]> {
+    table.to_vec().into_boxed_slice()
+}
+
+pub fn check(t: &Tables) -> u64 {
+    let [schema, proof, nodes, members] = [&t.schema, &t.proof, &t.nodes, &t.members].map(|table| exact(table));
+    entries::check(
+        &schema,
+        t.schema_count,
+        &proof,
+        t.proof_count,
+        t.root,
+        t.least,
+        &nodes,
+        t.node_count,
+        &members,
+        t.member_count,
+    )
+}
+
+pub fn check_model(m: &ModelTables) -> u64 {
+    let [schema, pairs] = [&m.schema, &m.pairs].map(|table| exact(table));
+    entries::check_model(&schema, m.schema_count, m.root, m.least, m.n, &pairs, m.pair_count)
+}
+
+fn read_schema(text: &[u8], length: usize) -> Seen {
+    let mut rows = Lent::new(length, number);
+    let mut results = [i32::MIN, 7, -1];
+    let packed = entries::read_schema(&exact(text), rows.lend(), &mut results);
+    let mut outside = false;
+    let tables = vec![rows.back(number, &mut outside)];
+    Seen { packed, results: results.to_vec(), tables, outside, ..Seen::default() }
+}
+
+fn read_proof(text: &[u8], lengths: [usize; 3]) -> Seen {
+    let [mut rows, mut nodes, mut members] = lengths.map(|length| Lent::new(length, number));
+    let mut results = [i32::MIN, 7, -1];
+    let packed = entries::read_proof(&exact(text), rows.lend(), nodes.lend(), members.lend(), &mut results);
+    let mut outside = false;
+    let tables = [rows, nodes, members].map(|table| table.back(number, &mut outside)).to_vec();
+    Seen { packed, results: results.to_vec(), tables, outside, ..Seen::default() }
+}
+
+fn read_model(text: &[u8], length: usize) -> Seen {
+    let mut pairs = Lent::new(length, number);
+    let mut results = [i32::MIN, 7];
+    let packed = entries::read_model(&exact(text), pairs.lend(), &mut results);
+    let mut outside = false;
+    let tables = vec![pairs.back(number, &mut outside)];
+    Seen { packed, results: results.to_vec(), tables, outside, ..Seen::default() }
+}
+
+fn written(length: usize, write: impl FnOnce(&mut [u8]) -> u64) -> Seen {
+    let mut out = Lent::new(length, byte);
+    let packed = write(out.lend());
+    let mut outside = false;
+    let out = out.back(byte, &mut outside);
+    Seen { packed, out, outside, ..Seen::default() }
+}
+
+/// The library on a case; `None` if no entry does what is asked.
+pub fn of_library(input: &Input) -> Option<Seen> {
+    Some(match input {
+        Input::Check(t) => Seen::number(check(t)),
+        Input::Model(m) => Seen::number(check_model(m)),
+        Input::ReadSchema { text, length, .. } => read_schema(text, *length),
+        Input::ReadProof { text, lengths, .. } => read_proof(text, *lengths),
+        Input::ReadModel { text, length, .. } => read_model(text, *length),
+        Input::WriteSchema { root, least, rows, row_count, length, .. } => {
+            written(*length, |out| entries::write_schema(&exact(rows), *row_count, *root, *least, out))
+        }
+        Input::WriteProof { proof: t, length, .. } => {
+            let [rows, nodes, members] = [&t.proof, &t.nodes, &t.members].map(|table| exact(table));
+            written(*length, |out| {
+                entries::write_proof(&rows, t.proof_count, &nodes, t.node_count, &members, t.member_count, out)
+            })
+        }
+        Input::WriteModel { n, pairs, pair_count, length, .. } => {
+            written(*length, |out| entries::write_model(*n, &exact(pairs), *pair_count, out))
+        }
+        Input::Line { named, schema, proof, number } => {
+            let text = if *named == Named::Schema { schema } else { proof };
+            Seen { span: entries::line(&exact(text), *number), ..Seen::default() }
+        }
+        Input::Texts { schema, proof } => Seen::number(check_texts(schema, proof)),
+        Input::LineNumbers { .. } | Input::Compare { .. } => return None,
+    })
+}
+
+/// The check program over the library: the schema's text first, then the proof's, then the check.
+pub fn check_texts(schema: &[u8], proof: &[u8]) -> u64 {
+    let s = read_schema(schema, 4096);
+    if s.answer() != 0 {
+        return s.packed;
+    }
+    let p = read_proof(proof, [4096, 9216, 8192]);
+    if p.answer() != 0 {
+        return p.packed;
+    }
+    let count = |number: i32| number as usize;
+    entries::check(
+        &s.tables[0],
+        count(s.results[2]),
+        &p.tables[0],
+        count(p.results[0]),
+        s.results[0],
+        s.results[1],
+        &p.tables[1],
+        count(p.results[1]),
+        &p.tables[2],
+        count(p.results[2]),
+    )
+}
+
+/// The same with a model text and the model check.
+pub fn check_model_texts(schema: &[u8], model: &[u8]) -> u64 {
+    let s = read_schema(schema, 4096);
+    if s.answer() != 0 {
+        return s.packed;
+    }
+    let m = read_model(model, 8192);
+    if m.answer() != 0 {
+        return m.packed;
+    }
+    let (rows, pairs) = (s.results[2] as usize, m.results[1] as usize);
+    entries::check_model(&s.tables[0], rows, s.results[0], s.results[1], m.results[0], &m.tables[0], pairs)
+}
+
+/// ((answer × 8192 + place + 1) × 8192 + nodes) × 8192 + links
+fn pack(answer: u8, place: i32, rest: usize) -> u64 {
+    ((u64::from(answer) * 8192 + (i64::from(place) + 1) as u64) << 26) + rest as u64
+}
+
+/// The other implementation on a case.
+pub fn of_reference(input: &Input) -> Seen {
+    let count = |count: usize| count as i32;
+    match run(input) {
+        Outcome::Verdict { packed, .. } => Seen::number(packed as u64),
+        Outcome::SchemaRead { read, rows } => Seen {
+            packed: pack(read.answer, read.place, 0),
+            results: vec![read.root, read.least, count(read.rows)],
+            tables: vec![rows],
+            ..Seen::default()
+        },
+        Outcome::ProofRead { read, rows, nodes, members } => Seen {
+            packed: pack(read.answer, read.place, 0),
+            results: [read.rows, read.nodes, read.members].map(count).to_vec(),
+            tables: vec![rows, nodes, members],
+            ..Seen::default()
+        },
+        Outcome::ModelRead { read, pairs } => Seen {
+            packed: pack(read.answer, read.place, 0),
+            results: vec![read.n, count(read.pairs)],
+            tables: vec![pairs],
+            ..Seen::default()
+        },
+        Outcome::Written { written, out } => {
+            Seen { packed: pack(written.answer, written.place, written.bytes), out, ..Seen::default() }
+        }
+        Outcome::Line { start, length } => Seen { span: [start, length], ..Seen::default() },
+        Outcome::LineNumbers { .. } | Outcome::Compared { .. } => Seen::default(),
+    }
+}

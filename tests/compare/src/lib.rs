@@ -1,0 +1,17 @@
+//! The proved library beside the other implementation, on the same inputs.
+//!
+//! * [`calls`]: one case put to both, and all that comes back compared
+//! * [`paper`]: the paper's record, its neighbours and its models, with the paper's answers
+//! * [`records`]: shipped records, with the answers in their `expected` files
+//! * [`edges`]: texts and tables at the limits of the paper
+//! * [`heavy`]: the largest and slowest inputs
+//! * [`soundness`]: accepted records evaluated
+//! * [`tally`]: what passed and failed, and how often each answer occurred
+
+pub mod calls;
+pub mod edges;
+pub mod heavy;
+pub mod paper;
+pub mod records;
+pub mod soundness;
+pub mod tally;

@@ -1,0 +1,171 @@
+#!/usr/bin/env bash
+# The programs, through ./zorambi check and ./zorambi model: on every record against its `expected` file and the other
+# implementation, and on files that are no texts at all against the other implementation.
+set -u
+cd "$(dirname "$0")/.." || exit 2
+here=$PWD
+other=$here/tests/reference/target/release/check
+work=$(mktemp -d) || exit 2
+trap 'rm -rf "$work"' EXIT
+passed=0
+failed=0
+
+# One run: what is printed, what is expected, and the exit status that goes with it.
+same() { # NAME EXPECTED PRINTED STATUS
+  local wanted=1
+  [ "$(tail -n 1 <<<"$2" | cut -d ' ' -f 1)" = 0 ] && wanted=0
+  if [ "$2" = "$3" ] && [ "$4" -eq "$wanted" ]; then
+    passed=$((passed + 1))
+  else
+    failed=$((failed + 1))
+    echo "$1: expected '${2//$'\n'/ / }', exit $wanted; got '${3//$'\n'/ / }', exit $4"
+  fi
+}
+
+check_record() { # FOLDER NAME
+  local out status
+  out=$(./zorambi check "$1" 2>"$work/err")
+  status=$?
+  same "check $2" "$(cd "$1" && "$other")" "$out" "$status"
+}
+
+check_model_record() { # FOLDER NAME
+  local out status
+  out=$(./zorambi model "$1" 2>"$work/err")
+  status=$?
+  same "model $2" "$(cd "$1" && "$other" schema.txt --model model.txt)" "$out" "$status"
+}
+
+# What is said on standard error after the last run.
+said() { # NAME TEXT
+  if grep -qF -- "$2" "$work/err"; then
+    passed=$((passed + 1))
+  else
+    failed=$((failed + 1))
+    echo "$1: '$2' is not said; what is: $(tr '\n' '|' <"$work/err")"
+  fi
+}
+
+record() { # FOLDER: 01's record
+  mkdir -p "$1"
+  printf 'root least\n4 1\nkind a b c\n2 0 2 0\n3 0 2 0\n7 0 2 0\n6 1 2 0\n4 2 3 0\n' >"$1/schema.txt"
+  printf 'kind a b c\n7 0 2 1\n2 0 1 0\n6 1 2 1\n3 0 1 0\nup rule on with other to by set\n-1 0 4 -1 -1 -1 0 4\n0 2 -1 -1 -1 -1 0 2 3\n1 7 2 -1 -1 -1 0 2 3\n1 3 3 7 8 -1 0 2 3\n3 4 2 5 6 -1 0 2 7 8\n4 8 -1 -1 -1 1 1 5 7\n4 6 6 8 -1 -1 0 6 8\n' >"$1/proof.txt"
+}
+
+# ---- the records, by their own word and by the other implementation's
+
+for r in records/accepted/* records/refused/*; do
+  out=$(./zorambi check "$r" 2>"$work/err")
+  status=$?
+  same "check $r" "answer place nodes links
+$(cat "$r/expected")" "$out" "$status"
+  check_record "$r" "$r"
+  if [ -f "$r/model.txt" ]; then
+    out=$(./zorambi model "$r" 2>"$work/err")
+    same "model $r" "answer place nodes links
+0 0 0 0" "$out" $?
+  fi
+done
+
+# ---- 01's record and its neighbours
+
+record "$work/r"
+out=$(./zorambi check "$work/r" 2>"$work/err")
+same "the record of 01" "answer place nodes links
+0 0 7 1" "$out" $?
+sed -i 's/^4 8 -1 -1 -1 1 1 5 7$/4 8 -1 -1 -1 1 2 5 7/' "$work/r/proof.txt"
+out=$(./zorambi check "$work/r" 2>"$work/err")
+same "node 5 by 2" "answer place nodes links
+14 5 0 0" "$out" $?
+said "node 5 by 2" "(14) at node 5"
+said "node 5 by 2" "proof.txt:12: 4 8 -1 -1 -1 1 2 5 7"
+record "$work/r"
+sed -i 's/^4 1$/4 0/' "$work/r/schema.txt"
+out=$(./zorambi check "$work/r" 2>"$work/err")
+same "least 0" "answer place nodes links
+14 3 0 0" "$out" $?
+record "$work/r"
+sed -i 's/^7 0 2 0$/7 9 2 0/' "$work/r/schema.txt"
+check_record "$work/r" "an ill-formed schema row"
+said "an ill-formed schema row" "schema.txt:6: 7 9 2 0"
+record "$work/r"
+sed -i 's/^6 1 2 1$/6 1 2 99999/' "$work/r/proof.txt"
+check_record "$work/r" "an ill-formed proof row"
+said "an ill-formed proof row" "proof.txt:4: 6 1 2 99999"
+record "$work/r"
+sed -i 's/^root/Root/' "$work/r/schema.txt"
+check_record "$work/r" "a heading"
+said "a heading" "schema.txt:1: Root least"
+
+# ---- models of 01: root 3
+
+record "$work/m"
+sed -i 's/^4 1$/3 1/' "$work/m/schema.txt"
+model() { printf "$1" >"$work/m/model.txt"; }
+expect_model() { # NAME NUMBERS
+  out=$(./zorambi model "$work/m" 2>"$work/err")
+  same "$1" "answer place nodes links
+$2" "$out" $?
+}
+model 'n\n1\nsymbol index\n'
+expect_model "root 3, n = 1" "0 0 0 0"
+model 'n\n0\nsymbol index\n'
+expect_model "root 3, n = 0" "19 -1 0 0"
+model 'n\n3\nsymbol index\n0 1\n'
+expect_model "root 3, n = 3, pair 0 1" "0 0 0 0"
+model 'n\n3\nsymbol index\n0 3\n'
+expect_model "root 3, n = 3, pair 0 3" "20 -1 0 0"
+model 'n\n3\nsymbol index\n0 3\n0 3\n'
+check_model_record "$work/m" "a pair twice"
+said "a pair twice" "model.txt:5: 0 3"
+
+# ---- files that are no texts
+
+spoil() { # NAME FILE: standard input in place of a file of 01's record
+  rm -rf "$work/b"
+  record "$work/b"
+  printf 'n\n3\nsymbol index\n0 1\n' >"$work/b/model.txt"
+  rm "$work/b/$2"
+  cat >"$work/b/$2"
+  if [ "$2" = model.txt ]; then
+    check_model_record "$work/b" "$1"
+  else
+    check_record "$work/b" "$1"
+  fi
+}
+for f in schema.txt proof.txt model.txt; do
+  spoil "empty $f" $f </dev/null
+  spoil "binary $f" $f < <(head -c 5000 target/bin/check_proof)
+  spoil "65,536 bytes in $f" $f < <(head -c 65536 /dev/zero | tr '\0' '7')
+  spoil "65,537 bytes in $f" $f < <(head -c 65537 /dev/zero | tr '\0' '7')
+  spoil "3,000,000 bytes in $f" $f < <(head -c 3000000 /dev/zero | tr '\0' '7')
+  spoil "NUL bytes in $f" $f < <(head -c 300 /dev/zero)
+done
+spoil "65,000 digits" schema.txt < <((printf 'root least\n'; head -c 65000 /dev/zero | tr '\0' '1'))
+spoil "CR LF in schema.txt" schema.txt < <(printf 'root least\r\n4 1\r\nkind a b c\r\n')
+spoil "no last byte 10" schema.txt < <(printf 'root least\n4 1\nkind a b c\n2 0 2 0')
+spoil "-0" schema.txt < <(printf 'root least\n4 -0\nkind a b c\n2 0 2 0\n')
+spoil "007" schema.txt < <(printf 'root least\n4 007\nkind a b c\n2 0 2 0\n')
+for f in schema.txt proof.txt; do
+  record "$work/g"
+  rm "$work/g/$f"
+  check_record "$work/g" "no $f"
+  mkdir "$work/g/$f"
+  check_record "$work/g" "a folder for $f"
+  rm -r "$work/g"
+done
+
+# ---- wrong use
+
+for words in "" "check" "check $work/none" "model" "check records records"; do
+  ./zorambi $words >/dev/null 2>&1
+  if [ $? -eq 2 ]; then
+    passed=$((passed + 1))
+  else
+    failed=$((failed + 1))
+    echo "./zorambi $words: wrong use is not told apart"
+  fi
+done
+
+echo "$passed passed, $failed failed"
+[ "$failed" -eq 0 ]

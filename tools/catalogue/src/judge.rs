@@ -1,0 +1,117 @@
+//! One record folder: its two texts read and checked.
+
+use std::fs::File;
+use std::io::Read;
+use std::path::Path;
+use zorambi::{check, read_proof, read_schema, Record, Refusal, Refused, Text, Verdict, MAX_TEXT};
+
+pub const SCHEMA: &str = "schema.txt";
+pub const PROOF: &str = "proof.txt";
+
+/// Bytes of a line that are shown.
+const SHOWN: usize = 100;
+
+/// A verdict, and the file and line that a refusal speaks of.
+pub struct Judged {
+    pub verdict: Verdict,
+    pub file: Option<&'static str>,
+    pub line: Option<usize>,
+    /// That line, as far as it is shown, other than printable bytes escaped.
+    pub text: String,
+}
+
+impl Judged {
+    fn new(verdict: Verdict, file: Option<&'static str>, line: Option<usize>, text: &[u8]) -> Judged {
+        Judged { verdict, file, line, text: line.map_or(String::new(), |number| shown(zorambi::line(text, number))) }
+    }
+
+    /// The four numbers of the check program: answer, place, nodes, links.
+    pub fn numbers(&self) -> [i64; 4] {
+        match self.verdict {
+            Verdict::Accepted { nodes, links } => [0, 0, nodes as i64, links as i64],
+            Verdict::Refused { refusal, place } => {
+                [i64::from(refusal.number()), place.map_or(-1, |place| place as i64), 0, 0]
+            }
+        }
+    }
+
+    pub fn refusal(&self) -> Option<Refusal> {
+        match self.verdict {
+            Verdict::Accepted { .. } => None,
+            Verdict::Refused { refusal, .. } => Some(refusal),
+        }
+    }
+
+    /// The verdict in one line.
+    pub fn words(&self) -> String {
+        let mut words = match self.verdict {
+            Verdict::Accepted { nodes, links } => {
+                let ending = |count: usize| if count == 1 { "" } else { "s" };
+                format!("accepted {nodes} node{} {links} link{}", ending(nodes), ending(links))
+            }
+            Verdict::Refused { refusal, place } => {
+                let at = refusal.place_counts().zip(place).map(|(counts, place)| format!(" at {counts} {place}"));
+                format!("refused {}{} ({refusal})", refusal.number(), at.unwrap_or_default())
+            }
+        };
+        if let Some(file) = self.file {
+            words += &format!(": {file}");
+        }
+        if let Some(line) = self.line {
+            words += &format!(":{line}");
+        }
+        if !self.text.is_empty() {
+            words += &format!(": {}", self.text);
+        }
+        words
+    }
+
+    pub fn accepted(&self) -> bool {
+        self.verdict.is_accepted()
+    }
+}
+
+fn shown(line: &[u8]) -> String {
+    let cut = if line.len() > SHOWN { "..." } else { "" };
+    format!("{}{cut}", line[..line.len().min(SHOWN)].escape_ascii())
+}
+
+/// A file's bytes, one more than a text may have at most. A file that cannot be read counts as empty.
+fn text(path: &Path) -> Vec<u8> {
+    let mut bytes = Vec::new();
+    let read = File::open(path).and_then(|file| file.take(MAX_TEXT as u64 + 1).read_to_end(&mut bytes));
+    if read.is_ok() {
+        bytes
+    } else {
+        Vec::new()
+    }
+}
+
+/// A text refused in reading: its place is a line, from 1 on.
+fn unread(refused: Refused, file: &'static str, text: &[u8]) -> Judged {
+    Judged::new(refused.into(), Some(file), refused.place.filter(|place| *place > 0), text)
+}
+
+/// Reads the schema's text, then the proof's, and checks the record.
+pub fn judge(folder: &Path) -> Judged {
+    let [schema_text, proof_text] = [SCHEMA, PROOF].map(|name| text(&folder.join(name)));
+    let schema = match read_schema(&schema_text) {
+        Ok(schema) => schema,
+        Err(refused) => return unread(refused, SCHEMA, &schema_text),
+    };
+    let proof = match read_proof(&proof_text) {
+        Ok(proof) => proof,
+        Err(refused) => return unread(refused, PROOF, &proof_text),
+    };
+    let record = Record { schema, proof };
+    let verdict = check(&record);
+    let located = match verdict {
+        Verdict::Accepted { .. } => None,
+        Verdict::Refused { refusal, place } => record.line_of(refusal, place),
+    };
+    match located {
+        None => Judged::new(verdict, None, None, &[]),
+        Some((Text::Schema, line)) => Judged::new(verdict, Some(SCHEMA), Some(line), &schema_text),
+        Some((Text::Proof, line)) => Judged::new(verdict, Some(PROOF), Some(line), &proof_text),
+    }
+}
