@@ -22,9 +22,9 @@ fn same_as(schema: &[i32], s: usize, proof: &[i32], q: usize, l: usize, t: &[i32
     ensures { λ v. ⌜ v ≡ eqZ (getD (now (t .entry)) i (pos 0)) (column (joined (now (schema .entry)) s (now (proof .entry)) q) l) ⌝ }
 {
     if q < s {
-        number::same_at(t, i, schema, 4 * q + l)
+        signed::same_at(t, i, schema, 4 * q + l)
     } else {
-        number::same_at(t, i, proof, 4 * (q - s) + l)
+        signed::same_at(t, i, proof, 4 * (q - s) + l)
     }
 }
 
@@ -220,8 +220,8 @@ pub fn is_lowered(
         s,
         proof,
         1,
-        number::natural(k),
-        number::under(k),
+        signed::natural(k),
+        signed::under(k),
         z,
         x,
         seen,

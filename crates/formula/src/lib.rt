@@ -14,9 +14,9 @@ pub fn natural_in(schema: &[i32], s: usize, proof: &[i32], r: usize, k: usize) -
     ensures { λ v. ⌜ v ≡ nat (column (joined (now (schema .entry)) s (now (proof .entry)) r) k) ⌝ }
 {
     if r < s {
-        number::natural_at(schema, 4 * r + k)
+        signed::natural_at(schema, 4 * r + k)
     } else {
-        number::natural_at(proof, 4 * (r - s) + k)
+        signed::natural_at(proof, 4 * (r - s) + k)
     }
 }
 
@@ -26,9 +26,9 @@ pub fn under_in(schema: &[i32], s: usize, proof: &[i32], r: usize, k: usize) -> 
     ensures { λ v. ⌜ v ≡ nat (negℤ (column (joined (now (schema .entry)) s (now (proof .entry)) r) k)) ⌝ }
 {
     if r < s {
-        number::under_at(schema, 4 * r + k)
+        signed::under_at(schema, 4 * r + k)
     } else {
-        number::under_at(proof, 4 * (r - s) + k)
+        signed::under_at(proof, 4 * (r - s) + k)
     }
 }
 
@@ -38,8 +38,8 @@ pub fn is_in(schema: &[i32], s: usize, proof: &[i32], r: usize, k: usize, z: i32
     ensures { λ v. ⌜ v ≡ eqZ (column (joined (now (schema .entry)) s (now (proof .entry)) r) k) z ⌝ }
 {
     if r < s {
-        number::is_at(schema, 4 * r + k, z)
+        signed::is_at(schema, 4 * r + k, z)
     } else {
-        number::is_at(proof, 4 * (r - s) + k, z)
+        signed::is_at(proof, 4 * (r - s) + k, z)
     }
 }

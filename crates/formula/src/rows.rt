@@ -325,10 +325,10 @@ pub fn each(schema: &[i32], s: usize, proof: &[i32], n: usize, facts: &mut [u32]
 fn below(m: usize, z: i32) -> bool
     ensures { λ v. ⌜ v ≡ below m z ⌝ }
 {
-    if 0 < number::under(z) {
+    if 0 < signed::under(z) {
         return false;
     }
-    number::natural(z) < m
+    signed::natural(z) < m
 }
 
 // The root is one of s schema rows, and the least value is 0..9999.
@@ -366,7 +366,7 @@ pub fn formulas(
     let Finding::Nothing = found else {
         return found;
     };
-    let f = known(facts, number::natural(root));
+    let f = known(facts, signed::natural(root));
     if f.loose == 0 {
         return Finding::Nothing;
     }

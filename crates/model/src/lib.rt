@@ -35,7 +35,7 @@ fn moved(x: usize, t: &[i32], i: usize) -> usize
     requires { ⌜ Movable x (getD (now t) i (pos 0)) ⌝ }
     ensures { λ r. ⌜ unbiased r ≡ (unbiased x +ℤ getD (now (t .entry)) i (pos 0)) ⌝ }
 {
-    x + number::natural_at(t, i) - number::under_at(t, i)
+    x + signed::natural_at(t, i) - signed::under_at(t, i)
 }
 
 // The key of pair k.
@@ -43,7 +43,7 @@ fn key_at(pairs: &[i32], k: usize) -> usize
     requires { ⌜ (k < 2 ^ 32) × (pairInRange (now pairs) k ≡ true) ⌝ }
     ensures { λ r. ⌜ r ≡ keyAt (now (pairs .entry)) k ⌝ }
 {
-    number::natural_at(pairs, 2 * k) * 131072 + moved(65536, pairs, 2 * k + 1)
+    signed::natural_at(pairs, 2 * k) * 131072 + moved(65536, pairs, 2 * k + 1)
 }
 
 // How many of the first pairs have a smaller key. They stand before the others.
@@ -88,8 +88,8 @@ fn listed_word(pairs: &[i32], count: usize, symbol: usize, x: usize, width: usiz
 fn within_at(t: &[i32], i: usize, low: usize, high: usize) -> bool
     ensures { λ r. ⌜ r ≡ within (negℤ (pos low)) (pos high) (getD (now (t .entry)) i (pos 0)) ⌝ }
 {
-    if number::under_at(t, i) <= low {
-        return number::natural_at(t, i) <= high;
+    if signed::under_at(t, i) <= low {
+        return signed::natural_at(t, i) <= high;
     }
     false
 }
@@ -196,10 +196,10 @@ fn base_of(schema: &[i32], f: usize, n: usize, i: usize) -> usize
     requires { ⌜ (f < 1024) × (n ≤ 9999) × Reached i ⌝ }
     ensures { λ r. ⌜ Reached r × (unbiased r ≡ base n (unbiased i) (baseOf (rowAt (now (schema .entry)) f .b))) ⌝ }
 {
-    if number::is_at(schema, 4 * f + 2, 0) {
+    if signed::is_at(schema, 4 * f + 2, 0) {
         return 65536;
     }
-    if number::is_at(schema, 4 * f + 2, 1) {
+    if signed::is_at(schema, 4 * f + 2, 1) {
         return 65536 + n;
     }
     i
@@ -219,8 +219,8 @@ fn symbol_word(
     ensures { λ r. ⌜ r ≡ wordAt (symbolValue (listed (now (pairs .entry)) count) n (rowAt (now (schema .entry)) f)) i width ⌝ }
 {
     let x = moved(base_of(schema, f, n, i), schema, 4 * f + 3);
-    let symbol = number::natural_at(schema, 4 * f + 1);
-    if number::natural_at(schema, 4 * f + 2) < 2 {
+    let symbol = signed::natural_at(schema, 4 * f + 1);
+    if signed::natural_at(schema, 4 * f + 2) < 2 {
         return same(listed_word(pairs, count, symbol, x, 1) == 1, width);
     }
     listed_word(pairs, count, symbol, x, width)
@@ -240,7 +240,7 @@ fn literal_value(
     ensures { λ r. ⌜ r ≡ wordAt (value (listed (now (pairs .entry)) count) n (tree (rowAt (now (schema .entry))) f)) i width ⌝ }
 {
     let w = symbol_word(schema, f, n, i, width, pairs, count);
-    if number::natural_at(schema, 4 * f) == 2 {
+    if signed::natural_at(schema, 4 * f) == 2 {
         return w;
     }
     ones(width) - w
@@ -251,8 +251,8 @@ fn range_size(schema: &[i32], f: usize, n: usize) -> usize
     requires { ⌜ (f < 1024) × (n ≤ 9999) × Iterates (now schema) f ⌝ }
     ensures { λ r. ⌜ r ≡ rangeSize (rowAt (now (schema .entry)) f .b) (pos n -ℤ rowAt (now (schema .entry)) f .c) ⌝ }
 {
-    let up = n + 1 + number::under_at(schema, 4 * f + 2) + number::under_at(schema, 4 * f + 3);
-    let down = number::natural_at(schema, 4 * f + 2) + number::natural_at(schema, 4 * f + 3);
+    let up = n + 1 + signed::under_at(schema, 4 * f + 2) + signed::under_at(schema, 4 * f + 3);
+    let down = signed::natural_at(schema, 4 * f + 2) + signed::natural_at(schema, 4 * f + 3);
     if up < down { 0 } else { up - down }
 }
 
@@ -269,14 +269,14 @@ fn formula_value(
     requires { ⌜ Readable (now schema) f n (now pairs) count × ReachedWord i width ⌝ }
     ensures { λ r. ⌜ r ≡ wordAt (value (listed (now (pairs .entry)) count) n (tree (rowAt (now (schema .entry))) f)) i width ⌝ }
 {
-    let kind = number::natural_at(schema, 4 * f);
+    let kind = signed::natural_at(schema, 4 * f);
     if kind < 2 {
         return same(kind == 0, width);
     }
     if kind < 4 {
         return literal_value(schema, f, n, i, width, pairs, count);
     }
-    let a = number::natural_at(schema, 4 * f + 1);
+    let a = signed::natural_at(schema, 4 * f + 1);
     if 6 <= kind {
         let first = moved(65536, schema, 4 * f + 2);
         let left = range_size(schema, f, n);
@@ -288,7 +288,7 @@ fn formula_value(
     if settled(any, v, width) {
         return v;
     }
-    let b = number::natural_at(schema, 4 * f + 2);
+    let b = signed::natural_at(schema, 4 * f + 2);
     joined(any, v, formula_value(schema, b, n, i, width, pairs, count))
 }
 
@@ -347,10 +347,10 @@ fn whole(why: Refusal) -> Finding
 fn tables_pass(schema: &[i32], schema_rows: usize, pairs: &[i32], pair_rows: usize) -> Finding
     ensures { λ r. ⌜ finding r ≡ tablesRefusal (now (schema .entry)) «schema_rows» (now (pairs .entry)) «pair_rows» ⌝ }
 {
-    if !number::holds(schema, 4, schema_rows) {
+    if !signed::holds(schema, 4, schema_rows) {
         return whole(Refusal::TableTooShort);
     }
-    if !number::holds(pairs, 2, pair_rows) {
+    if !signed::holds(pairs, 2, pair_rows) {
         return whole(Refusal::TableTooShort);
     }
     if 1024 < schema_rows {
@@ -385,8 +385,8 @@ fn formulas_pass(schema: &[i32], schema_rows: usize, root: i32, least: i32) -> F
 fn width_fits(least: i32, n: i32) -> bool
     ensures { λ r. ⌜ r ≡ (leZ least n and leZ n (pos 9999)) ⌝ }
 {
-    if number::natural(least) + number::under(n) <= number::natural(n) + number::under(least) {
-        return number::natural(n) <= 9999;
+    if signed::natural(least) + signed::under(n) <= signed::natural(n) + signed::under(least) {
+        return signed::natural(n) <= 9999;
     }
     false
 }
@@ -406,8 +406,8 @@ fn truth_pass(
     if !width_fits(least, n) {
         return whole(Refusal::Width);
     }
-    let f = number::natural(root);
-    let m = number::natural(n);
+    let f = signed::natural(root);
+    let m = signed::natural(n);
     if formula_value(schema, f, m, 65536, 1, pairs, pair_rows) != 1 {
         return whole(Refusal::False);
     }

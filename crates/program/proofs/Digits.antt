@@ -17,7 +17,7 @@ use Rattle.stab.specs.declared.ModelRead.the-variants.{Model}
 use Rattle.stab.proofs.Bools.{and-left, and-right}
 use Rattle.stab.proofs.Texts.Kinds.{schema-lines-are, model-lines-are}
 use Rattle.stab.proofs.Texts.Outcomes.{passed}
-use Rattle.number.proofs.Signs.{read-back}
+use Rattle.signed.proofs.Signs.{read-back}
 
 digits-back : (z : ℤ) → fiveDigits z ≡ true → toZ w32 (ofZ w32 z) ≡ z
 unfolding fiveDigits

@@ -21,8 +21,8 @@ use Rattle.stab.proofs.Scans.{below-suc}
 use Rattle.stab.proofs.Trees.{below-nat}
 use Rattle.stab.proofs.Whole.{atom, num, le-of, of-le, nat-pos}
 use Rattle.formula.specs.Facts.{bit, AllFormed}
-use Rattle.nodes.specs.Lent.{bounded, boundBy, FieldsKnown}
-use Rattle.nodes.specs.Work.{Worked}
+use Rattle.branch.specs.Lent.{bounded, boundBy, FieldsKnown}
+use Rattle.branch.specs.Work.{Worked}
 use Rattle.steps.proofs.FieldParts.{named}
 
 -- ---- the bound that is kept

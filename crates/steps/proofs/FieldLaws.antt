@@ -10,9 +10,9 @@ use Rattle.stab.specs.Formula.{Row}
 use Rattle.stab.specs.Rule.{unused}
 use Rattle.stab.proofs.Bools.{and-left, and-first-false, if-true, if-false}
 use Rattle.stab.proofs.Trees.{below-pos}
-use Rattle.nodes.specs.Lent.{fitsKind}
+use Rattle.branch.specs.Lent.{fitsKind}
 use Rattle.steps.proofs.Answers.{and-first-true}
-use Rattle.nodes.proofs.Parts.{at-least-0, below-0, natural-less}
+use Rattle.branch.proofs.Parts.{at-least-0, below-0, natural-less}
 
 -- ---- kinds
 

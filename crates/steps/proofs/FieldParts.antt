@@ -12,8 +12,8 @@ use Rattle.stab.specs.declared.Rule.{Rule}
 use Rattle.stab.proofs.Bools.{and-left, and-right}
 use Rattle.stab.proofs.Trees.{below-pos}
 use Rattle.stab.proofs.Whole.{eqZ-true}
-use Rattle.nodes.specs.Lent.{lent, fitsKind, otherFits, linkFits, rowsFit, restFits, FieldsKnown}
-use Rattle.nodes.specs.declared.counts.Counts.{Counts}
+use Rattle.branch.specs.Lent.{lent, fitsKind, otherFits, linkFits, rowsFit, restFits, FieldsKnown}
+use Rattle.branch.specs.declared.counts.Counts.{Counts}
 use Rattle.steps.proofs.Answers.{first-fails, second-fails, second-decides, third-decides, implies-made, implies-spared}
 
 regroup : (a b c d e f g : Bool) → (a and b and c and d and e and f and g) ≡ (a and (b and c and d) and (e and f) and g)

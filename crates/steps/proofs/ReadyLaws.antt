@@ -17,16 +17,16 @@ use Rattle.stab.specs.Rule.{ofRule, fieldsFit, targetFits}
 use Rattle.stab.proofs.Bools.{and-left, and-right, and-both, or-false, implies-use, decide}
 use Rattle.stab.proofs.Trees.{below-nat, below-pos}
 use Rattle.stab.proofs.Whole.{eqZ-not}
-use Rattle.nodes.specs.Lent.{SetHeld, SetOfRows, ChildKnown, FieldsKnown}
-use Rattle.nodes.specs.Parents.{upFits, AllUpFit}
+use Rattle.branch.specs.Lent.{SetHeld, SetOfRows, ChildKnown, FieldsKnown}
+use Rattle.branch.specs.Parents.{upFits, AllUpFit}
 use Rattle.steps.specs.Ready.{Ready}
-use Rattle.nodes.specs.Sets.{placeFits}
-use Rattle.nodes.proofs.AboveLaws.{above-none}
+use Rattle.branch.specs.Sets.{placeFits}
+use Rattle.branch.proofs.AboveLaws.{above-none}
 use Rattle.steps.proofs.HeldLaws.{set-length}
-use Rattle.nodes.proofs.ParentLaws.{later-up, parent-less}
-use Rattle.nodes.proofs.Parts.{natural-of, is-natural, below-0}
-use Rattle.nodes.proofs.SetLaws.{at-all, place-start, place-next, place-within}
-use Rattle.nodes.proofs.SetRefusals.{outer-below}
+use Rattle.branch.proofs.ParentLaws.{later-up, parent-less}
+use Rattle.branch.proofs.Parts.{natural-of, is-natural, below-0}
+use Rattle.branch.proofs.SetLaws.{at-all, place-start, place-next, place-within}
+use Rattle.branch.proofs.SetRefusals.{outer-below}
 
 -- ---- sets
 

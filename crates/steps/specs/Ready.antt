@@ -8,7 +8,7 @@ use lib.ListN.{length}
 use Rattle.stab.specs.Basic.{within}
 use Rattle.stab.specs.Node.{Tableau, rows, rowCount, setFits, parentFits}
 use Rattle.formula.specs.Facts.{AllKnown, AllFormed}
-use Rattle.nodes.specs.Work.{AllWorked}
+use Rattle.branch.specs.Work.{AllWorked}
 
 pub record Ready (T : Tableau) (facts work : List ℕ) : Type 0 where
   pub rowLimit : rowCount T ≤ 1024

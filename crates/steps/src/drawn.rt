@@ -1,9 +1,9 @@
 // What a child's set is drawn from: refusal 11.
 use crate::fields;
-use nodes::counts::Counts;
-use nodes::kept;
-use nodes::member;
-use nodes::node;
+use branch::counts::Counts;
+use branch::kept;
+use branch::member;
+use branch::node;
 ghost use mathlib.Core.Path.{_≡_};
 ghost use mathlib.Core.List.{[], _∷_};
 ghost use Prim.Native.Nat.{_<_, _^_};
@@ -14,8 +14,8 @@ ghost use Rattle.stab.specs.Node as N;
 ghost use Rattle.stab.specs.Node.{nodeAt, set};
 ghost use Rattle.stab.specs.Rule.{oneOf, given, drawnFrom};
 ghost use Rattle.formula.specs.Column.{column};
-ghost use Rattle.nodes.specs.NodeColumn.{nodeColumn};
-ghost use Rattle.nodes.specs.Lent.{lent, SetHeld, ChildKnown};
+ghost use Rattle.branch.specs.NodeColumn.{nodeColumn};
+ghost use Rattle.branch.specs.Lent.{lent, SetHeld, ChildKnown};
 
 // Column k of row r is z.
 fn part_is(schema: &[i32], s: usize, proof: &[i32], r: usize, k: usize, z: usize) -> bool
@@ -155,7 +155,7 @@ pub fn is_drawn(
     let size = node::natural_of(nodes, j, fields::SIZE);
     let mut i: usize = 0;
     while i < size {
-        let z = number::natural_at(members, start + i);
+        let z = signed::natural_at(members, start + i);
         if !may_stand(schema, proof, nodes, members, t, p, rank, z) {
             return false;
         }

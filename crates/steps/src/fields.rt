@@ -1,8 +1,8 @@
 // A node's fields against the rule table: refusal 12.
 use crate::rules;
-use nodes::counts::Counts;
-use nodes::member;
-use nodes::node;
+use branch::counts::Counts;
+use branch::member;
+use branch::node;
 use stab::Rule;
 ghost use mathlib.Core.Path.{_≡_};
 ghost use mathlib.Core.Bool.{true, false};
@@ -12,8 +12,8 @@ ghost use Rattle.stab.specs.Basic.{_or_, eqZ, nat, below, has};
 ghost use Rattle.stab.specs.Formula.{joined};
 ghost use Rattle.stab.specs.Node.{nodeAt, setOf};
 ghost use Rattle.stab.specs.Rule.{unused, symbolFits, fieldsFit};
-ghost use Rattle.nodes.specs.NodeColumn.{nodeColumn};
-ghost use Rattle.nodes.specs.Lent.{lent, SetHeld, fitsKind, otherFits, linkFits, rowsFit, restFits};
+ghost use Rattle.branch.specs.NodeColumn.{nodeColumn};
+ghost use Rattle.branch.specs.Lent.{lent, SetHeld, fitsKind, otherFits, linkFits, rowsFit, restFits};
 
 // The numbers of a node, by their place.
 pub const UP: usize = 0;
@@ -39,7 +39,7 @@ pub fn small_of(nodes: &[i32], j: usize, k: usize) -> usize
     requires { ⌜ (j < 2 ^ 32) × (k < 9) ⌝ }
     ensures { λ v. ⌜ (v ≡ nat (nodeColumn (nodeAt (now (nodes .entry)) j) k)) × (v < 2 ^ 32) ⌝ }
 {
-    number::small_at(nodes, 9 * j + k)
+    signed::small_at(nodes, 9 * j + k)
 }
 
 // Number k of node j is one of 0 .. n - 1.
@@ -79,7 +79,7 @@ fn kind_fits(
     requires { ⌜ t .schema + t .proof ≤ 1024 ⌝ }
     ensures { λ r. ⌜ r ≡ fitsKind (joined (now (schema .entry)) (t .schema) (now (proof .entry))) (t .schema + t .proof) need (nodeColumn (nodeAt (now (nodes .entry)) j) k) ⌝ }
 {
-    if number::equal(need, -1) {
+    if signed::equal(need, -1) {
         return node::is_of(nodes, j, k, -1);
     }
     if !is_below(nodes, j, k, t.schema + t.proof) {
@@ -96,7 +96,7 @@ fn on_stands(nodes: &[i32], members: &[i32], j: usize, need: i32) -> bool
     requires { ⌜ (eqZ need unused ≡ false → pos (nat (nodeAt (now nodes) j .on)) ≡ nodeAt (now nodes) j .on) ⌝ }
     ensures { λ r. ⌜ r ≡ (eqZ need unused or has (nodeAt (now (nodes .entry)) j .on) (setOf (now (members .entry)) (nodeAt (now (nodes .entry)) j))) ⌝ }
 {
-    if number::equal(need, -1) {
+    if signed::equal(need, -1) {
         return true;
     }
     in_set(nodes, members, j, ON)

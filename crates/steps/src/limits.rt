@@ -1,9 +1,9 @@
 // A node's bound against its rule, and the index of a clash: refusal 14.
 // A sum of table numbers is compared by natural parts: what lies below 0 goes to the other side.
 use crate::fields;
-use nodes::counts::Counts;
-use nodes::kept;
-use nodes::node;
+use branch::counts::Counts;
+use branch::kept;
+use branch::node;
 ghost use mathlib.Core.Path.{_≡_};
 ghost use mathlib.Core.Bool.{Bool, true};
 ghost use mathlib.Core.List.{[]};
@@ -18,8 +18,8 @@ ghost use Rattle.stab.specs.Meaning.{base};
 ghost use Rattle.stab.specs.Node.{nodeAt};
 ghost use Rattle.stab.specs.Rule.{ofRule, splitFits, indexAt, clashFits, voidFits, loopFits, boundFits};
 ghost use Rattle.formula.specs.Facts.{AllFormed};
-ghost use Rattle.nodes.specs.Work.{AllWorked};
-ghost use Rattle.nodes.specs.Lent.{lent, bounded, boundBy, FieldsKnown};
+ghost use Rattle.branch.specs.Work.{AllWorked};
+ghost use Rattle.branch.specs.Lent.{lent, bounded, boundBy, FieldsKnown};
 
 // Rule 2: open, L at most 9998.
 fn split_fits(exact: bool, l: usize) -> bool

@@ -1,8 +1,8 @@
 // The lowered rows of a link: refusal 16.
 use crate::fields;
-use nodes::counts::Counts;
-use nodes::kept;
-use nodes::node;
+use branch::counts::Counts;
+use branch::kept;
+use branch::node;
 ghost use mathlib.Core.Path.{_≡_};
 ghost use Prim.Native.Nat.{_+_, _<_, _≤_, _^_};
 ghost use lib.IntN.{pos};
@@ -13,7 +13,7 @@ ghost use Rattle.stab.specs.Node.{set};
 ghost use Rattle.stab.specs.Rule.{hasLowered};
 ghost use Rattle.formula.specs.Facts.{AllKnown, AllFormed};
 ghost use Rattle.alike.specs.Memo.{Remembers};
-ghost use Rattle.nodes.specs.Lent.{lent, SetOfRows};
+ghost use Rattle.branch.specs.Lent.{lent, SetOfRows};
 
 // Row x is row z lowered by k. Lowering keeps the size, so rows of different sizes are told apart at once.
 fn is_partner(
@@ -64,7 +64,7 @@ fn has_partner(
     let size = node::natural_of(nodes, j, fields::SIZE);
     let mut i: usize = 0;
     while i < size {
-        let x = number::natural_at(members, start + i);
+        let x = signed::natural_at(members, start + i);
         if is_partner(schema, proof, facts, t, k, z, x, seen) {
             return true;
         }
@@ -97,7 +97,7 @@ pub fn all_lowered(
     let mut seen = [0u32; 1024];
     let mut i: usize = 0;
     while i < size {
-        let z = number::natural_at(members, start + i);
+        let z = signed::natural_at(members, start + i);
         if !has_partner(schema, proof, nodes, members, facts, t, j, k, z, &mut seen) {
             return false;
         }

@@ -1,7 +1,7 @@
 // `with` and `other` of an unfolding: refusal 15.
 use crate::fields;
-use nodes::counts::Counts;
-use nodes::node;
+use branch::counts::Counts;
+use branch::node;
 ghost use mathlib.Core.Path.{_≡_};
 ghost use mathlib.Core.Bool.{true};
 ghost use mathlib.Core.List.{[]};
@@ -12,7 +12,7 @@ ghost use Rattle.stab.specs.Formula.{joined, offset};
 ghost use Rattle.stab.specs.Node.{nodeAt};
 ghost use Rattle.stab.specs.Rule.{ofRule, shortened, partnersFit};
 ghost use Rattle.formula.specs.Facts.{AllFormed};
-ghost use Rattle.nodes.specs.Lent.{lent, FieldsKnown};
+ghost use Rattle.branch.specs.Lent.{lent, FieldsKnown};
 
 // Node j unfolds an iteration.
 fn unfolds(nodes: &[i32], j: usize) -> bool

@@ -5,10 +5,10 @@ use crate::limits;
 use crate::lowered;
 use crate::partners;
 use crate::rules;
-use nodes::above;
-use nodes::counts::Counts;
-use nodes::kept;
-use nodes::node;
+use branch::above;
+use branch::counts::Counts;
+use branch::kept;
+use branch::node;
 use stab::Finding;
 use stab::Place;
 use stab::Refusal;
@@ -23,8 +23,8 @@ ghost use Rattle.stab.specs.Node.{nodeAt, isAncestor};
 ghost use Rattle.stab.specs.Rule.{ruleOf, ofRule, drawn, loweredFits};
 ghost use Rattle.stab.specs.Check.{finding, stepRefusal, nodeRefusal};
 ghost use Rattle.formula.specs.Facts.{AllKnown, AllFormed};
-ghost use Rattle.nodes.specs.Lent.{lent, SetOfRows, ChildKnown};
-ghost use Rattle.nodes.specs.Parents.{AllUpFit};
+ghost use Rattle.branch.specs.Lent.{lent, SetOfRows, ChildKnown};
+ghost use Rattle.branch.specs.Parents.{AllUpFit};
 ghost use Rattle.steps.specs.Ready.{Ready};
 
 // 11: the set of node j is drawn from its parent's. Node 0 has none.
@@ -82,7 +82,7 @@ fn lowered_fits(
         return true;
     }
     let to = node::natural_of(nodes, j, fields::TO);
-    let by = number::at(nodes, 9 * j + fields::BY);
+    let by = signed::at(nodes, 9 * j + fields::BY);
     lowered::all_lowered(schema, proof, nodes, members, facts, t, j, to, by)
 }
 

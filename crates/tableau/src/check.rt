@@ -1,5 +1,5 @@
 // The check of a whole record.
-use nodes::counts::Counts;
+use branch::counts::Counts;
 use stab::Finding;
 use stab::Place;
 use stab::Refusal;
@@ -16,7 +16,7 @@ ghost use Rattle.stab.specs.Check.{check as checked};
 ghost use Rattle.stab.specs.Refuted.{Refuted};
 ghost use Rattle.stab.specs.declared.Verdict.the-variants.{Accepted};
 ghost use Rattle.formula.specs.Facts.{AllKnown};
-ghost use Rattle.nodes.specs.Work.{tableau};
+ghost use Rattle.branch.specs.Work.{tableau};
 ghost use Rattle.steps.specs.Ready.{Ready};
 ghost use Rattle.tableau.specs.Passes.{rowsRefusal, nodesRefusal};
 
@@ -33,16 +33,16 @@ fn hold(
 ) -> bool
     ensures { λ r. ⌜ r ≡ (holds (now (schema .entry)) 4 s and holds (now (proof .entry)) 4 p and holds (now (nodes .entry)) 9 k and holds (now (members .entry)) 1 m) ⌝ }
 {
-    if !number::holds(schema, 4, s) {
+    if !signed::holds(schema, 4, s) {
         return false;
     }
-    if !number::holds(proof, 4, p) {
+    if !signed::holds(proof, 4, p) {
         return false;
     }
-    if !number::holds(nodes, 9, k) {
+    if !signed::holds(nodes, 9, k) {
         return false;
     }
-    number::holds(members, 1, m)
+    signed::holds(members, 1, m)
 }
 
 // The counts are within the limits.
@@ -79,7 +79,7 @@ fn nodes_pass(
     requires { ⌜ AllKnown (joined (now schema) s (now proof)) (now facts) (s + p) ⌝ }
     ensures { λ r. ⌜ finding r ≡ nodesRefusal (tableau (now (schema .entry)) s (now (proof .entry)) p root least (now (nodes .entry)) k (now (members .entry)) m) ⌝ }
 {
-    let found = nodes::sets::sets(facts, s + p, nodes, k, members, m);
+    let found = branch::sets::sets(facts, s + p, nodes, k, members, m);
     let Finding::Nothing = found else {
         return found;
     };
@@ -89,7 +89,7 @@ fn nodes_pass(
             place: Place::Whole,
         };
     }
-    nodes::parents::parents(nodes, k, members, root)
+    branch::parents::parents(nodes, k, members, root)
 }
 
 // Refusals 6 to 10. Where nothing is found, all is ready for single steps to be judged.
@@ -131,7 +131,7 @@ fn ready(
     let Finding::Nothing = found else {
         return found;
     };
-    nodes::bounds::work_out(nodes, k, least, work);
+    branch::bounds::work_out(nodes, k, least, work);
     Finding::Nothing
 }
 
@@ -224,7 +224,7 @@ pub fn check(
         Finding::Found { why, place } => Verdict::Refused { why, place },
         Finding::Nothing => Verdict::Accepted {
             nodes: node_rows,
-            links: nodes::links::links(nodes, node_rows),
+            links: branch::links::links(nodes, node_rows),
         },
     }
 }

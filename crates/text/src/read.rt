@@ -44,8 +44,8 @@ fn schema_text(text: &[u8], table: &mut [i32]) -> SchemaRead
 {
     match rows::opening(text, table, 4096, &heading::SCHEMA, 2) {
         Opened::After(next) => {
-            let root = number::at(table, 0);
-            let least = number::at(table, 1);
+            let root = signed::at(table, 0);
+            let least = signed::at(table, 1);
             schema_rows(text, next, table, root, least)
         }
         Opened::Stopped(why, k) => SchemaRead::Refused {
@@ -97,7 +97,7 @@ fn model_text(text: &[u8], table: &mut [i32]) -> ModelRead
 {
     match rows::opening(text, table, 8192, &heading::MODEL, 1) {
         Opened::After(next) => {
-            let n = number::at(table, 0);
+            let n = signed::at(table, 0);
             model_rows(text, next, table, n)
         }
         Opened::Stopped(why, k) => ModelRead::Refused {

@@ -45,16 +45,16 @@ fn put_digits(out: &mut [u8], v: usize) -> usize
 pub fn fits(z: i32) -> bool
     ensures { λ r. ⌜ r ≡ fiveDigits z ⌝ }
 {
-    number::natural(z) <= 99999 && number::under(z) <= 99999
+    signed::natural(z) <= 99999 && signed::under(z) <= 99999
 }
 
 // How many bytes it takes.
 pub fn width(z: i32) -> usize
     ensures { λ r. ⌜ r ≡ length (decimal z) ⌝ }
 {
-    let below = number::under(z);
+    let below = signed::under(z);
     if below == 0 {
-        return digit_count(number::natural(z));
+        return digit_count(signed::natural(z));
     }
     1 + digit_count(below)
 }
@@ -64,9 +64,9 @@ pub fn put_number(out: &mut [u8], z: i32) -> usize
     requires { ⌜ (fiveDigits z ≡ true) × (length (decimal z) ≤ length (now out)) ⌝ }
     ensures { λ r. ⌜ (r ≡ length (decimal z)) × (now (out .exit) ≡ over (decimal z) (now (out .entry))) ⌝ }
 {
-    let below = number::under(z);
+    let below = signed::under(z);
     if below == 0 {
-        return put_digits(out, number::natural(z));
+        return put_digits(out, signed::natural(z));
     }
     out[0] = b'-';
     1 + put_digits(&mut out[1..], below)

@@ -144,7 +144,7 @@ fn put_nodes(out: &mut [u8], nodes: &[i32], count: usize, members: &[i32]) -> us
     while j < count {
         let from = 9 * j;
         let to = from + 7;
-        let end = start + number::natural_at(nodes, from + 8);
+        let end = start + signed::natural_at(nodes, from + 8);
         at += put_node(&mut out[at..], &nodes[from..to], &members[start..end]);
         start = end;
         j += 1;
@@ -220,13 +220,13 @@ fn node_follows(nodes: &[i32], j: usize, start: usize) -> bool
 {
     let from = 9 * j;
     let to = from + 7;
-    if number::under_at(nodes, to) != 0 {
+    if signed::under_at(nodes, to) != 0 {
         return false;
     }
-    if number::natural_at(nodes, to) != start {
+    if signed::natural_at(nodes, to) != start {
         return false;
     }
-    if number::under_at(nodes, to + 1) != 0 {
+    if signed::under_at(nodes, to + 1) != 0 {
         return false;
     }
     writable(&nodes[from..to])
@@ -243,7 +243,7 @@ fn nodes_follow(nodes: &[i32], count: usize, m: usize) -> bool
         if !node_follows(nodes, j, start) {
             return false;
         }
-        start += number::natural(nodes[9 * j + 8]);
+        start += signed::natural(nodes[9 * j + 8]);
         j += 1;
     }
     start == m

@@ -21,7 +21,7 @@ pub extern "C" fn zorambi_read_schema(text: &[u8], table: &mut [i32], results: &
 {
     match text::read::read_schema(text, table) {
         SchemaRead::Schema { root, least, rows } => {
-            *results = [root, least, number::of(rows)];
+            *results = [root, least, signed::of(rows)];
             answer::pack(Verdict::Accepted { nodes: 0, links: 0 })
         }
         SchemaRead::Refused { why, place } => {
@@ -53,9 +53,9 @@ pub extern "C" fn zorambi_read_proof(
             members: member_count,
         } => {
             *results = [
-                number::of(rows),
-                number::of(node_rows),
-                number::of(member_count),
+                signed::of(rows),
+                signed::of(node_rows),
+                signed::of(member_count),
             ];
             answer::pack(Verdict::Accepted { nodes: 0, links: 0 })
         }
@@ -78,7 +78,7 @@ pub extern "C" fn zorambi_read_model(text: &[u8], pairs: &mut [i32], results: &m
             n,
             pairs: pair_rows,
         } => {
-            *results = [n, number::of(pair_rows)];
+            *results = [n, signed::of(pair_rows)];
             answer::pack(Verdict::Accepted { nodes: 0, links: 0 })
         }
         ModelRead::Refused { why, place } => {

@@ -34,7 +34,7 @@ use Rattle.model.proofs.same.Reads as same
 use Rattle.model.proofs.settled.Reads as settled
 use Rattle.model.proofs.joined.Reads as joined
 use Rattle.model.proofs.whole_word.Reads as whole-word
-use Rattle.number.proofs.natural_at.Reads as natural-at
+use Rattle.signed.proofs.natural_at.Reads as natural-at
 use Rattle.model.proofs.+formula_value+range_value.{statement}
 use Rattle.model.proofs.+formula_value+range_value.Tie.{close}
 

@@ -9,7 +9,7 @@ use borrow.Author.Needs.{needs}
 use borrow.Author.Tests.{le-leb, lt-leb}
 use Rattle.stab.specs.Basic.{nat}
 use Rattle.stab.proofs.Bools.{and-first-false}
-use Rattle.number.proofs.Signs.{nat-small}
+use Rattle.signed.proofs.Signs.{nat-small}
 use Rattle.formula.proofs.RowLaws.{and-true}
 use Rattle.model.proofs.Parts.{high-is}
 use Rattle.model.proofs.Passes.{order-is, under-small}

@@ -3,7 +3,7 @@ use lib.ListN.{length}
 use mir.Syntax.{w32}
 use mir.Val.{ofZ, toZ}
 use borrow.Author.Needs.{needs}
-use Rattle.number.proofs.Signs.{read-back}
+use Rattle.signed.proofs.Signs.{read-back}
 use Rattle.stab.specs.Read.{readModel, modelAnswer, pairTable}
 use Rattle.stab.specs.Write.{Writing, writeModel}
 use Rattle.stab.specs.declared.ModelRead.the-variants.{Model, Refused}

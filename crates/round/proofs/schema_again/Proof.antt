@@ -3,7 +3,7 @@ use lib.ListN.{length}
 use mir.Syntax.{w32}
 use mir.Val.{ofZ, toZ}
 use borrow.Author.Needs.{needs}
-use Rattle.number.proofs.Signs.{read-back}
+use Rattle.signed.proofs.Signs.{read-back}
 use Rattle.stab.specs.Read.{readSchema, schemaAnswer, schemaTable}
 use Rattle.stab.specs.Write.{Writing, writeSchema}
 use Rattle.stab.specs.declared.SchemaRead.the-variants.{Schema, Refused}

@@ -7,7 +7,7 @@ use borrow.Author.Needs.{needs}
 use borrow.Author.Tests.{not-true, not-false}
 use lib.IntN.{ℤ, pos}
 use lib.ListN.{length, getD}
-use Rattle.number.proofs.Signs.{read-back, nat-small}
+use Rattle.signed.proofs.Signs.{read-back, nat-small}
 use Rattle.stab.specs.Basic.{_and_, nat}
 use Rattle.stab.specs.Node.{setStart, setFollows}
 use Rattle.stab.specs.Write.{nodeWritable, nodesWritable}

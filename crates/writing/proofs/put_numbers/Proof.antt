@@ -8,7 +8,7 @@ use mathlib.Core.List.{List, [], _∷_}
 use lib.IntN.{ℤ, pos}
 use lib.ListN.{length, take, getD}
 use lib.Seq.{take-all}
-use Rattle.number.proofs.Signs.{read-back}
+use Rattle.signed.proofs.Signs.{read-back}
 use Rattle.stab.specs.Text.{fiveDigits}
 use Rattle.writing.specs.Over.{over, spread}
 use Rattle.writing.proofs.Overs.{over-none, Room, lent-start, lent-room, lent-over, lent-length, lent-count, count-fits}

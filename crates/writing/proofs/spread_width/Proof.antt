@@ -8,7 +8,7 @@ use borrow.Author.Needs.{needs}
 use lib.IntN.{ℤ, pos}
 use lib.ListN.{length, take, getD, length-append}
 use lib.Seq.{take-all}
-use Rattle.number.proofs.Signs.{read-back}
+use Rattle.signed.proofs.Signs.{read-back}
 use Rattle.stab.specs.Text.{decimal}
 use Rattle.writing.specs.Over.{spread}
 use Rattle.writing.proofs.Spreads.{spread-more, spread-most, spread-part, one-length}

@@ -9,7 +9,7 @@ use borrow.Author.Tests.{not-true, not-false}
 use lib.IntN.{pos}
 use lib.ListN.{length, take, getD}
 use lib.Seq.{take-all}
-use Rattle.number.proofs.Signs.{read-back}
+use Rattle.signed.proofs.Signs.{read-back}
 use Rattle.stab.specs.Basic.{allOf}
 use Rattle.stab.specs.Text.{fiveDigits}
 use Rattle.writing.proofs.Spreads.{all-more, all-not}

@@ -4,7 +4,7 @@ use native.Mathlib.Omega.{arith}
 use mathlib.Core.Path.{_≡_, sym, _∙_, ap, ap₂, subst}
 use lib.IntN.{ℤ, pos, negℤ, _-ℤ_}
 use mir.Facts.{toZ-ofZ}
-use Rattle.number.proofs.Signs.{nat-small}
+use Rattle.signed.proofs.Signs.{nat-small}
 use Rattle.stab.specs.Basic.{nat}
 use Rattle.stab.specs.Formula.{Row, joined, tree}
 use Rattle.stab.specs.Alike.{lower, agree}

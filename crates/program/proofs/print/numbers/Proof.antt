@@ -11,7 +11,7 @@ use Rattle.stab.specs.declared.Refusal.{Refusal}
 use Rattle.stab.specs.declared.Verdict.{Verdict}
 use Rattle.stab.specs.declared.Verdict.the-variants.{Accepted, Refused}
 use Rattle.stab.proofs.Packed.{number-range}
-use Rattle.number.proofs.Signs.{read-back}
+use Rattle.signed.proofs.Signs.{read-back}
 use Rattle.program.specs.Printing.{numberRow}
 use Rattle.program.proofs.print.numbers.Statement.{statement}
 use Rattle.program.proofs.print.numbers.Tie as tie

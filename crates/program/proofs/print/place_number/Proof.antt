@@ -4,7 +4,7 @@ use mathlib.Core.Path.{sym, _∙_, ap, subst}
 use borrow.Author.Needs.{needs}
 use Rattle.stab.specs.Answer.{placeCode, placeNumber}
 use Rattle.stab.specs.declared.Place.{Place}
-use Rattle.number.proofs.Signs.{read-back}
+use Rattle.signed.proofs.Signs.{read-back}
 use Rattle.program.proofs.print.place_number.Statement.{statement}
 use Rattle.program.proofs.print.place_number.Tie as tie
 

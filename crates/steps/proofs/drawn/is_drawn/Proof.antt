@@ -8,13 +8,13 @@ use lib.ListN.{getD}
 use borrow.Author.Count.{below-more}
 use Rattle.stab.specs.Node.{Tableau, node, nodeAt, set, setOf}
 use Rattle.stab.specs.Rule.{drawnFrom}
-use Rattle.nodes.specs.Lent.{lent}
+use Rattle.branch.specs.Lent.{lent}
 use Rattle.steps.proofs.Answers.{refused, passed}
 use Rattle.stab.specs.Basic.{nat}
 use Rattle.stab.specs.Node as N
 use Rattle.steps.proofs.DrawnLaws.{drawn-same}
 use Rattle.steps.proofs.HeldLaws.{set-length, member-read}
-use Rattle.nodes.proofs.SetLaws.{all-at, at-all, fails}
+use Rattle.branch.proofs.SetLaws.{all-at, at-all, fails}
 use Rattle.steps.proofs.drawn.is_drawn.Statement.{statement}
 use Rattle.steps.proofs.drawn.is_drawn.Tie as tie
 

@@ -2,7 +2,7 @@ use borrow.Author.Needs.{needs}
 use native.Mathlib.Omega.{arith}
 use mathlib.Core.Path.{_∙_, ap}
 use lib.Dec.{eqb}
-use Rattle.nodes.proofs.Parts.{negative-differs, natural-same}
+use Rattle.branch.proofs.Parts.{negative-differs, natural-same}
 use Rattle.steps.proofs.drawn.part_is.Statement.{statement}
 use Rattle.steps.proofs.drawn.part_is.Tie as tie
 

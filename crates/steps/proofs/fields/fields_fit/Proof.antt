@@ -6,7 +6,7 @@ use Rattle.stab.specs.Basic.{below}
 use Rattle.stab.specs.Node.{Tableau, node, rowCount}
 use Rattle.stab.specs.Rule.{rule, ofRule}
 use Rattle.stab.proofs.Trees.{below-nat, below-more}
-use Rattle.nodes.specs.Lent.{lent}
+use Rattle.branch.specs.Lent.{lent}
 use Rattle.steps.proofs.Answers.{refused, passed}
 use Rattle.steps.proofs.FieldParts.{no-rule, entry-is, rows-fail, rest-fails, clash-decides, others-fit, clash-rows}
 use Rattle.steps.proofs.fields.fields_fit.Statement.{statement}

@@ -3,7 +3,7 @@ use Prim.Native.Nat.{ℕ}
 use native.Mathlib.Omega.{arith}
 use mathlib.Core.Path.{_∙_, ap}
 use lib.Dec.{ltb}
-use Rattle.nodes.proofs.ParentLaws.{below-negative, below-natural}
+use Rattle.branch.proofs.ParentLaws.{below-negative, below-natural}
 use Rattle.steps.proofs.fields.is_below.Statement.{statement}
 use Rattle.steps.proofs.fields.is_below.Tie as tie
 

@@ -4,7 +4,7 @@ use mathlib.Core.Path.{sym, _∙_, ap}
 use lib.Dec.{ltb}
 use Rattle.stab.specs.Rule.{unused}
 use Rattle.stab.proofs.Bools.{if-true, if-false}
-use Rattle.nodes.specs.Lent.{linkFits}
+use Rattle.branch.specs.Lent.{linkFits}
 use Rattle.steps.proofs.Answers.{refused, passed, first-fails, second-decides}
 use Rattle.steps.proofs.FieldLaws.{at-least-1}
 use Rattle.steps.proofs.fields.link_fits.Statement.{statement}

@@ -2,7 +2,7 @@ use borrow.Author.Needs.{needs}
 use mathlib.Core.Path.{sym, _∙_}
 use Rattle.stab.specs.Rule.{unused}
 use Rattle.stab.proofs.Bools.{if-true, if-false}
-use Rattle.nodes.specs.Lent.{otherFits}
+use Rattle.branch.specs.Lent.{otherFits}
 use Rattle.steps.proofs.fields.other_fits.Statement.{statement}
 use Rattle.steps.proofs.fields.other_fits.Tie as tie
 

@@ -1,6 +1,6 @@
 use borrow.Author.Needs.{needs}
 use mathlib.Core.Path.{_∙_}
-use Rattle.nodes.specs.Lent.{restFits}
+use Rattle.branch.specs.Lent.{restFits}
 use Rattle.steps.proofs.Answers.{refused, passed, first-fails, second-decides}
 use Rattle.steps.proofs.fields.rest_fits.Statement.{statement}
 use Rattle.steps.proofs.fields.rest_fits.Tie as tie

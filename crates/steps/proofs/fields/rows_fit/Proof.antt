@@ -6,8 +6,8 @@ use mir.Syntax.{w32}
 use mir.Val.{toZ, ofZ}
 use Rattle.stab.specs.Node.{node, set, isRow, row, rows, rowCount}
 use Rattle.stab.specs.Rule.{kindFits}
-use Rattle.number.proofs.Signs.{read-back}
-use Rattle.nodes.specs.Lent.{fitsKind, rowsFit}
+use Rattle.signed.proofs.Signs.{read-back}
+use Rattle.branch.specs.Lent.{fitsKind, rowsFit}
 use Rattle.steps.proofs.Answers.{refused, passed, first-fails, second-fails, third-decides}
 use Rattle.steps.proofs.FieldLaws.{kind-natural}
 use Rattle.steps.proofs.fields.rows_fit.Statement.{statement}

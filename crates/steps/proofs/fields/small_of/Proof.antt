@@ -1,7 +1,7 @@
 use borrow.Author.Needs.{needs}
 use mathlib.Core.Path.{_∙_, ap}
 use Rattle.stab.specs.Basic.{nat}
-use Rattle.nodes.proofs.NodeColumns.{column-at}
+use Rattle.branch.proofs.NodeColumns.{column-at}
 use Rattle.steps.proofs.fields.small_of.Statement.{statement}
 use Rattle.steps.proofs.fields.small_of.Tie as tie
 

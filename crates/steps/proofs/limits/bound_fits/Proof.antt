@@ -9,7 +9,7 @@ use Rattle.stab.specs.Basic.{nat}
 use Rattle.stab.specs.Node.{Tableau, Bound, node, bound, row, rows, rowCount}
 use Rattle.stab.specs.Rule.{unfoldFits, splitFits, clashFits, voidFits, loopFits}
 use Rattle.stab.proofs.Trees.{below-pos}
-use Rattle.nodes.specs.Lent.{lent, bounded}
+use Rattle.branch.specs.Lent.{lent, bounded}
 use Rattle.steps.proofs.BoundSteps.{bound-kept, split-asked, unfold-asked, clash-asked, void-asked, loop-asked, none-asked, unfold-on, void-on, clash-on, clash-with, by-natural}
 use Rattle.stab.specs.Rule.{ofRule}
 use Rattle.stab.proofs.Whole.{eqZ-of}

@@ -5,7 +5,7 @@ use lib.IntN.{pos}
 use lib.ListN.{getD}
 use Rattle.steps.proofs.LimitLaws.{loop-same}
 use mathlib.Core.Path.{refl, _∙_, ap, ap₂}
-use Rattle.nodes.specs.Lent.{bounded}
+use Rattle.branch.specs.Lent.{bounded}
 use Rattle.steps.proofs.limits.target_allows.Statement.{statement}
 use Rattle.steps.proofs.limits.target_allows.Tie as tie
 

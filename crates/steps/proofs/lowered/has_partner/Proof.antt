@@ -14,7 +14,7 @@ use Rattle.stab.specs.Node.{Tableau, node, nodeAt, set, setOf, formula, rows}
 use Rattle.stab.specs.Rule.{isLowered, hasLowered}
 use Rattle.stab.proofs.Trees.{below-nat}
 use Rattle.alike.specs.Memo.{Remembers}
-use Rattle.nodes.specs.Lent.{lent}
+use Rattle.branch.specs.Lent.{lent}
 use Rattle.steps.proofs.HeldLaws.{set-length, member-nat}
 use Rattle.steps.proofs.LoweredLaws.{lowered-at, lowered-nowhere}
 use Rattle.stab.specs.Formula.{joined, tree}

@@ -6,7 +6,7 @@ use mathlib.Core.Option.{none}
 use Rattle.stab.specs.Basic.{scan}
 use Rattle.stab.specs.Check.{finding, nodeRefusal}
 use Rattle.stab.proofs.Scans.{scan-none, scan-more, scan-found}
-use Rattle.nodes.specs.Lent.{lent}
+use Rattle.branch.specs.Lent.{lent}
 use Rattle.steps.proofs.steps.each_node.Statement.{statement}
 use Rattle.steps.proofs.steps.each_node.Tie as tie
 

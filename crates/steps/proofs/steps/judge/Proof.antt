@@ -8,7 +8,7 @@ use lib.Dec.{eqb}
 use Rattle.stab.specs.Node.{Tableau, node, nodeAt, childCount}
 use Rattle.stab.specs.Rule.{ruleOf, rule, childrenFit}
 use Rattle.stab.specs.Check.{finding, stepRefusal}
-use Rattle.nodes.specs.Lent.{lent}
+use Rattle.branch.specs.Lent.{lent}
 use Rattle.steps.proofs.Answers.{refused, passed}
 use Rattle.steps.proofs.FieldParts.{fields-known}
 use Rattle.steps.proofs.StepLaws.{fields-passed, step-found, children-found, node-passes}

@@ -5,7 +5,7 @@ use mathlib.Core.Bool.{true}
 use mathlib.Core.List.{[]}
 use Rattle.stab.specs.Node.{Tableau, node, row, rows, rowCount, bound, formula}
 use Rattle.stab.specs.Rule.{drawn, fieldsFit, targetFits, boundFits, partnersFit, isInstance}
-use Rattle.nodes.specs.Lent.{lent, FieldsKnown}
+use Rattle.branch.specs.Lent.{lent, FieldsKnown}
 use Rattle.steps.proofs.Answers.{refused, passed}
 use Rattle.steps.proofs.FieldParts.{fields-known, fields-bare}
 use Rattle.steps.proofs.ReadyLaws.{set-held, set-of-rows, ups, child-known, target-less}

@@ -6,7 +6,7 @@ use lib.IntN.{ℤ, pos}
 use Rattle.stab.specs.Node.{isAncestor}
 use Rattle.stab.specs.Rule.{ofRule}
 use Rattle.steps.proofs.Answers.{refused, passed, implies-made, implies-spared}
-use Rattle.nodes.proofs.Parts.{is-natural}
+use Rattle.branch.proofs.Parts.{is-natural}
 use Rattle.steps.proofs.ReadyLaws.{no-ancestor}
 use Rattle.steps.proofs.steps.target_fits.Statement.{statement}
 use Rattle.steps.proofs.steps.target_fits.Tie as tie

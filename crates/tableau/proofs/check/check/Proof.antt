@@ -11,7 +11,7 @@ use Rattle.stab.specs.declared.Verdict.{Verdict}
 use Rattle.stab.specs.declared.Verdict.the-variants.{Accepted}
 use Rattle.stab.proofs.Findings.{nothing-found}
 use Rattle.stab.proofs.Soundness.{sound}
-use Rattle.nodes.specs.Work.{tableau}
+use Rattle.branch.specs.Work.{tableau}
 use Rattle.tableau.proofs.CheckLaws.{refused-is, accepted-is, few-nodes}
 use borrow.Author.Needs.{needs}
 use Rattle.tableau.proofs.check.check.Statement.{statement}

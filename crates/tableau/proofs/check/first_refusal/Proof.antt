@@ -16,7 +16,7 @@ use Rattle.stab.specs.Check.{refusal, finding, holds, tablesHold, withinLimits,
 use Rattle.stab.specs.declared.Refusal.the-variants.{TableTooShort, TooMany}
 use Rattle.stab.proofs.Bools.{and-left, and-right}
 use Rattle.stab.proofs.Findings.{stays, nothing-found, later}
-use Rattle.nodes.specs.Work.{tableau}
+use Rattle.branch.specs.Work.{tableau}
 use Rattle.tableau.specs.Passes.{rowsRefusal, nodesRefusal}
 use Rattle.tableau.proofs.CheckLaws.{asked-false, asked-true, whole-found, whole-passes, refusal-is}
 use borrow.Author.Needs.{needs}

@@ -12,9 +12,9 @@ use Rattle.stab.specs.Node.{Tableau}
 use Rattle.stab.specs.Check.{finding, setRefusal, parentRefusal}
 use Rattle.stab.specs.declared.Refusal.the-variants.{Parent}
 use Rattle.stab.proofs.Findings.{stays, nothing-found, later}
-use Rattle.nodes.specs.Work.{tableau}
+use Rattle.branch.specs.Work.{tableau}
 use Rattle.tableau.specs.Passes.{nodesRefusal}
-use Rattle.nodes.proofs.SetRefusals.{sets-known, set-within}
+use Rattle.branch.proofs.SetRefusals.{sets-known, set-within}
 use Rattle.tableau.proofs.CheckLaws.{whole-found, whole-passes}
 use Rattle.tableau.proofs.check.nodes_pass.Statement.{statement}
 use Rattle.tableau.proofs.check.nodes_pass.Tie as tie

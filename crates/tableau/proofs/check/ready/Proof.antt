@@ -11,9 +11,9 @@ use Rattle.stab.specs.Formula.{joined}
 use Rattle.stab.specs.Node.{Tableau, rows, rowCount}
 use Rattle.stab.specs.Check.{finding, formulasRefusal}
 use Rattle.stab.proofs.Findings.{stays, nothing-found, later}
-use Rattle.nodes.specs.Work.{tableau, AllWorked}
+use Rattle.branch.specs.Work.{tableau, AllWorked}
 use Rattle.tableau.specs.Passes.{rowsRefusal, nodesRefusal}
-use Rattle.nodes.proofs.ParentLaws.{parents-known}
+use Rattle.branch.proofs.ParentLaws.{parents-known}
 use Rattle.tableau.proofs.CheckLaws.{found-some, least-fits, nodes-parents, set-fits, parent-fits}
 use borrow.Author.Needs.{needs}
 use Rattle.tableau.proofs.check.ready.Statement.{statement}

@@ -1,7 +1,7 @@
 use borrow.Author.Needs.{needs}
 use mathlib.Core.Path.{_≡_, sym, _∙_, ap}
 use lib.ListN.{set}
-use Rattle.number.proofs.Signs.{read-back}
+use Rattle.signed.proofs.Signs.{read-back}
 use Rattle.text.proofs.Fields.{ends-space, ends-line, ends-neither}
 use Rattle.text.proofs.Steps.{step-space, step-line, step-neither, kept-if, kept-not}
 use Rattle.text.proofs.numerals.keep.Statement.{statement}

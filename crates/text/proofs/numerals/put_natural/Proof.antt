@@ -1,6 +1,6 @@
 use mathlib.Core.Path.{_∙_, ap}
 use lib.ListN.{set}
-use Rattle.number.proofs.Signs.{read-back}
+use Rattle.signed.proofs.Signs.{read-back}
 use Rattle.text.specs.Numerals.{signedOf}
 use borrow.Author.Needs.{needs}
 use Rattle.text.proofs.numerals.put_natural.Statement.{statement}

@@ -4,7 +4,7 @@ use mathlib.Core.List.{[], _∷_}
 use lib.IntN.{ℤ}
 use lib.ListN.{length}
 use borrow.Author.Needs.{needs}
-use Rattle.number.proofs.Signs.{read-back}
+use Rattle.signed.proofs.Signs.{read-back}
 use Rattle.stab.specs.Answer.{modelNumbers}
 use Rattle.stab.specs.Entry.{modelPacked, modelResults}
 use Rattle.stab.specs.Read.{readModel, modelAnswer}

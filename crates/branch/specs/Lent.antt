@@ -1,0 +1,75 @@
+-- The lent tables with the numbers that go with them, and what a step's code reads of them.
+use Prim.Native.Nat.{ℕ, _+_, _*_, _<_, _≤_}
+use mathlib.Core.Path.{_≡_}
+use mathlib.Core.Bool.{Bool, true}
+use mathlib.Core.List.{List}
+use lib.Dec.{eqb}
+use lib.IntN.{ℤ, pos}
+use lib.Signed.{leZ}
+use lib.ListN.{length, getD}
+use Rattle.stab.specs.Basic.{if_then_else_, _and_, _or_, eqZ, nat, below, has, ascending}
+use Rattle.stab.specs.Formula.{Row}
+use Rattle.stab.specs.Node as N
+use Rattle.stab.specs.Node.{Tableau, Bound, Node, node, nodeAt, set, setOf}
+use Rattle.stab.specs.Rule as R
+use Rattle.stab.specs.Rule.{unused, kindFits}
+use Rattle.stab.specs.declared.Rule.{Rule}
+use Rattle.branch.specs.declared.counts.Counts.{Counts}
+
+abbrev pub lent : List ℤ → List ℤ → List ℤ → List ℤ → Counts → Tableau
+lent schema proof nodes members t =
+    record { schema = schema; schemaRows = t .schema; proof = proof; proofRows = t .proof; root = t .root; least = t .least; nodes = nodes; nodeRows = t .nodes; members = members; memberCount = t .members }
+
+-- a bound by its two parts
+abbrev pub bounded : Bool → ℕ → Bound
+bounded exact l = record { exact = exact; L = l }
+
+-- the bound of node j as it is kept
+abbrev pub boundBy : List ℕ → ℕ → Bound
+boundBy work j = bounded (eqb (getD work (4 * j + 2) 0) 1) (getD work (4 * j + 1) 0)
+
+-- the set of node j lies within the members, in ascending order
+pub record SetHeld (nodes members : List ℤ) (j : ℕ) : Type 0 where
+  pub within : nat (nodeAt nodes j .start) + nat (nodeAt nodes j .size) ≤ length members
+  pub up : ascending (setOf members (nodeAt nodes j)) ≡ true
+
+-- and it lists numbers of n rows
+pub record SetOfRows (nodes members : List ℤ) (n j : ℕ) : Type 0 where
+  pub held : SetHeld nodes members j
+  pub rows : (i : ℕ) → i < nat (nodeAt nodes j .size) → below n (getD (setOf members (nodeAt nodes j)) i (pos 0)) ≡ true
+
+-- what is known of a child: where its set and its parent's lie, that it lists natural numbers, and that its rank is kept
+pub record ChildKnown (nodes members : List ℤ) (work : List ℕ) (j : ℕ) : Type 0 where
+  pub own : SetHeld nodes members j
+  pub above : SetHeld nodes members (nat (nodeAt nodes j .up))
+  pub naturals : (i : ℕ) → i < nat (nodeAt nodes j .size) → pos (nat (getD (setOf members (nodeAt nodes j)) i (pos 0))) ≡ getD (setOf members (nodeAt nodes j)) i (pos 0)
+  pub rank : getD work (4 * j) 0 ≡ N.rank nodes j
+
+-- a field for which no kind is needed is unused; any other names one of n rows, of that kind
+unfoldable pub fitsKind : (ℕ → Row) → ℕ → ℤ → ℤ → Bool
+fitsKind rows n need z = if eqZ need unused then eqZ z unused else below n z and eqZ (rows (nat z) .kind) need
+
+-- other and the fields of a link, if they are used or not
+unfoldable pub otherFits : ℕ → Node → Bool → Bool
+otherFits n w used = if used then below n (w .other) else eqZ (w .other) unused
+
+unfoldable pub linkFits : Node → Bool → Bool
+linkFits w used = if used then leZ (pos 1) (w .by) else eqZ (w .to) unused and eqZ (w .by) (pos 0)
+
+-- the fields of node j against an entry R of the rule table: first on and with, then the rest
+unfoldable pub rowsFit : Tableau → ℕ → Rule → Bool
+rowsFit T j R =
+    kindFits T (R .on) (node T j .on) and
+    (eqZ (R .on) unused or has (node T j .on) (set T j)) and
+    kindFits T (R .with) (node T j .with)
+
+unfoldable pub restFits : ℕ → Node → Rule → Bool
+restFits n w R = otherFits n w (R .other) and linkFits w (R .link)
+
+-- what the rule table says of node j's fields, but for sets
+pub record FieldsKnown (T : Tableau) (j : ℕ) : Type 0 where
+  pub rule : below 9 (node T j .rule) ≡ true
+  pub on : kindFits T (R.rule T j .on) (node T j .on) ≡ true
+  pub with : kindFits T (R.rule T j .with) (node T j .with) ≡ true
+  pub other : R.otherFits T j ≡ true
+  pub link : R.linkFits T j ≡ true

@@ -1,0 +1,31 @@
+// The nine numbers of a node.
+ghost use mathlib.Core.Path.{_≡_};
+ghost use Prim.Native.Nat.{_<_, _^_};
+ghost use lib.IntN.{negℤ};
+ghost use Rattle.stab.specs.Basic.{eqZ, nat};
+ghost use Rattle.stab.specs.Node.{nodeAt};
+ghost use Rattle.branch.specs.NodeColumn.{nodeColumn};
+
+// The natural part of number k of node j.
+pub fn natural_of(nodes: &[i32], j: usize, k: usize) -> usize
+    requires { ⌜ (j < 2 ^ 32) × (k < 9) ⌝ }
+    ensures { λ v. ⌜ v ≡ nat (nodeColumn (nodeAt (now (nodes .entry)) j) k) ⌝ }
+{
+    signed::natural_at(nodes, 9 * j + k)
+}
+
+// How far below 0 it lies.
+pub fn under_of(nodes: &[i32], j: usize, k: usize) -> usize
+    requires { ⌜ (j < 2 ^ 32) × (k < 9) ⌝ }
+    ensures { λ v. ⌜ v ≡ nat (negℤ (nodeColumn (nodeAt (now (nodes .entry)) j) k)) ⌝ }
+{
+    signed::under_at(nodes, 9 * j + k)
+}
+
+// It is z.
+pub fn is_of(nodes: &[i32], j: usize, k: usize, z: i32) -> bool
+    requires { ⌜ (j < 2 ^ 32) × (k < 9) ⌝ }
+    ensures { λ v. ⌜ v ≡ eqZ (nodeColumn (nodeAt (now (nodes .entry)) j) k) z ⌝ }
+{
+    signed::is_at(nodes, 9 * j + k, z)
+}

@@ -1,9 +1,0 @@
-use Rattle.number.proofs.Signs.{bits-equal}
-use Rattle.number.proofs.equal.Statement.{statement}
-use Rattle.number.proofs.equal.Tie as tie
-
-returns : tie.Need-returns
-returns c = bits-equal (c .args .a) (c .args .b) (c .fits .a) (c .fits .b)
-
-pub equal-spec : {M : Type 1} → statement M
-equal-spec = tie.close (tie.spec returns)

@@ -1,0 +1,9 @@
+use Rattle.signed.proofs.Signs.{bits-equal}
+use Rattle.signed.proofs.equal.Statement.{statement}
+use Rattle.signed.proofs.equal.Tie as tie
+
+returns : tie.Need-returns
+returns c = bits-equal (c .args .a) (c .args .b) (c .fits .a) (c .fits .b)
+
+pub equal-spec : {M : Type 1} → statement M
+equal-spec = tie.close (tie.spec returns)
