@@ -140,33 +140,24 @@ heading-within (y ∷ h) (x ∷ xs) l e =
     let n : y ≡ 10 → ⊥ = λ p. true≢false (sym (eq-eqb y 10 p) ∙ false-of-not _ (and-left _ _ l)) in
     omega (arith, heading-within h xs (and-right (not (eqb y 10)) _ l) (and-right (eqb x y) _ (sym (heading-byte y h x xs n) ∙ e)))
 
-module _ (text : List ℕ) (at : ℕ) (h : List ℕ) (k next : ℕ) (q : next ≡ afterHeading h text at) where
-  pub heading-stops : next ≡ 0 → headingAt h k (lines (drop at text)) ≡ stopped Heading k
-  unfolding afterHeading require
-  heading-stops z =
-      heading-of h k (drop at text)
-      ∙ ap (λ (t : Bool). require t Heading k (read (lines (afterLine (drop at text)))))
-      (⊎-elim (λ e. absurd (omega (arith, if-true (isHeading h (drop at text)) (at + suc (length h)) 0 e))) (λ e. e) (decide (isHeading h (drop at text))))
+module _ (text : List ℕ) (at : ℕ) (h : List ℕ) (k : ℕ) where
+  pub heading-stops : isHeading h (drop at text) ≡ false → headingAt h k (lines (drop at text)) ≡ stopped Heading k
+  unfolding require
+  heading-stops e = heading-of h k (drop at text) ∙ ap (λ (t : Bool). require t Heading k (read (lines (afterLine (drop at text))))) e
 
-  module _ (none : lacks 10 h ≡ true) (z : next ≡ 0 → ⊥) where
-    is-heading : isHeading h (drop at text) ≡ true
-    unfolding afterHeading
-    is-heading = ⊎-elim (λ e. e) (λ e. absurd (z (q ∙ if-false (isHeading h (drop at text)) _ _ e))) (decide (isHeading h (drop at text)))
+  module _ (none : lacks 10 h ≡ true) (e : isHeading h (drop at text) ≡ true) where
+    pub heading-passed : afterLine (drop at text) ≡ drop (at + suc (length h)) text
+    heading-passed = heading-after h (drop at text) none e ∙ drop-drop (suc (length h)) at text
 
-    place : next ≡ at + suc (length h)
-    unfolding afterHeading
-    place = q ∙ if-true (isHeading h (drop at text)) _ _ is-heading
-
-    pub heading-reads : headingAt h k (lines (drop at text)) ≡ read (lines (drop next text))
+    pub heading-reads : headingAt h k (lines (drop at text)) ≡ read (lines (drop (at + suc (length h)) text))
     unfolding require
     heading-reads =
         heading-of h k (drop at text)
-        ∙ ap (λ (t : Bool). require t Heading k (read (lines (afterLine (drop at text))))) is-heading
-        ∙ ap (λ (xs : List ℕ). read (lines xs))
-        (heading-after h (drop at text) none is-heading ∙ drop-drop (suc (length h)) at text ∙ ap (λ (i : ℕ). drop i text) (sym place))
+        ∙ ap (λ (t : Bool). require t Heading k (read (lines (afterLine (drop at text))))) e
+        ∙ ap (λ (xs : List ℕ). read (lines xs)) heading-passed
 
-    pub heading-inside : next ≤ length text
-    heading-inside = omega (arith, place, heading-within h (drop at text) none is-heading, length-drop at text)
+    pub heading-inside : at + suc (length h) ≤ length text
+    heading-inside = omega (arith, heading-within h (drop at text) none e, length-drop at text)
 
 -- ---- no heading has a byte 10
 

@@ -12,3 +12,9 @@ pub mod Openings
 pub mod NodeLaws
 pub mod ProofLaws
 pub mod LineSpans
+pub mod Again
+pub mod Reached
+pub mod TakenLaws
+pub mod Others
+pub mod OnceLaws
+pub mod EndLaws

@@ -13,15 +13,15 @@ use lib.ListN.{length, take, drop, getD, set, length-append, length-drop, drop-o
 use lib.Seq.{sets, take-all, take-at, drop-at, drop-cons, length-take-le}
 use borrow.Author.Tests.{le-leb, lt-leb}
 use Rattle.stab.specs.Basic.{_and_}
-use Rattle.stab.specs.Text.{Line, lines, nodeHeading}
-use Rattle.stab.specs.Read.{Reading, read, stopped, _andThen_, require, values, headingAt, nodeNumbers, nodesFrom}
-use Rattle.stab.specs.declared.Refusal.the-variants.{TooMany, Heading}
+use Rattle.stab.specs.Text.{Line, lines}
+use Rattle.stab.specs.Read.{Reading, read, stopped, _andThen_, require, values, nodeNumbers, nodesFrom}
+use Rattle.stab.specs.declared.Refusal.the-variants.{TooMany}
 use Rattle.stab.specs.declared.Refusal.the-variants.{Line as BadLine}
 use Rattle.stab.proofs.Bools.{and-both, and-first-false, and-second-false}
 use Rattle.stab.proofs.Texts.Rows.{then-is}
 use Rattle.text.specs.Here.{afterLine, row, firstLine}
 use Rattle.text.specs.Rows.{rowFront, wanted, RowEnded, RowOpen}
-use Rattle.text.specs.Nodes.{NodeRead, SetOf, NodeOf, headedNodes}
+use Rattle.text.specs.Nodes.{NodeRead, SetOf, NodeOf, nodesAhead}
 use Rattle.text.specs.declared.nodes.NodeFound.{NodeFound}
 use Rattle.text.specs.declared.nodes.NodeFound.the-variants.{At, Nothing}
 use Rattle.text.proofs.Lines.{lines-first, lines-nil}
@@ -91,10 +91,7 @@ module _ (text : List ℕ) (at : ℕ) (t : List ℤ) (to : ℕ) (t′ : List ℤ
 
 -- ---- rows in front of those that are read
 
-unfoldable pub nodesAhead : List ℤ → List ℤ → Reading (List ℤ × List ℤ) → Reading (List ℤ × List ℤ)
-nodesAhead us vs r = r andThen λ rest. read (us ++ rest .0, vs ++ rest .1)
-
-nodes-ahead-none : (r : Reading (List ℤ × List ℤ)) → nodesAhead [] [] r ≡ r
+pub nodes-ahead-none : (r : Reading (List ℤ × List ℤ)) → nodesAhead [] [] r ≡ r
 unfolding nodesAhead _andThen_
 nodes-ahead-none (read p) = refl
 nodes-ahead-none (stopped why k) = refl
@@ -227,14 +224,3 @@ module _ (text : List ℕ) (line : ℕ) where
           ∙ ap (nodesAhead (take (9 * (n + 1)) t₂) (take last m₁))
           (ap₂ (λ (k j : ℕ). nodesFrom k (start + (length (r .vs) - 7)) j (lines (afterLine (getD text i 256 ∷ drop (suc i) text)))) a b
           ∙ ap₂ (λ (s : ℕ) (xs : List ℕ). nodesFrom (1024 - (n + 1)) s (line + (n + 1)) (lines xs)) (sym (r .count)) after)
-
--- ---- their heading
-
-module _ (line : ℕ) (ls : List Line) where
-  pub headed-nodes-stop : headingAt nodeHeading line ls ≡ stopped Heading line → headedNodes line ls ≡ stopped Heading line
-  unfolding headedNodes
-  headed-nodes-stop e = then-stops (headingAt nodeHeading line ls) _ Heading line e
-
-  pub headed-nodes-on : (rest : List Line) → headingAt nodeHeading line ls ≡ read rest → headedNodes line ls ≡ nodesFrom 1024 0 (line + 1) rest
-  unfolding headedNodes
-  headed-nodes-on rest e = then-is (headingAt nodeHeading line ls) _ rest e

@@ -13,7 +13,7 @@ use lib.ListN.{length, take, drop, getD, drop-of-length-le}
 use lib.Seq.{drop-cons, length-take-le}
 use borrow.Author.Tests.{eq-eqb, ne-eqb, le-leb, lt-leb, leb-true}
 use Rattle.stab.specs.Basic.{if_then_else_, _and_}
-use Rattle.stab.specs.Text.{Line, lines, sameBytes, nodeHeading, rowHeading, textLimit}
+use Rattle.stab.specs.Text.{Line, lines, sameBytes, nodeHeading, textLimit}
 use Rattle.stab.specs.Read.{Reading, read, stopped, _andThen_, require, values, headingAt, startsWithU, nodesFrom, ProofText, proofRowsFrom, readProofLines, readProof, readText}
 use Rattle.stab.specs.Read.{proofAnswer, proofTable, nodeTable, memberTable, tableOf}
 use Rattle.stab.specs.declared.Refusal.{Refusal}
@@ -26,18 +26,16 @@ use Rattle.stab.specs.declared.ProofRead.the-variants.{Proof, Refused}
 use Rattle.stab.proofs.Bools.{and-left, and-right, if-true, if-false, decide}
 use Rattle.stab.proofs.Texts.Rows.{then-is}
 use Rattle.text.specs.Here.{firstLine, afterLine, row}
-use Rattle.text.specs.Rows.{wanted, RowEnded, proofAhead, FormulasRead, cleared}
+use Rattle.text.specs.Rows.{wanted, RowEnded, proofAhead, cleared}
 use Rattle.text.specs.Texts.{ProofOf}
-use Rattle.text.specs.Nodes.{headedNodes}
 use Rattle.text.proofs.Lines.{lines-first, lines-nil, line-end, line-byte}
-use Rattle.text.proofs.Runs.{byte-within}
 use Rattle.text.proofs.RowLaws.{wanted-if, lineRead, values-are, take-sets, then-stops}
 use Rattle.text.proofs.Openings.{text-long, text-short, text-on}
 use Rattle.text.proofs.Tables.{cleared-padded}
 
 -- ---- rows in front of those that are read
 
-proof-ahead-none : (r : Reading ProofText) → proofAhead [] r ≡ r
+pub proof-ahead-none : (r : Reading ProofText) → proofAhead [] r ≡ r
 unfolding proofAhead _andThen_
 proof-ahead-none (read p) = refl
 proof-ahead-none (stopped why k) = refl
@@ -64,7 +62,7 @@ module _ (x : ℕ) (xs : List ℕ) where
   starts-so h = ap (λ (l : Line). startsWithU (l .content)) (line-byte x xs (ne-eqb x 10 (λ e. omega arith))) ∙ eq-eqb x 117 h
 
 -- what is made of the nodes
-abbrev withNodes : List ℤ → List ℤ × List ℤ → Reading ProofText
+abbrev pub withNodes : List ℤ → List ℤ × List ℤ → Reading ProofText
 withNodes t r = read (record { table = t; nodes = r .0; members = r .1 })
 
 module _ (m k x : ℕ) (xs : List ℕ) where
@@ -103,24 +101,22 @@ module _ (m k x : ℕ) (xs : List ℕ) where
     proof-more e = proof-read ∙ ap (λ (b : Bool). require b TooMany k (proofAhead vs (proofRowsFrom (m - 1) (suc k) ls))) (le-leb 1 m e)
 
   -- the second heading
-  proof-heading : x ≡ 117 → proofRowsFrom m k (lines (x ∷ xs)) ≡ (headedNodes k (lines (x ∷ xs)) andThen withNodes [])
-  unfolding proofRowsFrom headedNodes headingAt
+  proof-heading : x ≡ 117 → proofRowsFrom m k (lines (x ∷ xs)) ≡ (headingAt nodeHeading k (lines (x ∷ xs)) andThen λ rest. nodesFrom 1024 0 (suc k) rest andThen withNodes [])
+  unfolding proofRowsFrom headingAt
   proof-heading h =
       ap (proofRowsFrom m k) (lines-first x xs)
       ∙ if-true (startsWithU (l .content)) _ _ (starts-so x xs h)
       ∙ go (l .ended and sameBytes (l .content) nodeHeading)
-      ∙ ap (λ (ls : List Line). (headingAt nodeHeading k ls andThen λ rest. nodesFrom 1024 0 (k + 1) rest) andThen withNodes []) (sym (lines-first x xs))
+      ∙ ap (λ (ls : List Line). headingAt nodeHeading k ls andThen λ rest. nodesFrom 1024 0 (suc k) rest andThen withNodes []) (sym (lines-first x xs))
     where
       go : (t : Bool) → require t Heading k (nodesFrom 1024 0 (suc k) ls andThen withNodes [])
-          ≡ ((require t Heading k (read ls) andThen λ rest. nodesFrom 1024 0 (k + 1) rest) andThen withNodes [])
-      go true = unfold require _andThen_ in ap (λ (j : ℕ). nodesFrom 1024 0 j ls andThen withNodes []) (sym (add-one k))
+          ≡ (require t Heading k (read ls) andThen λ rest. nodesFrom 1024 0 (suc k) rest andThen withNodes [])
+      go true = unfold require _andThen_ in refl
       go false = unfold require _andThen_ in refl
 
-proof-missing : (m k : ℕ) → proofRowsFrom m k (lines []) ≡ (headedNodes k (lines []) andThen withNodes [])
-unfolding proofRowsFrom headedNodes headingAt _andThen_
-proof-missing m k =
-    ap (proofRowsFrom m k) lines-nil
-    ∙ ap (λ (ls : List Line). (headingAt nodeHeading k ls andThen λ rest. nodesFrom 1024 0 (k + 1) rest) andThen withNodes []) (sym lines-nil)
+proof-missing : (m k : ℕ) → proofRowsFrom m k (lines []) ≡ stopped Heading k
+unfolding proofRowsFrom
+proof-missing m k = ap (proofRowsFrom m k) lines-nil
 
 -- ---- the loop over formula rows: n of them are stored, and the rest of the text starts at i
 
@@ -177,37 +173,34 @@ module _ (text : List ℕ) where
           (ap₂ (λ (m k : ℕ). proofRowsFrom m k (lines (afterLine (getD text i 256 ∷ drop (suc i) text)))) a b
           ∙ ap (λ (xs : List ℕ). proofRowsFrom (1024 - (n + 1)) (2 + (n + 1)) (lines xs)) d)
 
--- ---- the nodes after the rows
+-- ---- the line after the rows
 
 nodes-behind : (vs : List ℤ) (r : Reading (List ℤ × List ℤ)) → proofAhead vs (r andThen withNodes []) ≡ (r andThen withNodes vs)
 unfolding proofAhead _andThen_
 nodes-behind vs (read p) = ap (λ (t : List ℤ). read (record { table = t; nodes = p .0; members = p .1 })) (append-nil vs)
 nodes-behind vs (stopped why k) = refl
 
-module _ (text : List ℕ) (at : ℕ) (t : List ℤ) (n next : ℕ) (r : FormulasRead text at t n next) where
-  -- the line after the rows is judged as the second heading
-  second : proofRowsFrom (1024 - n) (2 + n) (lines (drop next text)) ≡ (headedNodes (2 + n) (lines (drop next text)) andThen withNodes [])
-  second =
-      ⊎-elim
-      (λ l. let e = drop-of-length-le text l in
-      ap (λ (xs : List ℕ). proofRowsFrom (1024 - n) (2 + n) (lines xs)) e
-      ∙ proof-missing (1024 - n) (2 + n)
-      ∙ ap (λ (xs : List ℕ). headedNodes (2 + n) (lines xs) andThen withNodes []) (sym e))
-      (λ u. let e = drop-cons text next 256 (byte-within text next (omega arith)) in
-      ap (λ (xs : List ℕ). proofRowsFrom (1024 - n) (2 + n) (lines xs)) e
-      ∙ proof-heading (1024 - n) (2 + n) (getD text next 256) (drop (suc next) text) u
-      ∙ ap (λ (xs : List ℕ). headedNodes (2 + n) (lines xs) andThen withNodes []) (sym e))
-      (r .stops)
+module _ (text : List ℕ) (t : List ℤ) (n i : ℕ) where
+  pub formulas-missing : length text ≤ i → proofSoFar text t n i ≡ stopped Heading (2 + n)
+  unfolding proofSoFar proofAhead _andThen_
+  formulas-missing l =
+      ap (λ (xs : List ℕ). proofAhead (take (4 * n) t) (proofRowsFrom (1024 - n) (2 + n) (lines xs))) (drop-of-length-le text l)
+      ∙ ap (proofAhead (take (4 * n) t)) (proof-missing (1024 - n) (2 + n))
 
-  proof-parts : proofRowsFrom 1024 2 (lines (drop at text)) ≡ (headedNodes (2 + n) (lines (drop next text)) andThen withNodes (take (4 * n) t))
-  proof-parts = r .rows ∙ ap (proofAhead (take (4 * n) t)) second ∙ nodes-behind (take (4 * n) t) _
-
-  pub proof-nodes-stop : (why : Refusal) (k : ℕ) → headedNodes (2 + n) (lines (drop next text)) ≡ stopped why k → proofRowsFrom 1024 2 (lines (drop at text)) ≡ stopped why k
-  proof-nodes-stop why k e = proof-parts ∙ then-stops _ (withNodes (take (4 * n) t)) why k e
-
-  pub proof-nodes-read : (ns ms : List ℤ) → headedNodes (2 + n) (lines (drop next text)) ≡ read (ns, ms)
-      → proofRowsFrom 1024 2 (lines (drop at text)) ≡ read (record { table = take (4 * n) t; nodes = ns; members = ms })
-  proof-nodes-read ns ms e = proof-parts ∙ then-is _ (withNodes (take (4 * n) t)) (ns, ms) e
+  pub formulas-heading : i < length text → getD text i 256 ≡ 117
+      → proofSoFar text t n i ≡ (headingAt nodeHeading (2 + n) (lines (drop i text)) andThen λ rest. nodesFrom 1024 0 (3 + n) rest andThen withNodes (take (4 * n) t))
+  unfolding proofSoFar
+  formulas-heading l u =
+      let first = drop-cons text i 256 l in
+      ap (λ (xs : List ℕ). proofAhead (take (4 * n) t) (proofRowsFrom (1024 - n) (2 + n) (lines xs))) first
+      ∙ ap (proofAhead (take (4 * n) t)) (proof-heading (1024 - n) (2 + n) (getD text i 256) (drop (suc i) text) u)
+      ∙ ap₂ (λ (xs : List ℕ) (k : ℕ). proofAhead (take (4 * n) t) (headingAt nodeHeading (2 + n) (lines xs) andThen λ rest. nodesFrom 1024 0 k rest andThen withNodes [])) (sym first) (omega arith)
+      ∙ behind (headingAt nodeHeading (2 + n) (lines (drop i text)))
+    where
+      behind : (r : Reading (List Line)) → proofAhead (take (4 * n) t) (r andThen λ rest. nodesFrom 1024 0 (3 + n) rest andThen withNodes [])
+          ≡ (r andThen λ rest. nodesFrom 1024 0 (3 + n) rest andThen withNodes (take (4 * n) t))
+      behind (read rest) = unfold _andThen_ in nodes-behind (take (4 * n) t) (nodesFrom 1024 0 (3 + n) rest)
+      behind (stopped why k) = unfold _andThen_ proofAhead in refl
 
 -- ---- the whole
 
@@ -226,16 +219,9 @@ module _ (n j k : ℕ) (text : List ℕ) where
   unfolding readProof
   proof-short h e = text-short _ readProofLines text h e
 
-  module _ (h : length text ≤ textLimit) (e : (leb 4096 n and leb 9216 j and leb 8192 k) ≡ true) where
-    proof-full : readProof n j k text ≡ (headingAt rowHeading 1 (lines text) andThen λ rest. proofRowsFrom 1024 2 rest)
-    unfolding readProof readProofLines
-    proof-full = text-on _ readProofLines text h e
-
-    pub proof-no-heading : headingAt rowHeading 1 (lines text) ≡ stopped Heading 1 → readProof n j k text ≡ stopped Heading 1
-    proof-no-heading q = proof-full ∙ then-stops _ _ Heading 1 q
-
-    pub proof-on : (rest : List Line) → headingAt rowHeading 1 (lines text) ≡ read rest → readProof n j k text ≡ proofRowsFrom 1024 2 rest
-    proof-on rest q = proof-full ∙ then-is (headingAt rowHeading 1 (lines text)) _ rest q
+  pub proof-on : length text ≤ textLimit → (leb 4096 n and leb 9216 j and leb 8192 k) ≡ true → readProof n j k text ≡ readProofLines (lines text)
+  unfolding readProof
+  proof-on h e = text-on _ readProofLines text h e
 
 -- ---- what the reader answers
 

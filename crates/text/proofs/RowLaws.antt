@@ -21,7 +21,7 @@ use Rattle.stab.specs.declared.Refusal.the-variants.{TooMany}
 use Rattle.stab.specs.declared.Refusal.the-variants.{Line as BadLine}
 use Rattle.stab.proofs.Bools.{if-true, if-false, decide}
 use Rattle.text.specs.Here.{firstLine, afterLine, row}
-use Rattle.text.specs.Rows.{rowFront, wanted, RowEnded, RowOpen}
+use Rattle.text.specs.Rows.{rowFront, wanted, RowEnded, RowOpen, ahead}
 use Rattle.text.proofs.Lines.{lines-first, lines-nil}
 
 -- ---- how many numbers there are
@@ -106,10 +106,6 @@ values-are fits k xs = go (firstLine xs .ended) (numbers (firstLine xs .content)
     go true none = unfold valuesOf wanted lineRead in refl
     go true (some vs) = unfold valuesOf wanted in count (fits (length vs)) vs
     go false o = unfold wanted lineRead in refl
-
--- rows in front of those that are read
-unfoldable pub ahead : List ℤ → Reading (List ℤ) → Reading (List ℤ)
-ahead vs r = r andThen λ rest. read (vs ++ rest)
 
 pub ahead-none : (r : Reading (List ℤ)) → ahead [] r ≡ r
 unfolding ahead _andThen_

@@ -1,4 +1,4 @@
--- A schema text and a model text, part by part.
+-- Schema and model texts: what their readers answer.
 use Prim.Native.Nat.{ℕ, zero, suc, _+_, _*_, _-_, _/_, _<_, _≤_}
 use native.Mathlib.Omega.{arith}
 use mathlib.Core.Path.{_≡_, refl, sym, _∙_, ap, ap₂, subst}
@@ -8,21 +8,21 @@ use lib.Dec.{eqb, leb}
 use lib.IntN.{ℤ, pos}
 use lib.ListN.{length, take, drop, getD}
 use lib.Seq.{length-take-le}
-use Rattle.stab.specs.Text.{Line, lines, rowHeading, schemaHeading, pairHeading, modelHeading, textLimit, padded}
-use Rattle.stab.specs.Read.{Reading, read, stopped, _andThen_, require, headingAt, valuesAt, rowsFrom, readText}
+use Rattle.stab.specs.Text.{lines, textLimit}
+use Rattle.stab.specs.Read.{Reading, read, stopped}
 use Rattle.stab.specs.Read.{SchemaText, readSchemaLines, readSchema, schemaAnswer, schemaTable, ModelText, readModelLines, readModel, modelAnswer, pairTable, tableOf}
+use borrow.Author.Tests.{le-leb, lt-leb}
 use Rattle.stab.specs.declared.Refusal.{Refusal}
+use Rattle.stab.specs.declared.Refusal.the-variants.{TextTooLong, TableTooShort}
 use Rattle.stab.specs.declared.Place.{Place}
 use Rattle.stab.specs.declared.Place.the-variants.{Whole, At}
 use Rattle.stab.specs.declared.SchemaRead.{SchemaRead}
 use Rattle.stab.specs.declared.SchemaRead.the-variants.{Schema, Refused as SchemaRefused}
 use Rattle.stab.specs.declared.ModelRead.{ModelRead}
 use Rattle.stab.specs.declared.ModelRead.the-variants.{Model, Refused as ModelRefused}
-use Rattle.stab.proofs.Texts.Rows.{then-is}
-use Rattle.text.specs.Rows.{cleared, headedRows, openingLines, OpenedAt}
-use Rattle.text.specs.Texts.{SchemaOf, schemaRows, ModelOf, modelRows}
-use Rattle.text.proofs.RowLaws.{then-stops}
-use Rattle.text.proofs.Openings.{then-then, then-same, text-then}
+use Rattle.text.specs.Rows.{cleared}
+use Rattle.text.specs.Texts.{SchemaOf, ModelOf}
+use Rattle.text.proofs.Openings.{text-long, text-short, text-on}
 use Rattle.text.proofs.Tables.{cleared-padded}
 
 -- ---- schema: what the reader answers
@@ -45,47 +45,6 @@ module _ (r : Reading SchemaText) (t : List ℤ) where
   schema-none-kept why Whole len h p = absurd p
   schema-none-kept why (At k) len h p = cleared-padded t 0 len (omega arith) h ∙ sym (ap (schemaTable len) p)
 
--- ---- schema: the parts of its text
-
-module _ (root least : ℤ) (ls : List Line) where
-  pub schema-rows-stop : (why : Refusal) (k : ℕ) → headedRows rowHeading 4 1024 3 ls ≡ stopped why k → schemaRows root least ls ≡ stopped why k
-  unfolding schemaRows
-  schema-rows-stop why k e = then-stops (headedRows rowHeading 4 1024 3 ls) _ why k e
-
-  pub schema-rows-read : (t : List ℤ) → headedRows rowHeading 4 1024 3 ls ≡ read t → schemaRows root least ls ≡ read (record { root = root; least = least; table = t })
-  unfolding schemaRows
-  schema-rows-read t e = then-is (headedRows rowHeading 4 1024 3 ls) _ t e
-
--- after the first two lines
-schemaRest : List ℤ × List Line → Reading SchemaText
-schemaRest v = schemaRows (getD (v .0) 0 (pos 0)) (getD (v .0) 1 (pos 0)) (v .1)
-
-schema-lines : (ls : List Line) → readSchemaLines ls ≡ (openingLines schemaHeading 2 ls andThen schemaRest)
-unfolding readSchemaLines openingLines schemaRest schemaRows headedRows
-schema-lines ls =
-    then-same (headingAt schemaHeading 1 ls) _ _
-    (λ ls₁. then-same (valuesAt (eqb 2) 2 ls₁) _ _ (λ v. sym (then-then (headingAt rowHeading 3 (v .1)) _ _)))
-    ∙ sym (then-then (headingAt schemaHeading 1 ls) _ schemaRest)
-
-module _ (n : ℕ) (text : List ℕ) where
-  abbrev pub schemaOpening : Reading (List ℤ × List Line)
-  schemaOpening = readText (leb 4096 n) (openingLines schemaHeading 2) text
-
-  schema-parts : readSchema n text ≡ (schemaOpening andThen schemaRest)
-  unfolding readSchema
-  schema-parts = text-then (leb 4096 n) (openingLines schemaHeading 2) schemaRest readSchemaLines text (schema-lines (lines text))
-
-  pub schema-stop : (why : Refusal) (k : ℕ) → schemaOpening ≡ stopped why k → readSchema n text ≡ stopped why k
-  schema-stop why k e = schema-parts ∙ then-stops schemaOpening schemaRest why k e
-
-  pub schema-on : (t : List ℤ) (next : ℕ) (root least : ℤ) → OpenedAt 2 4096 schemaOpening text t next → root ≡ getD t 0 (pos 0) → least ≡ getD t 1 (pos 0)
-      → readSchema n text ≡ schemaRows root least (lines (drop next text))
-  unfolding schemaRest
-  schema-on t next root least o p q =
-      schema-parts
-      ∙ then-is schemaOpening schemaRest (o .vs, lines (drop next text)) (o .values)
-      ∙ ap₂ (λ (a b : ℤ). schemaRows a b (lines (drop next text))) (sym (p ∙ o .front 0 (pos 0) (omega arith))) (sym (q ∙ o .front 1 (pos 0) (omega arith)))
-
 -- ---- model: what the reader answers
 
 module _ (r : Reading ModelText) (t : List ℤ) where
@@ -106,42 +65,29 @@ module _ (r : Reading ModelText) (t : List ℤ) where
   model-none-kept why Whole len h p = absurd p
   model-none-kept why (At k) len h p = cleared-padded t 0 len (omega arith) h ∙ sym (ap (pairTable len) p)
 
--- ---- model: the parts of its text
-
-module _ (n : ℤ) (ls : List Line) where
-  pub model-rows-stop : (why : Refusal) (k : ℕ) → headedRows pairHeading 2 4096 3 ls ≡ stopped why k → modelRows n ls ≡ stopped why k
-  unfolding modelRows
-  model-rows-stop why k e = then-stops (headedRows pairHeading 2 4096 3 ls) _ why k e
-
-  pub model-rows-read : (t : List ℤ) → headedRows pairHeading 2 4096 3 ls ≡ read t → modelRows n ls ≡ read (record { n = n; table = t })
-  unfolding modelRows
-  model-rows-read t e = then-is (headedRows pairHeading 2 4096 3 ls) _ t e
-
-modelRest : List ℤ × List Line → Reading ModelText
-modelRest v = modelRows (getD (v .0) 0 (pos 0)) (v .1)
-
-model-lines : (ls : List Line) → readModelLines ls ≡ (openingLines modelHeading 1 ls andThen modelRest)
-unfolding readModelLines openingLines modelRest modelRows headedRows
-model-lines ls =
-    then-same (headingAt modelHeading 1 ls) _ _
-    (λ ls₁. then-same (valuesAt (eqb 1) 2 ls₁) _ _ (λ v. sym (then-then (headingAt pairHeading 3 (v .1)) _ _)))
-    ∙ sym (then-then (headingAt modelHeading 1 ls) _ modelRest)
+-- ---- what is judged before the first line
 
 module _ (n : ℕ) (text : List ℕ) where
-  abbrev pub modelOpening : Reading (List ℤ × List Line)
-  modelOpening = readText (leb 8192 n) (openingLines modelHeading 1) text
+  pub schema-long : textLimit < length text → readSchema n text ≡ stopped TextTooLong 0
+  unfolding readSchema
+  schema-long h = text-long _ readSchemaLines text h
 
-  model-parts : readModel n text ≡ (modelOpening andThen modelRest)
+  pub schema-short : length text ≤ textLimit → n < 4096 → readSchema n text ≡ stopped TableTooShort 0
+  unfolding readSchema
+  schema-short h l = text-short _ readSchemaLines text h (lt-leb 4096 n l)
+
+  pub schema-on : length text ≤ textLimit → 4096 ≤ n → readSchema n text ≡ readSchemaLines (lines text)
+  unfolding readSchema
+  schema-on h l = text-on _ readSchemaLines text h (le-leb 4096 n l)
+
+  pub model-long : textLimit < length text → readModel n text ≡ stopped TextTooLong 0
   unfolding readModel
-  model-parts = text-then (leb 8192 n) (openingLines modelHeading 1) modelRest readModelLines text (model-lines (lines text))
+  model-long h = text-long _ readModelLines text h
 
-  pub model-stop : (why : Refusal) (k : ℕ) → modelOpening ≡ stopped why k → readModel n text ≡ stopped why k
-  model-stop why k e = model-parts ∙ then-stops modelOpening modelRest why k e
+  pub model-short : length text ≤ textLimit → n < 8192 → readModel n text ≡ stopped TableTooShort 0
+  unfolding readModel
+  model-short h l = text-short _ readModelLines text h (lt-leb 8192 n l)
 
-  pub model-on : (t : List ℤ) (next : ℕ) (m : ℤ) → OpenedAt 1 8192 modelOpening text t next → m ≡ getD t 0 (pos 0)
-      → readModel n text ≡ modelRows m (lines (drop next text))
-  unfolding modelRest
-  model-on t next m o p =
-      model-parts
-      ∙ then-is modelOpening modelRest (o .vs, lines (drop next text)) (o .values)
-      ∙ ap (λ (a : ℤ). modelRows a (lines (drop next text))) (sym (p ∙ o .front 0 (pos 0) (omega arith)))
+  pub model-on : length text ≤ textLimit → 8192 ≤ n → readModel n text ≡ readModelLines (lines text)
+  unfolding readModel
+  model-on h l = text-on _ readModelLines text h (le-leb 8192 n l)

@@ -4,3 +4,4 @@ pub mod Rows
 pub mod Texts
 pub mod Nodes
 pub mod LineParts
+pub mod Awaiting

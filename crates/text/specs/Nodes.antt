@@ -1,20 +1,17 @@
 -- What the functions on node rows give.
 use Prim.Native.Nat.{ℕ, _+_, _*_, _-_, _<_, _≤_}
 use mathlib.Core.Path.{_≡_}
-use mathlib.Core.List.{List, [], _∷_}
+use mathlib.Core.List.{List, [], _∷_, _++_}
 use mathlib.Core.Option.{Option, none, some}
 use lib.Dec.{leb}
 use lib.IntN.{ℤ}
 use lib.ListN.{length, take, drop}
 use lib.Seq.{sets}
-use Rattle.stab.specs.Text.{Line, nodeHeading}
-use Rattle.stab.specs.Read.{Reading, read, stopped, _andThen_, headingAt, nodesFrom}
+use Rattle.stab.specs.Read.{Reading, read, _andThen_}
 use Rattle.text.specs.Here.{afterLine, row}
 use Rattle.text.specs.Rows.{RowEnded, wanted}
 use Rattle.text.specs.declared.nodes.NodeFound.{NodeFound}
 use Rattle.text.specs.declared.nodes.NodeFound.the-variants.{At, Nothing}
-use Rattle.text.specs.declared.nodes.Nodes.{Nodes}
-use Rattle.text.specs.declared.nodes.Nodes.the-variants.{Read, Stopped}
 
 -- the rest of a line, into the members
 abbrev pub SetOf : List ℕ → ℕ → List ℤ → ℕ → List ℤ → NodeFound → Type 0
@@ -37,11 +34,6 @@ abbrev pub NodeOf : List ℕ → ℕ → List ℤ → ℕ → List ℤ → ℕ �
 NodeOf text at t to m start t′ m′ Nothing = wanted (leb 7) (row (drop at text)) ≡ none
 NodeOf text at t to m start t′ m′ (At next last) = NodeRead text at t to m start t′ m′ next last
 
--- node rows up to the end of the text, from the tables' starts on
-abbrev pub NodesOf : Reading (List ℤ × List ℤ) → List ℤ → List ℤ → Nodes → Type 0
-NodesOf r t m (Read n k) = (r ≡ read (take (9 * n) t, take k m)) × (9 * n ≤ length t) × (k ≤ length m)
-NodesOf r t m (Stopped why k) = r ≡ stopped why k
-
--- their heading, and node rows up to the end
-unfoldable pub headedNodes : ℕ → List Line → Reading (List ℤ × List ℤ)
-headedNodes line ls = headingAt nodeHeading line ls andThen λ rest. nodesFrom 1024 0 (line + 1) rest
+-- nodes and members in front of those that are read
+unfoldable pub nodesAhead : List ℤ → List ℤ → Reading (List ℤ × List ℤ) → Reading (List ℤ × List ℤ)
+nodesAhead us vs r = r andThen λ rest. read (us ++ rest .0, vs ++ rest .1)

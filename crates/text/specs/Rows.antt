@@ -11,18 +11,12 @@ use lib.ListN.{length, take, drop, getD, replicate}
 use lib.Seq.{sets}
 use Rattle.stab.specs.Basic.{if_then_else_, _and_}
 use Rattle.stab.specs.Text.{Line, lines, sameBytes, someIf}
-use Rattle.stab.specs.Read.{Reading, read, stopped, _andThen_, headingAt, valuesAt, rowsFrom, ProofText, proofRowsFrom}
+use Rattle.stab.specs.Read.{Reading, read, _andThen_, ProofText}
 use Rattle.text.specs.Here.{firstLine, afterLine, row}
 use Rattle.text.specs.declared.rows.Part.{Part}
 use Rattle.text.specs.declared.rows.Part.the-variants.{Bad, Ended, Open}
 use Rattle.text.specs.declared.rows.Found.{Found}
 use Rattle.text.specs.declared.rows.Found.the-variants.{At, Nothing}
-use Rattle.text.specs.declared.rows.Rows.{Rows}
-use Rattle.text.specs.declared.rows.Rows.the-variants.{Read, Stopped}
-use Rattle.text.specs.declared.rows.Formulas.{Formulas}
-use Rattle.text.specs.declared.rows.Formulas.the-variants.{Before, Stopped as FormulasStopped}
-use Rattle.text.specs.declared.rows.Opened.{Opened}
-use Rattle.text.specs.declared.rows.Opened.the-variants.{After, Stopped as OpenStopped}
 
 -- ---- headings
 
@@ -79,50 +73,15 @@ abbrev pub RowOf : List ℕ → ℕ → List ℤ → ℕ → ℕ → List ℤ �
 RowOf text at t to w t′ Nothing = wanted (eqb w) (row (drop at text)) ≡ none
 RowOf text at t to w t′ (At next) = RowEnded text at t to t′ (to + w) next
 
--- rows of w numbers up to the end of the text, from the table's start on
-abbrev pub RowsOf : ℕ → Reading (List ℤ) → List ℤ → Rows → Type 0
-RowsOf w r t (Read n) = (r ≡ read (take (w * n) t)) × (w * n ≤ length t)
-RowsOf w r t (Stopped why k) = r ≡ stopped why k
+-- ---- rows in front of those that are read
 
--- ---- formula rows of a proof
+unfoldable pub ahead : List ℤ → Reading (List ℤ) → Reading (List ℤ)
+ahead vs r = r andThen λ rest. read (vs ++ rest)
 
--- rows in front of those that are read
 unfoldable pub proofAhead : List ℤ → Reading ProofText → Reading ProofText
 proofAhead vs r = r andThen λ p. read (record { table = vs ++ p .table; nodes = p .nodes; members = p .members })
 
--- n rows stand in front of the table, and the text after them starts at a place, with `u` or at its end.
-pub record FormulasRead (text : List ℕ) (at : ℕ) (t : List ℤ) (n next : ℕ) : Type 0 where
-  pub rows : proofRowsFrom 1024 2 (lines (drop at text)) ≡ proofAhead (take (4 * n) t) (proofRowsFrom (1024 - n) (2 + n) (lines (drop next text)))
-  pub few : n ≤ 1024
-  pub room : 4 * n ≤ length t
-  pub within : next ≤ length text
-  pub stops : (length text ≤ next) ⊎ (getD text next 256 ≡ 117)
-
-abbrev pub FormulasOf : List ℕ → ℕ → List ℤ → Formulas → Type 0
-FormulasOf text at t (Before n next) = FormulasRead text at t n next
-FormulasOf text at t (FormulasStopped why k) = proofRowsFrom 1024 2 (lines (drop at text)) ≡ stopped why k
-
--- ---- parts of a text
-
--- a heading, and rows up to the end
-unfoldable pub headedRows : List ℕ → ℕ → ℕ → ℕ → List Line → Reading (List ℤ)
-headedRows h w most line ls = headingAt h line ls andThen λ rest. rowsFrom w most (line + 1) rest
-
--- the first heading, and the line of values after it
-unfoldable pub openingLines : List ℕ → ℕ → List Line → Reading (List ℤ × List Line)
-openingLines h w ls = headingAt h 1 ls andThen λ rest. valuesAt (eqb w) 2 rest
-
--- The values were read and stand in front of the table, and the rest of the text starts at a place.
-pub record OpenedAt (w size : ℕ) (r : Reading (List ℤ × List Line)) (text : List ℕ) (t : List ℤ) (next : ℕ) : Type 0 where
-  pub vs : List ℤ
-  pub values : r ≡ read (vs, lines (drop next text))
-  pub front : (i : ℕ) (d : ℤ) → i < w → getD t i d ≡ getD vs i d
-  pub within : next ≤ length text
-  pub full : size ≤ length t
-
-abbrev pub OpenedOf : ℕ → ℕ → Reading (List ℤ × List Line) → List ℕ → List ℤ → Opened → Type 0
-OpenedOf w size r text t (After next) = OpenedAt w size r text t next
-OpenedOf w size r text t (OpenStopped why k) = r ≡ stopped why k
+-- ---- lent tables
 
 -- a table with 0 from a place on
 unfoldable pub cleared : List ℤ → ℕ → List ℤ

@@ -1,39 +1,44 @@
 // Readers of schema, proof and model texts.
-use crate::nodes;
-use crate::nodes::Nodes;
+use crate::awaited::Awaited;
+use crate::reader;
 use crate::rows;
-use crate::rows::Formulas;
-use crate::rows::Opened;
-use crate::rows::Rows;
 use stab::ModelRead;
 use stab::Place;
 use stab::ProofRead;
 use stab::Refusal;
 use stab::SchemaRead;
-use stab::heading;
 ghost use mathlib.Core.Path.{_≡_};
-ghost use Prim.Native.Nat.{_≤_};
 ghost use lib.Dec.{leb};
-ghost use lib.ListN.{length, drop};
+ghost use lib.ListN.{length};
 ghost use Rattle.stab.specs.Basic.{_and_};
-ghost use Rattle.stab.specs.Text.{lines, textLimit};
-ghost use Rattle.stab.specs.Read.{readSchema, schemaAnswer, schemaTable, readModel, modelAnswer, pairTable, proofRowsFrom, readProof, proofAnswer, proofTable, nodeTable, memberTable};
-ghost use Rattle.text.specs.Texts.{SchemaOf, schemaRows, ModelOf, modelRows, ProofOf};
+ghost use Rattle.stab.specs.Read.{readSchema, schemaAnswer, schemaTable, readModel, modelAnswer, pairTable, readProof, proofAnswer, proofTable, nodeTable, memberTable};
+ghost use Rattle.text.specs.Texts.{SchemaOf, SchemaFrom, ModelOf, ModelFrom, ProofOf, ProofFrom};
 
-// What stands in a schema text after its second line, the root and the least value being known.
-fn schema_rows(text: &[u8], at: usize, table: &mut [i32], root: i32, least: i32) -> SchemaRead
-    requires { ⌜ (at ≤ length (now text)) × (4096 ≤ length (now table)) ⌝ }
-    ensures { λ r. ⌜ SchemaOf (schemaRows root least (lines (drop at (now (text .entry))))) (now (table .exit)) r ⌝ }
+// What the lines of a schema text came to, as an answer; no schema text comes to the last.
+fn schema_read(p: Awaited, root: i32, least: i32) -> SchemaRead
+    ensures { λ r. ⌜ SchemaFrom p root least r ⌝ }
 {
-    match rows::headed_rows(text, at, &heading::ROWS, table, 4, 1024, 3) {
-        Rows::Read(n) => SchemaRead::Schema {
+    match p {
+        Awaited::Schema { rows: n } => SchemaRead::Schema {
             root,
             least,
             rows: n,
         },
-        Rows::Stopped(why, k) => SchemaRead::Refused {
-            why,
-            place: Place::At(k),
+        Awaited::NoHeading { line } => SchemaRead::Refused {
+            why: Refusal::Heading,
+            place: Place::At(line),
+        },
+        Awaited::BadLine { line } => SchemaRead::Refused {
+            why: Refusal::Line,
+            place: Place::At(line),
+        },
+        Awaited::TooMany { line } => SchemaRead::Refused {
+            why: Refusal::TooMany,
+            place: Place::At(line),
+        },
+        _ => SchemaRead::Refused {
+            why: Refusal::Line,
+            place: Place::At(0),
         },
     }
 }
@@ -42,17 +47,22 @@ fn schema_rows(text: &[u8], at: usize, table: &mut [i32], root: i32, least: i32)
 fn schema_text(text: &[u8], table: &mut [i32]) -> SchemaRead
     ensures { λ r. ⌜ SchemaOf (readSchema (length (now (table .entry))) (now (text .entry))) (now (table .exit)) r ⌝ }
 {
-    match rows::opening(text, table, 4096, &heading::SCHEMA, 2) {
-        Opened::After(next) => {
-            let root = signed::at(table, 0);
-            let least = signed::at(table, 1);
-            schema_rows(text, next, table, root, least)
-        }
-        Opened::Stopped(why, k) => SchemaRead::Refused {
-            why,
-            place: Place::At(k),
-        },
+    if 65536 < text.len() {
+        return SchemaRead::Refused {
+            why: Refusal::TextTooLong,
+            place: Place::At(0),
+        };
     }
+    if table.len() < 4096 {
+        return SchemaRead::Refused {
+            why: Refusal::TableTooShort,
+            place: Place::At(0),
+        };
+    }
+    let mut values = [0i32; 2];
+    let mut none = [0i32; 1];
+    let p = reader::read_lines(text, Awaited::SchemaHeading, table, &mut values, &mut none);
+    schema_read(p, signed::at(&values, 0), signed::at(&values, 1))
 }
 
 // A schema text is read into a lent table.
@@ -77,16 +87,27 @@ pub fn read_schema(text: &[u8], table: &mut [i32]) -> SchemaRead
     }
 }
 
-// What stands in a model text after its second line, n being known.
-fn model_rows(text: &[u8], at: usize, table: &mut [i32], n: i32) -> ModelRead
-    requires { ⌜ (at ≤ length (now text)) × (8192 ≤ length (now table)) ⌝ }
-    ensures { λ r. ⌜ ModelOf (modelRows n (lines (drop at (now (text .entry))))) (now (table .exit)) r ⌝ }
+// What the lines of a model text came to, as an answer; no model text comes to the last.
+fn model_read(p: Awaited, n: i32) -> ModelRead
+    ensures { λ r. ⌜ ModelFrom p n r ⌝ }
 {
-    match rows::headed_rows(text, at, &heading::PAIRS, table, 2, 4096, 3) {
-        Rows::Read(k) => ModelRead::Model { n, pairs: k },
-        Rows::Stopped(why, k) => ModelRead::Refused {
-            why,
-            place: Place::At(k),
+    match p {
+        Awaited::Model { pairs: k } => ModelRead::Model { n, pairs: k },
+        Awaited::NoHeading { line } => ModelRead::Refused {
+            why: Refusal::Heading,
+            place: Place::At(line),
+        },
+        Awaited::BadLine { line } => ModelRead::Refused {
+            why: Refusal::Line,
+            place: Place::At(line),
+        },
+        Awaited::TooMany { line } => ModelRead::Refused {
+            why: Refusal::TooMany,
+            place: Place::At(line),
+        },
+        _ => ModelRead::Refused {
+            why: Refusal::Line,
+            place: Place::At(0),
         },
     }
 }
@@ -95,16 +116,22 @@ fn model_rows(text: &[u8], at: usize, table: &mut [i32], n: i32) -> ModelRead
 fn model_text(text: &[u8], table: &mut [i32]) -> ModelRead
     ensures { λ r. ⌜ ModelOf (readModel (length (now (table .entry))) (now (text .entry))) (now (table .exit)) r ⌝ }
 {
-    match rows::opening(text, table, 8192, &heading::MODEL, 1) {
-        Opened::After(next) => {
-            let n = signed::at(table, 0);
-            model_rows(text, next, table, n)
-        }
-        Opened::Stopped(why, k) => ModelRead::Refused {
-            why,
-            place: Place::At(k),
-        },
+    if 65536 < text.len() {
+        return ModelRead::Refused {
+            why: Refusal::TextTooLong,
+            place: Place::At(0),
+        };
     }
+    if table.len() < 8192 {
+        return ModelRead::Refused {
+            why: Refusal::TableTooShort,
+            place: Place::At(0),
+        };
+    }
+    let mut values = [0i32; 1];
+    let mut none = [0i32; 1];
+    let p = reader::read_lines(text, Awaited::ModelHeading, table, &mut values, &mut none);
+    model_read(p, signed::at(&values, 0))
 }
 
 // A model text is read into a lent table.
@@ -125,45 +152,6 @@ pub fn read_model(text: &[u8], table: &mut [i32]) -> ModelRead
     }
 }
 
-// What stands in a proof text after its first heading.
-fn proof_rows(
-    text: &[u8],
-    at: usize,
-    table: &mut [i32],
-    nodes: &mut [i32],
-    members: &mut [i32],
-) -> ProofRead
-    requires { ⌜ (at ≤ length (now text)) × (length (now text) ≤ textLimit) × (4096 ≤ length (now table)) × (9216 ≤ length (now nodes)) × (8192 ≤ length (now members)) ⌝ }
-    ensures { λ r. ⌜ ProofOf (proofRowsFrom 1024 2 (lines (drop at (now (text .entry))))) (now (table .exit)) (now (nodes .exit)) (now (members .exit)) r ⌝ }
-{
-    match rows::formula_rows(text, at, table) {
-        Formulas::Before { rows: n, next } => match nodes::headed_nodes(
-            text,
-            next,
-            nodes,
-            members,
-            2 + n,
-        ) {
-            Nodes::Read {
-                nodes: j,
-                members: k,
-            } => ProofRead::Proof {
-                rows: n,
-                nodes: j,
-                members: k,
-            },
-            Nodes::Stopped(why, k) => ProofRead::Refused {
-                why,
-                place: Place::At(k),
-            },
-        },
-        Formulas::Stopped(why, k) => ProofRead::Refused {
-            why,
-            place: Place::At(k),
-        },
-    }
-}
-
 // All three lent tables have their full size.
 fn full(table: &[i32], nodes: &[i32], members: &[i32]) -> bool
     ensures { λ r. ⌜ r ≡ (leb 4096 (length (now (table .entry))) and leb 9216 (length (now (nodes .entry))) and leb 8192 (length (now (members .entry)))) ⌝ }
@@ -175,6 +163,39 @@ fn full(table: &[i32], nodes: &[i32], members: &[i32]) -> bool
         return false;
     }
     8192 <= members.len()
+}
+
+// What the lines of a proof text came to, as an answer; no proof text comes to the last.
+fn proof_read(p: Awaited) -> ProofRead
+    ensures { λ r. ⌜ ProofFrom p r ⌝ }
+{
+    match p {
+        Awaited::Proof {
+            rows: n,
+            nodes: j,
+            members: k,
+        } => ProofRead::Proof {
+            rows: n,
+            nodes: j,
+            members: k,
+        },
+        Awaited::NoHeading { line } => ProofRead::Refused {
+            why: Refusal::Heading,
+            place: Place::At(line),
+        },
+        Awaited::BadLine { line } => ProofRead::Refused {
+            why: Refusal::Line,
+            place: Place::At(line),
+        },
+        Awaited::TooMany { line } => ProofRead::Refused {
+            why: Refusal::TooMany,
+            place: Place::At(line),
+        },
+        _ => ProofRead::Refused {
+            why: Refusal::Line,
+            place: Place::At(0),
+        },
+    }
 }
 
 // A proof text whose rows, nodes and members are stored in front; what stands past them is no matter.
@@ -193,14 +214,7 @@ fn proof_text(text: &[u8], table: &mut [i32], nodes: &mut [i32], members: &mut [
             place: Place::At(0),
         };
     }
-    let next = rows::heading(text, 0, &heading::ROWS);
-    if next == 0 {
-        return ProofRead::Refused {
-            why: Refusal::Heading,
-            place: Place::At(1),
-        };
-    }
-    proof_rows(text, next, table, nodes, members)
+    proof_read(reader::read_lines(text, Awaited::ProofHeading, table, nodes, members))
 }
 
 // A proof text is read into lent tables: its formula rows, its nodes and the members of their sets.

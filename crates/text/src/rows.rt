@@ -1,16 +1,12 @@
 // Lines of a text: headings, and rows of numbers that go into a lent table.
 use crate::numerals;
 use crate::numerals::Step;
-use stab::Refusal;
 ghost use mathlib.Core.Path.{_≡_};
 ghost use mathlib.Core.Bool.{true};
-ghost use Prim.Native.Nat.{_+_, _*_, _≤_, _<_, _^_};
-ghost use lib.Dec.{leb};
-ghost use lib.ListN.{length, drop};
+ghost use Prim.Native.Nat.{_+_, _≤_, _<_, _^_};
+ghost use lib.ListN.{length};
 ghost use Rattle.stab.proofs.Texts.Lines.{lacks};
-ghost use Rattle.text.specs.Rows.{afterHeading, PartOf, RowOf, RowsOf, FormulasOf, OpenedOf, headedRows, openingLines, cleared};
-ghost use Rattle.stab.specs.Text.{lines};
-ghost use Rattle.stab.specs.Read.{rowsFrom, readText};
+ghost use Rattle.text.specs.Rows.{afterHeading, PartOf, RowOf, cleared};
 
 // The place after a heading's line, if that line stands at a place; 0 if not.
 pub fn heading(text: &[u8], at: usize, h: &[u8]) -> usize
@@ -85,123 +81,6 @@ pub fn row_at(text: &[u8], at: usize, table: &mut [i32], to: usize, w: usize) ->
             }
         }
         Part::Open { next: _ } => Found::Nothing,
-    }
-}
-
-// What reading rows comes to: how many there are, or a refusal at a line.
-pub enum Rows {
-    Read(usize),
-    Stopped(Refusal, usize),
-}
-
-// Rows of w numbers, from a place to the end of the text, go into a lent table; at most `most`, the first of them line `line`.
-pub fn rows_from(
-    text: &[u8],
-    at: usize,
-    table: &mut [i32],
-    w: usize,
-    most: usize,
-    line: usize,
-) -> Rows
-    requires { ⌜ (at ≤ length (now text)) × (w * most ≤ length (now table)) × (w * most + w < 2 ^ 32) × (line < 2 ^ 32) ⌝ }
-    ensures { λ r. ⌜ RowsOf w (rowsFrom w most line (lines (drop at (now (text .entry))))) (now (table .exit)) r ⌝ }
-{
-    let mut i = at;
-    let mut n = 0;
-    while i < text.len() {
-        match row_at(text, i, table, w * n, w) {
-            Found::Nothing => {
-                return Rows::Stopped(Refusal::Line, line + n);
-            }
-            Found::At(next) => {
-                i = next;
-            }
-        }
-        if n == most {
-            return Rows::Stopped(Refusal::TooMany, line + n);
-        }
-        n += 1;
-    }
-    Rows::Read(n)
-}
-
-// What reading the formula rows of a proof comes to: how many there are, and the place of the line after them; or a refusal at a line.
-pub enum Formulas {
-    Before { rows: usize, next: usize },
-    Stopped(Refusal, usize),
-}
-
-// Formula rows of a proof text from a place on, up to a line that starts with `u` or the end of the text; the first of them is line 2.
-pub fn formula_rows(text: &[u8], at: usize, table: &mut [i32]) -> Formulas
-    requires { ⌜ (at ≤ length (now text)) × (4096 ≤ length (now table)) ⌝ }
-    ensures { λ r. ⌜ FormulasOf (now (text .entry)) at (now (table .exit)) r ⌝ }
-{
-    let mut i = at;
-    let mut n = 0;
-    while i < text.len() {
-        if numerals::byte_at(text, i) == 117 {
-            return Formulas::Before { rows: n, next: i };
-        }
-        match row_at(text, i, table, 4 * n, 4) {
-            Found::Nothing => {
-                return Formulas::Stopped(Refusal::Line, 2 + n);
-            }
-            Found::At(next) => {
-                i = next;
-            }
-        }
-        if n == 1024 {
-            return Formulas::Stopped(Refusal::TooMany, 2 + n);
-        }
-        n += 1;
-    }
-    Formulas::Before { rows: n, next: i }
-}
-
-// A heading at a place, line `line` of the text, and then rows of w numbers up to the end, which go into a lent table.
-pub fn headed_rows(
-    text: &[u8],
-    at: usize,
-    h: &[u8],
-    table: &mut [i32],
-    w: usize,
-    most: usize,
-    line: usize,
-) -> Rows
-    requires { ⌜ (at ≤ length (now text)) × (lacks 10 (now h) ≡ true) × (w * most ≤ length (now table)) × (w * most + w < 2 ^ 32) × (line + 1 < 2 ^ 32) ⌝ }
-    ensures { λ r. ⌜ RowsOf w (headedRows (now (h .entry)) w most line (lines (drop at (now (text .entry))))) (now (table .exit)) r ⌝ }
-{
-    let next = heading(text, at, h);
-    if next == 0 {
-        return Rows::Stopped(Refusal::Heading, line);
-    }
-    rows_from(text, next, table, w, most, line + 1)
-}
-
-// What reading the start of a text comes to: the place after it, or a refusal at a line.
-pub enum Opened {
-    After(usize),
-    Stopped(Refusal, usize),
-}
-
-// The start of a text: its first heading and a line of w numbers, which go to the front of a lent table; `size` is the table's full size.
-pub fn opening(text: &[u8], table: &mut [i32], size: usize, h: &[u8], w: usize) -> Opened
-    requires { ⌜ (lacks 10 (now h) ≡ true) × (w ≤ size) × (size < 2 ^ 32) ⌝ }
-    ensures { λ r. ⌜ OpenedOf w size (readText (leb size (length (now (table .entry)))) (openingLines (now (h .entry)) w) (now (text .entry))) (now (text .entry)) (now (table .exit)) r ⌝ }
-{
-    if 65536 < text.len() {
-        return Opened::Stopped(Refusal::TextTooLong, 0);
-    }
-    if table.len() < size {
-        return Opened::Stopped(Refusal::TableTooShort, 0);
-    }
-    let at = heading(text, 0, h);
-    if at == 0 {
-        return Opened::Stopped(Refusal::Heading, 1);
-    }
-    match row_at(text, at, table, 0, w) {
-        Found::At(next) => Opened::After(next),
-        Found::Nothing => Opened::Stopped(Refusal::Line, 2),
     }
 }
 
