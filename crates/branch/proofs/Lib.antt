@@ -6,4 +6,5 @@ pub mod ParentLaws
 pub mod Parts
 pub mod SetLaws
 pub mod SetRefusals
+pub mod WalkLaws
 pub mod WorkLaws

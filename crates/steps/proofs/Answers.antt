@@ -25,6 +25,11 @@ unfolding _or_
 or-first-false true b h = absurd (true≢false h)
 or-first-false false b h = refl
 
+pub or-last-false : (a b : Bool) → b ≡ false → (a or b) ≡ a
+unfolding _or_
+or-last-false true b h = refl
+or-last-false false b h = h
+
 pub implies-made : (a b : Bool) → a ≡ true → b ≡ (a implies b)
 unfolding _implies_
 implies-made true b h = refl

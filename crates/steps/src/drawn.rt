@@ -112,7 +112,8 @@ fn is_given(
     false
 }
 
-// z may stand in the set of a child of node p.
+// z may stand in the set of a child of node p, whose own set has `size` members from `start` on. Most members of a child's set
+// stand in its parent's, and `near` tells where: a wrong hint costs a search.
 fn may_stand(
     schema: &[i32],
     proof: &[i32],
@@ -121,18 +122,22 @@ fn may_stand(
     t: Counts,
     p: usize,
     rank: usize,
+    start: usize,
+    size: usize,
+    near: usize,
     z: usize,
 ) -> bool
-    requires { ⌜ p < 2 ^ 32 ⌝ }
+    requires { ⌜ (p < 2 ^ 32) × (start ≡ nat (nodeAt (now nodes) p .start)) × (size ≡ nat (nodeAt (now nodes) p .size)) ⌝ }
     requires { ⌜ SetHeld (now nodes) (now members) p ⌝ }
     ensures { λ v. ⌜ v ≡ drawnFrom (lent (now (schema .entry)) (now (proof .entry)) (now (nodes .entry)) (now (members .entry)) t) p rank (pos z) ⌝ }
 {
-    let start = node::natural_of(nodes, p, fields::START);
-    let size = node::natural_of(nodes, p, fields::SIZE);
-    if member::stands(members, start, size, z) {
+    if member::stands_at(members, start, size, near, z) {
         return true;
     }
-    is_given(schema, proof, nodes, t, p, rank, z)
+    if is_given(schema, proof, nodes, t, p, rank, z) {
+        return true;
+    }
+    member::stands(members, start, size, z)
 }
 
 // The set of node j is drawn from its parent's set and what the parent's rule gives.
@@ -153,10 +158,26 @@ pub fn is_drawn(
     let rank = kept::kept_at(work, 4 * j);
     let start = node::natural_of(nodes, j, fields::START);
     let size = node::natural_of(nodes, j, fields::SIZE);
+    let above = node::natural_of(nodes, p, fields::START);
+    let above_size = node::natural_of(nodes, p, fields::SIZE);
+    let mut near: usize = 0;
     let mut i: usize = 0;
     while i < size {
         let z = signed::natural_at(members, start + i);
-        if !may_stand(schema, proof, nodes, members, t, p, rank, z) {
+        near = member::walked(members, above, above_size, near, z);
+        if !may_stand(
+            schema,
+            proof,
+            nodes,
+            members,
+            t,
+            p,
+            rank,
+            above,
+            above_size,
+            near,
+            z,
+        ) {
             return false;
         }
         i += 1;
