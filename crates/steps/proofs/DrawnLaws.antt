@@ -1,14 +1,16 @@
 -- What a rule gives to a child, answer by answer as the code finds it.
-use Prim.Native.Nat.{ℕ, zero, suc}
+use Prim.Native.Nat.{ℕ, zero, suc, _+_, _≤_}
 use native.Mathlib.Omega.{arith}
 use mathlib.Core.Path.{_≡_, refl, sym, _∙_}
 use mathlib.Core.Bool.{Bool, true, false}
 use mathlib.Core.List.{List, [], _∷_}
 use lib.IntN.{ℤ}
-use Rattle.stab.specs.Basic.{if_then_else_, _or_, eqZ, has}
-use Rattle.stab.specs.Node.{Tableau, Node, row}
+use lib.ListN.{take, drop}
+use Rattle.stab.specs.Basic.{if_then_else_, _or_, eqZ, nat, has}
+use Rattle.stab.specs.Node.{Tableau, Node, node, nodeAt, set, setOf, row}
 use Rattle.stab.specs.Rule.{ofRule, oneOf, given, drawnFrom}
 use Rattle.stab.proofs.Bools.{or-left, if-true, if-false}
+use Rattle.branch.specs.Search.{walk}
 use Rattle.steps.proofs.Answers.{or-first-false}
 
 or-false-last : (a : Bool) → a ≡ (a or false)
@@ -75,3 +77,20 @@ module _ (T : Tableau) (w : Node) (k : ℕ) where
 
 pub drawn-same : (T : Tableau) {p p′ k k′ : ℕ} {z z′ : ℤ} → p ≡ p′ → k ≡ k′ → z ≡ z′ → drawnFrom T p k z ≡ drawnFrom T p′ k′ z′
 drawn-same T a b c = cc
+
+-- a member of the parent's set, which has `size` members from `start` on
+pub drawn-above : (T : Tableau) (p k : ℕ) (z : ℤ) {start size : ℕ} → start ≡ nat (nodeAt (T .nodes) p .start) → size ≡ nat (nodeAt (T .nodes) p .size) → has z (take size (drop start (T .members))) ≡ true → drawnFrom T p k z ≡ true
+unfolding drawnFrom node set setOf
+drawn-above T p k z a b h = or-left _ _ (rw (a, b) at h)
+
+-- ---- a walk goes no further than it may
+
+if-both : (a : Bool) (x y n : ℕ) → x ≤ n → y ≤ n → (if a then x else y) ≤ n
+unfolding if_then_else_
+if-both true x y n h k = h
+if-both false x y n h k = k
+
+pub walk-bound : (xs : List ℤ) (start z k i : ℕ) → walk xs start z i k ≤ i + k
+unfolding walk
+walk-bound xs start z zero i = omega arith
+walk-bound xs start z (suc k) i = if-both _ _ _ _ (omega (arith, walk-bound xs start z k (i + 1))) (omega arith)

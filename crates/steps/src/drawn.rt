@@ -141,6 +141,7 @@ fn may_stand(
 }
 
 // The set of node j is drawn from its parent's set and what the parent's rule gives.
+// Both sets ascend: after a member of both, the next of the parent's is tried first, then what a walk finds.
 pub fn is_drawn(
     schema: &[i32],
     proof: &[i32],
@@ -164,21 +165,25 @@ pub fn is_drawn(
     let mut i: usize = 0;
     while i < size {
         let z = signed::natural_at(members, start + i);
-        near = member::walked(members, above, above_size, near, z);
-        if !may_stand(
-            schema,
-            proof,
-            nodes,
-            members,
-            t,
-            p,
-            rank,
-            above,
-            above_size,
-            near,
-            z,
-        ) {
-            return false;
+        if member::stands_at(members, above, above_size, near + 1, z) {
+            near += 1;
+        } else {
+            near = member::walked(members, above, above_size, near, z);
+            if !may_stand(
+                schema,
+                proof,
+                nodes,
+                members,
+                t,
+                p,
+                rank,
+                above,
+                above_size,
+                near,
+                z,
+            ) {
+                return false;
+            }
         }
         i += 1;
     }
