@@ -1,7 +1,18 @@
 // The check program: reads schema.txt and proof.txt, prints the verdict, and shows the line that a refusal points to.
+use libc::STDERR_FILENO;
 use libc::STDOUT_FILENO;
 
-// The line goes to standard error, after its file's name and its number.
+// Writes a file's name, a line's number and the line to standard error.
+fn tell(name: &[u8], k: usize, line: &[u8]) {
+    io::write_all(STDERR_FILENO, name);
+    io::write_all(STDERR_FILENO, b":");
+    io::print_decimal(STDERR_FILENO, k as u64);
+    io::write_all(STDERR_FILENO, b": ");
+    io::write_all(STDERR_FILENO, line);
+    io::write_all(STDERR_FILENO, b"\n");
+}
+
+// The line that a refusal points to, where there is one.
 fn show<'a>(schema: &'a [u8], proof: &'a [u8]) {
     let fault = program::check_fault(schema, proof);
     if fault.line == 0 {
@@ -9,9 +20,9 @@ fn show<'a>(schema: &'a [u8], proof: &'a [u8]) {
     }
     let line = text::line::line(schema, proof, fault.second, fault.line);
     if fault.second {
-        files::show(b"proof.txt", fault.line, line);
+        tell(b"proof.txt", fault.line, line);
     } else {
-        files::show(b"schema.txt", fault.line, line);
+        tell(b"schema.txt", fault.line, line);
     }
 }
 

@@ -1,5 +1,4 @@
-// What the programs do with files: a text is read whole, and a line of one is shown. What is read and written no contract can say.
-use libc::STDERR_FILENO;
+// What the programs do with files: a text is read whole. What is read no contract can say.
 ghost use mathlib.Core.Path.{_≡_};
 ghost use lib.ListN.{length};
 ghost use Rattle.io.specs.Counts.{Counts};
@@ -23,14 +22,4 @@ pub fn load(path: &[u8], buf: &mut [u8]) -> usize
     let n = io::read_full(fd, buf);
     libc::close(fd);
     n
-}
-
-// Writes a file's name, a line's number and the line to standard error.
-pub fn show(name: &[u8], k: usize, line: &[u8]) {
-    io::write_all(STDERR_FILENO, name);
-    io::write_all(STDERR_FILENO, b":");
-    io::print_decimal(STDERR_FILENO, k as u64);
-    io::write_all(STDERR_FILENO, b": ");
-    io::write_all(STDERR_FILENO, line);
-    io::write_all(STDERR_FILENO, b"\n");
 }
