@@ -13,7 +13,7 @@ use borrow.Author.Tests.{eqb-true, eqb-false}
 use Rattle.stab.proofs.Bools.{decide}
 use Rattle.stab.specs.Formula.{Row, tree}
 use Rattle.stab.specs.Alike.{agree}
-use Rattle.alike.specs.Compare.{changed}
+use Rattle.leaves.specs.Compare.{changed}
 use Rattle.alike.specs.Memo.{slotOf, codeOf, wasSeen, remembered, Remembers}
 
 -- ---- lists

@@ -8,7 +8,7 @@ use lib.IntN.{ℤ}
 use lib.ListN.{length, getD, set}
 use Rattle.stab.specs.Formula.{Row, tree}
 use Rattle.stab.specs.Alike.{agree}
-use Rattle.alike.specs.Compare.{changed}
+use Rattle.leaves.specs.Compare.{changed}
 
 -- where rows f and g are remembered. 1021 is a prime, so that rows paired with themselves seldom fall together.
 abbrev pub slotOf : ℕ → ℕ → ℕ

@@ -1,10 +1,6 @@
 pub mod AboveLaws
 pub mod Ascending
-pub mod BoundLaws
 pub mod NodeColumns
 pub mod ParentLaws
 pub mod Parts
-pub mod SetLaws
-pub mod SetRefusals
 pub mod WalkLaws
-pub mod WorkLaws

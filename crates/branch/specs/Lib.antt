@@ -1,4 +1,3 @@
-pub mod Bounds
 pub mod Lent
 pub mod NodeColumn
 pub mod Parents

@@ -18,7 +18,7 @@ fn show<'a>(schema: &'a [u8], proof: &'a [u8]) {
     if fault.line == 0 {
         return;
     }
-    let line = text::line::line(schema, proof, fault.second, fault.line);
+    let line = line::line(schema, proof, fault.second, fault.line);
     if fault.second {
         tell(b"proof.txt", fault.line, line);
     } else {

@@ -1,5 +1,1 @@
-pub mod Parts
-pub mod Words
-pub mod Keys
-pub mod Values
 pub mod Passes

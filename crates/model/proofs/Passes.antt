@@ -33,7 +33,7 @@ use Rattle.stab.proofs.Trees.{below-nat}
 use Rattle.stab.proofs.Whole.{atom, le-of, of-le, plus-nat}
 use Rattle.formula.proofs.Columns.{joined-schema, joined-proof}
 use Rattle.model.specs.Passes.{tablesRefusal, truthRefusal}
-use Rattle.model.proofs.Parts.{minus-nat, high-is}
+use Rattle.pairs.proofs.Parts.{minus-nat, high-is}
 
 -- ---- tests
 

@@ -1,5 +1,1 @@
-pub mod Index
-pub mod Word
-pub mod Pairs
-pub mod Reading
 pub mod Passes

@@ -13,7 +13,7 @@ use Rattle.stab.specs.Check.{wholeUnless, holds}
 use Rattle.stab.specs.declared.Refusal.the-variants.{TableTooShort, TooMany, Width, False}
 use Rattle.stab.specs.declared.Verdict.{Verdict}
 use Rattle.formula.specs.Facts.{AllFormed}
-use Rattle.model.specs.Pairs.{Sorted}
+use Rattle.pairs.specs.Pairs.{Sorted}
 
 -- 2 and 5
 unfoldable pub tablesRefusal : List ℤ → ℕ → List ℤ → ℕ → Option Verdict

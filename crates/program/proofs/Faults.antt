@@ -14,7 +14,7 @@ use Rattle.stab.specs.Program.{tableauOf, modelOf, checkPoints, modelPoints, ve
 use Rattle.stab.proofs.Packed.{check-packs, model-packs}
 use Rattle.stab.proofs.Texts.Kinds.{proof-lines-are}
 use Rattle.stab.proofs.Texts.Outcomes.{passed}
-use Rattle.program.specs.Outcomes.{afterSchema, checkAfter, checkOutcome, modelAfter, modelOutcome}
+use Rattle.outcome.specs.Outcomes.{afterSchema, checkAfter, checkOutcome, modelAfter, modelOutcome}
 use Rattle.program.specs.Faults.{checkedFault, modelledFault, Few}
 
 check-points-at : (s : Reading SchemaText) (p : Reading ProofText)

@@ -9,7 +9,7 @@ use Rattle.stab.specs.Read.{Reading, read, stopped, SchemaText, ProofText, Mode
 use Rattle.stab.specs.Answer.{verdictNumbers, Packs}
 use Rattle.stab.specs.Program.{printed, tableauOf, modelOf, afterReading, checkProgram, modelProgram}
 use Rattle.stab.proofs.Packed.{check-packs, model-packs}
-use Rattle.program.specs.Outcomes.{verdictOf, afterSchema, checkAfter, checkOutcome, modelAfter, modelOutcome}
+use Rattle.outcome.specs.Outcomes.{verdictOf, afterSchema, checkAfter, checkOutcome, modelAfter, modelOutcome}
 use Rattle.program.proofs.LineBounds.{Under, schema-under, proof-under, model-under}
 
 -- ---- what is printed

@@ -19,8 +19,8 @@ use Rattle.stab.specs.declared.Verdict.{Verdict}
 use Rattle.stab.specs.declared.Verdict.the-variants.{Accepted, Refused}
 use Rattle.stab.proofs.Bools.{and-both}
 use Rattle.stab.proofs.Packed.{number-range}
-use Rattle.writing.specs.Over.{over}
-use Rattle.writing.proofs.Spreads.{row-length, spread-most}
+use Rattle.digits.specs.Over.{over}
+use Rattle.output.proofs.Spreads.{row-length, spread-most}
 use Rattle.program.specs.Printing.{numberRow, printedRow, Counts}
 
 -- ---- a text over zeros

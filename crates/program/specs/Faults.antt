@@ -5,8 +5,8 @@ use Rattle.stab.specs.Program.{inFirst, inSecond, checkPoints, modelPoints, ver
 use Rattle.stab.specs.declared.Fault.{Fault}
 use Rattle.stab.specs.declared.Place.{Place}
 use Rattle.stab.specs.declared.Place.the-variants.{Whole, At}
-use Rattle.program.specs.declared.outcome.Outcome.{Outcome}
-use Rattle.program.specs.declared.outcome.Outcome.the-variants.{First, Second, Judged}
+use Rattle.outcome.specs.declared.Outcome.{Outcome}
+use Rattle.outcome.specs.declared.Outcome.the-variants.{First, Second, Judged}
 
 -- the place of a refusal in reading is a line
 abbrev pub placeLine : Place → ℕ

@@ -1,10 +1,9 @@
 // Where a refusal points: a text, and a line in it.
-use crate::outcome::Outcome;
+use outcome::Outcome;
 use stab::Fault;
 use stab::Place;
 use stab::Refusal;
 use stab::Verdict;
-use text::line;
 ghost use mathlib.Core.Path.{_≡_};
 ghost use Prim.Native.Nat.{_<_, _^_};
 ghost use Rattle.stab.specs.Answer.{Packs};

@@ -1,12 +1,11 @@
 // The programs as functions: two texts in, what is printed out.
 mod fault;
-mod outcome;
 mod print;
 
-use crate::outcome::check_outcome;
-use crate::outcome::model_outcome;
-use crate::outcome::verdict;
 use crate::print::print;
+use outcome::check_outcome;
+use outcome::model_outcome;
+use outcome::verdict;
 use stab::Fault;
 ghost use mathlib.Core.Path.{_≡_};
 ghost use lib.ListN.{length};

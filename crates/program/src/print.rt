@@ -56,9 +56,9 @@ fn put(row: &[i32], out: &mut [u8]) -> usize
     requires { ⌜ (1 ≤ length (now row)) × (allOf fiveDigits (now row) ≡ true) × (length (printedRow (now row)) ≤ length (now out)) ⌝ }
     ensures { λ r. ⌜ (r ≡ length (printedRow (now (row .entry)))) × (now (out .exit) ≡ padded 0 (length (now (out .entry))) (printedRow (now (row .entry)))) ⌝ }
 {
-    writing::clear(out);
-    let at = writing::put_heading(out, &HEADING);
-    at + writing::put_row(&mut out[at..], row)
+    output::clear(out);
+    let at = output::put_heading(out, &HEADING);
+    at + output::put_row(&mut out[at..], row)
 }
 
 // A verdict is printed into 64 bytes, which is always room enough; 0 past the last of them.

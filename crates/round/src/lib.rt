@@ -24,7 +24,7 @@ pub fn schema_again(text: &[u8], table: &mut [i32], out: &mut [u8]) -> Written
             writing::write_schema(table, rows, root, least, out)
         }
         SchemaRead::Refused { why, place } => {
-            writing::clear(out);
+            output::clear(out);
             Written::Refused { why, place }
         }
     }
@@ -51,7 +51,7 @@ pub fn proof_again(
             members: member_count,
         } => writing::write_proof(table, rows, nodes, node_rows, members, member_count, out),
         ProofRead::Refused { why, place } => {
-            writing::clear(out);
+            output::clear(out);
             Written::Refused { why, place }
         }
     }
@@ -69,7 +69,7 @@ pub fn model_again(text: &[u8], pairs: &mut [i32], out: &mut [u8]) -> Written
             pairs: pair_rows,
         } => writing::write_model(n, pairs, pair_rows, out),
         ModelRead::Refused { why, place } => {
-            writing::clear(out);
+            output::clear(out);
             Written::Refused { why, place }
         }
     }

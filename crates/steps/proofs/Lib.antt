@@ -1,12 +1,4 @@
-pub mod Answers
-pub mod BoundSteps
-pub mod DrawnLaws
-pub mod FieldLaws
-pub mod FieldParts
-pub mod HeldLaws
-pub mod LimitLaws
 pub mod LoweredLaws
 pub mod PartnerLaws
 pub mod ReadyLaws
-pub mod RuleLaws
 pub mod StepLaws

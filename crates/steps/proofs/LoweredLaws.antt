@@ -13,7 +13,7 @@ use Rattle.stab.specs.Node.{Tableau}
 use Rattle.stab.specs.Rule.{isLowered, hasLowered}
 use Rattle.stab.proofs.Bools.{or-left, or-right, or-false}
 use Rattle.stab.proofs.Alikes.{agree-true}
-use Rattle.branch.proofs.SetLaws.{fails}
+use Rattle.sets.proofs.SetLaws.{fails}
 
 -- ---- lowering keeps the size
 

@@ -11,8 +11,8 @@ use Rattle.stab.specs.Node.{Tableau, Node, node, row}
 use Rattle.stab.specs.Rule.{ofRule, shortened, isInstance, partnersFit}
 use Rattle.stab.proofs.Bools.{or-cases}
 use Rattle.stab.proofs.Whole.{atom, num, _⊕_, eq-of, of-eq, eqZ-true, plus-nat}
-use Rattle.alike.proofs.Compares.{minus-nat, test-same}
-use Rattle.steps.proofs.Answers.{first-fails, second-decides, implies-made, implies-spared}
+use Rattle.leaves.proofs.Compares.{minus-nat, test-same}
+use Rattle.fields.proofs.Answers.{first-fails, second-decides, implies-made, implies-spared}
 
 -- w = o + 1
 pub next-test : (w o : ℤ) → eqb (nat w + nat (negℤ o)) (nat o + nat (negℤ w) + 1) ≡ eqZ w (o +ℤ pos 1)

@@ -22,11 +22,11 @@ use Rattle.branch.specs.Parents.{upFits, AllUpFit}
 use Rattle.steps.specs.Ready.{Ready}
 use Rattle.branch.specs.Sets.{placeFits}
 use Rattle.branch.proofs.AboveLaws.{above-none}
-use Rattle.steps.proofs.HeldLaws.{set-length}
+use Rattle.drawn.proofs.HeldLaws.{set-length}
 use Rattle.branch.proofs.ParentLaws.{later-up, parent-less}
 use Rattle.branch.proofs.Parts.{natural-of, is-natural, below-0}
-use Rattle.branch.proofs.SetLaws.{at-all, place-start, place-next, place-within}
-use Rattle.branch.proofs.SetRefusals.{outer-below}
+use Rattle.sets.proofs.SetLaws.{at-all, place-start, place-next, place-within}
+use Rattle.sets.proofs.SetRefusals.{outer-below}
 
 -- ---- sets
 

@@ -1,5 +1,4 @@
 // The lowered rows of a link: refusal 16.
-use crate::fields;
 use branch::counts::Counts;
 use branch::kept;
 use branch::node;

@@ -1,5 +1,4 @@
 // `with` and `other` of an unfolding: refusal 15.
-use crate::fields;
 use branch::counts::Counts;
 use branch::node;
 ghost use mathlib.Core.Path.{_≡_};
@@ -45,10 +44,10 @@ fn is_shortened(schema: &[i32], s: usize, proof: &[i32], on: usize, with: usize)
     requires { ⌜ offset (joined (now schema) s (now proof) with .c) ≡ true ⌝ }
     ensures { λ v. ⌜ v ≡ shortened (joined (now (schema .entry)) s (now (proof .entry)) on) (joined (now (schema .entry)) s (now (proof .entry)) with) ⌝ }
 {
-    if !alike::compare::same_in(schema, s, proof, with, 1, on, 1) {
+    if !leaves::same_in(schema, s, proof, with, 1, on, 1) {
         return false;
     }
-    if !alike::compare::same_in(schema, s, proof, with, 2, on, 2) {
+    if !leaves::same_in(schema, s, proof, with, 2, on, 2) {
         return false;
     }
     is_next(schema, s, proof, on, with)

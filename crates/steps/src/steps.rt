@@ -1,14 +1,11 @@
 // The judgement of nodes, one by one: refusals 11 to 17.
-use crate::drawn;
-use crate::fields;
-use crate::limits;
 use crate::lowered;
 use crate::partners;
-use crate::rules;
 use branch::above;
 use branch::counts::Counts;
 use branch::kept;
 use branch::node;
+use fields::rules;
 use stab::Finding;
 use stab::Place;
 use stab::Refusal;
@@ -150,7 +147,7 @@ fn step(
 }
 
 // What is found of node j.
-pub fn judge(
+fn judge(
     schema: &[i32],
     proof: &[i32],
     nodes: &[i32],

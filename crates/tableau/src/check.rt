@@ -79,7 +79,7 @@ fn nodes_pass(
     requires { ⌜ AllKnown (joined (now schema) s (now proof)) (now facts) (s + p) ⌝ }
     ensures { λ r. ⌜ finding r ≡ nodesRefusal (tableau (now (schema .entry)) s (now (proof .entry)) p root least (now (nodes .entry)) k (now (members .entry)) m) ⌝ }
 {
-    let found = branch::sets::sets(facts, s + p, nodes, k, members, m);
+    let found = sets::sets(facts, s + p, nodes, k, members, m);
     let Finding::Nothing = found else {
         return found;
     };
@@ -89,7 +89,7 @@ fn nodes_pass(
             place: Place::Whole,
         };
     }
-    branch::parents::parents(nodes, k, members, root)
+    sets::parents::parents(nodes, k, members, root)
 }
 
 // Refusals 6 to 10. Where nothing is found, all is ready for single steps to be judged.
@@ -131,7 +131,7 @@ fn ready(
     let Finding::Nothing = found else {
         return found;
     };
-    branch::bounds::work_out(nodes, k, least, work);
+    bounds::work_out(nodes, k, least, work);
     Finding::Nothing
 }
 

@@ -1,8 +1,2 @@
-// The texts of schemas, proofs and models: read, and a line by its number.
-mod awaited;
-pub mod line;
-mod nodes;
-mod numerals;
+// The texts of schemas, proofs and models, read.
 pub mod read;
-mod reader;
-mod rows;

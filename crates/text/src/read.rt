@@ -1,7 +1,7 @@
 // Readers of schema, proof and model texts.
-use crate::awaited::Awaited;
-use crate::reader;
-use crate::rows;
+use reading::awaited::Awaited;
+use reading::reader;
+use rowlines::rows;
 use stab::ModelRead;
 use stab::Place;
 use stab::ProofRead;
@@ -12,7 +12,7 @@ ghost use lib.Dec.{leb};
 ghost use lib.ListN.{length};
 ghost use Rattle.stab.specs.Basic.{_and_};
 ghost use Rattle.stab.specs.Read.{readSchema, schemaAnswer, schemaTable, readModel, modelAnswer, pairTable, readProof, proofAnswer, proofTable, nodeTable, memberTable};
-ghost use Rattle.text.specs.Texts.{SchemaOf, SchemaFrom, ModelOf, ModelFrom, ProofOf, ProofFrom};
+ghost use Rattle.reading.specs.Texts.{SchemaOf, SchemaFrom, ModelOf, ModelFrom, ProofOf, ProofFrom};
 
 // What the lines of a schema text came to, as an answer; no schema text comes to the last.
 fn schema_read(p: Awaited, root: i32, least: i32) -> SchemaRead

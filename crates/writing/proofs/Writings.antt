@@ -15,8 +15,8 @@ use Rattle.stab.specs.declared.Refusal.the-variants.{TableTooShort, TooMany, Nu
 use Rattle.stab.specs.declared.Written.{Written}
 use Rattle.stab.specs.declared.Written.the-variants.{Text}
 use Rattle.stab.proofs.Bools.{and-both, and-first-false, and-second-false, otherwise-none, otherwise-some, none-unless, some-unless}
-use Rattle.writing.specs.Over.{over}
-use Rattle.writing.proofs.Overs.{padded-over}
+use Rattle.digits.specs.Over.{over}
+use Rattle.digits.proofs.Overs.{padded-over}
 
 -- two tests that have passed leave the third
 pub both-held : (a b d : Bool) → a ≡ true → b ≡ true → (a and b and d) ≡ d

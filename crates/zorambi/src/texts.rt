@@ -150,6 +150,6 @@ pub extern "C" fn zorambi_write_model(
 pub extern "C" fn zorambi_line(text: &[u8], k: usize, span: &mut [usize; 2])
     ensures { λ r. ⌜ now (span .exit) ≡ lineSpan (now (text .entry)) k .start ∷ lineSpan (now (text .entry)) k .len ∷ [] ⌝ }
 {
-    let s = text::line::span_of(text, k);
+    let s = line::span_of(text, k);
     *span = [s.start, s.len];
 }

@@ -16,9 +16,9 @@ use Rattle.stab.specs.Model.{listed}
 use Rattle.stab.specs.Check.{finding}
 use Rattle.stab.proofs.Bools.{false-of-not, true-of-not}
 use Rattle.model.specs.Passes.{truthRefusal}
-use Rattle.model.specs.Index.{unbiased}
-use Rattle.model.proofs.Parts.{unbiased-zero}
-use Rattle.model.proofs.Words.{word-one}
+use Rattle.pairs.specs.Index.{unbiased}
+use Rattle.pairs.proofs.Parts.{unbiased-zero}
+use Rattle.pairs.proofs.Words.{word-one}
 use Rattle.model.proofs.Passes.{n-small, whole-none, found-last, found-here, found-later}
 use Rattle.model.proofs.truth_pass.Statement.{statement}
 use Rattle.model.proofs.truth_pass.Tie as tie

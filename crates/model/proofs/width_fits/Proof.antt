@@ -11,7 +11,7 @@ use Rattle.stab.specs.Basic.{nat}
 use Rattle.stab.proofs.Bools.{and-first-false}
 use Rattle.signed.proofs.Signs.{nat-small}
 use Rattle.formula.proofs.RowLaws.{and-true}
-use Rattle.model.proofs.Parts.{high-is}
+use Rattle.pairs.proofs.Parts.{high-is}
 use Rattle.model.proofs.Passes.{order-is, under-small}
 use Rattle.model.proofs.width_fits.Statement.{statement}
 use Rattle.model.proofs.width_fits.Tie as tie

@@ -5,8 +5,8 @@ use borrow.Author.Needs.{needs}
 use mathlib.Core.Path.{_≡_, refl, sym, _∙_, ap}
 use lib.IntN.{pos}
 use lib.ListN.{length, replicate, length-set}
-use Rattle.text.specs.Rows.{cleared}
-use Rattle.text.proofs.Tables.{cleared-more, cleared-done}
+use Rattle.rowlines.specs.Rows.{cleared}
+use Rattle.rowlines.proofs.Tables.{cleared-more, cleared-done}
 use Rattle.round.proofs.clear.Statement.{statement}
 use Rattle.round.proofs.clear.Tie as tie
 

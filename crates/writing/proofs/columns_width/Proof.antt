@@ -5,9 +5,9 @@ use native.Mathlib.Numerals.{add-one}
 use mathlib.Core.Path.{_≡_, refl, _∙_, ap}
 use borrow.Author.Needs.{needs}
 use lib.ListN.{length, take, drop}
-use Rattle.writing.specs.Over.{spread}
-use Rattle.writing.specs.NodeTexts.{columnsWidth}
-use Rattle.writing.proofs.NodeRows.{columns-most}
+use Rattle.digits.specs.Over.{spread}
+use Rattle.output.specs.NodeTexts.{columnsWidth}
+use Rattle.output.proofs.NodeRows.{columns-most}
 use Rattle.writing.proofs.columns_width.Statement.{statement}
 use Rattle.writing.proofs.columns_width.Tie as tie
 

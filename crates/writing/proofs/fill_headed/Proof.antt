@@ -5,10 +5,10 @@ use mathlib.Core.List.{List}
 use borrow.Author.Needs.{needs}
 use lib.ListN.{length, take}
 use lib.Seq.{length-take-le}
-use Rattle.writing.specs.Over.{spread}
-use Rattle.writing.specs.Headed.{headedText}
-use Rattle.writing.proofs.Spreads.{spread-most}
-use Rattle.writing.proofs.HeadedTexts.{headed-length}
+use Rattle.digits.specs.Over.{spread}
+use Rattle.output.specs.Headed.{headedText}
+use Rattle.output.proofs.Spreads.{spread-most}
+use Rattle.output.proofs.HeadedTexts.{headed-length}
 use Rattle.writing.proofs.Writings.{no-room, too-long, fitting, answered, finished}
 use Rattle.writing.proofs.fill_headed.Statement.{statement}
 use Rattle.writing.proofs.fill_headed.Tie as tie

@@ -6,9 +6,9 @@ use borrow.Author.Needs.{needs}
 use lib.ListN.{length, take}
 use lib.Seq.{length-take-le}
 use Rattle.stab.specs.Write.{proofText}
-use Rattle.writing.specs.Over.{spread}
-use Rattle.writing.proofs.Spreads.{spread-most}
-use Rattle.writing.proofs.NodeRows.{columns-most, proof-length}
+use Rattle.digits.specs.Over.{spread}
+use Rattle.output.proofs.Spreads.{spread-most}
+use Rattle.output.proofs.NodeRows.{columns-most, proof-length}
 use Rattle.writing.proofs.Writings.{no-room, too-long, fitting, answered, finished}
 use Rattle.writing.proofs.fill_proof.Statement.{statement}
 use Rattle.writing.proofs.fill_proof.Tie as tie

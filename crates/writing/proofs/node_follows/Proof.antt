@@ -5,7 +5,7 @@ use borrow.Author.Needs.{needs}
 use lib.IntN.{pos}
 use lib.ListN.{getD}
 use Rattle.stab.specs.Basic.{eqZ}
-use Rattle.writing.proofs.NodeRows.{start-other, under-none, under-some, negative-not, start-same, start-fails, size-fails, node-is}
+use Rattle.output.proofs.NodeRows.{start-other, under-none, under-some, negative-not, start-same, start-fails, size-fails, node-is}
 use Rattle.writing.proofs.node_follows.Statement.{statement}
 use Rattle.writing.proofs.node_follows.Tie as tie
 

@@ -12,7 +12,7 @@ use Rattle.stab.specs.Basic.{_and_, nat}
 use Rattle.stab.specs.Node.{setStart, setFollows}
 use Rattle.stab.specs.Write.{nodeWritable, nodesWritable}
 use Rattle.stab.proofs.Bools.{and-left, and-first-false}
-use Rattle.writing.proofs.NodeRows.{nodes-not, nodes-more, step-start, ends-same}
+use Rattle.output.proofs.NodeRows.{nodes-not, nodes-more, step-start, ends-same}
 use Rattle.writing.proofs.nodes_follow.Statement.{statement}
 use Rattle.writing.proofs.nodes_follow.Tie as tie
 

@@ -6,7 +6,7 @@ use lib.Dec.{leb}
 use lib.ListN.{length}
 use Rattle.stab.specs.Check.{holds}
 use Rattle.stab.proofs.Bools.{and-first-false, and-second-false}
-use Rattle.writing.proofs.HeadedTexts.{held-of, not-held}
+use Rattle.output.proofs.HeadedTexts.{held-of, not-held}
 use Rattle.writing.proofs.Writings.{both-held}
 use Rattle.writing.proofs.proof_held.Statement.{statement}
 use Rattle.writing.proofs.proof_held.Tie as tie

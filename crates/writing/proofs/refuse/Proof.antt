@@ -1,7 +1,7 @@
 use mathlib.Core.Path.{refl, _∙_}
 use borrow.Author.Needs.{needs}
 use Rattle.stab.specs.Write.{written, output}
-use Rattle.writing.proofs.Overs.{padded-none}
+use Rattle.digits.proofs.Overs.{padded-none}
 use Rattle.writing.proofs.refuse.Statement.{statement}
 use Rattle.writing.proofs.refuse.Tie as tie
 

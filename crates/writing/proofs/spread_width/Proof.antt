@@ -10,8 +10,8 @@ use lib.ListN.{length, take, getD, length-append}
 use lib.Seq.{take-all}
 use Rattle.signed.proofs.Signs.{read-back}
 use Rattle.stab.specs.Text.{decimal}
-use Rattle.writing.specs.Over.{spread}
-use Rattle.writing.proofs.Spreads.{spread-more, spread-most, spread-part, one-length}
+use Rattle.digits.specs.Over.{spread}
+use Rattle.output.proofs.Spreads.{spread-more, spread-most, spread-part, one-length}
 use Rattle.writing.proofs.spread_width.Statement.{statement}
 use Rattle.writing.proofs.spread_width.Tie as tie
 

@@ -12,7 +12,7 @@ use lib.Seq.{take-all}
 use Rattle.signed.proofs.Signs.{read-back}
 use Rattle.stab.specs.Basic.{allOf}
 use Rattle.stab.specs.Text.{fiveDigits}
-use Rattle.writing.proofs.Spreads.{all-more, all-not}
+use Rattle.output.proofs.Spreads.{all-more, all-not}
 use Rattle.writing.proofs.writable.Statement.{statement}
 use Rattle.writing.proofs.writable.Tie as tie
 

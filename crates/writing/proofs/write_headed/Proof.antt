@@ -13,8 +13,8 @@ use Rattle.stab.specs.Text.{fiveDigits}
 use Rattle.stab.specs.Check.{holds}
 use Rattle.stab.specs.Write.{rowsWritable}
 use Rattle.stab.proofs.Bools.{and-both, and-first-false, and-second-false}
-use Rattle.writing.specs.Headed.{headedText, writeHeaded}
-use Rattle.writing.proofs.HeadedTexts.{held-of, not-held}
+use Rattle.output.specs.Headed.{headedText, writeHeaded}
+use Rattle.output.proofs.HeadedTexts.{held-of, not-held}
 use Rattle.writing.proofs.Writings.{too-short, too-many, no-number, left, answered}
 use Rattle.writing.proofs.write_headed.Statement.{statement}
 use Rattle.writing.proofs.write_headed.Tie as tie

@@ -5,7 +5,7 @@ use lib.IntN.{ℤ}
 use lib.ListN.{length}
 use mir.Facts.{toZ-ofZ}
 use Rattle.stab.specs.Text.{bytes, modelHeading, pairHeading}
-use Rattle.writing.proofs.HeadedTexts.{model-headed}
+use Rattle.output.proofs.HeadedTexts.{model-headed}
 use Rattle.writing.proofs.Writings.{answered}
 use Rattle.writing.proofs.write_model.Statement.{statement}
 use Rattle.writing.proofs.write_model.Tie as tie

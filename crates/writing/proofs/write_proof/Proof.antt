@@ -15,8 +15,8 @@ use Rattle.stab.specs.Check.{holds}
 use Rattle.stab.specs.Write.{rowsWritable, nodesWritable, setsWritable, proofText, writeProof}
 use Rattle.stab.proofs.Bools.{and-left, and-right}
 use Rattle.stab.proofs.Whole.{eqZ-true}
-use Rattle.writing.specs.Headed.{Writable}
-use Rattle.writing.specs.NodeTexts.{NodesWritable}
+use Rattle.output.specs.Headed.{Writable}
+use Rattle.output.specs.NodeTexts.{NodesWritable}
 use Rattle.writing.proofs.Writings.{too-short, too-many, no-number, left, answered}
 use Rattle.writing.proofs.write_proof.Statement.{statement}
 use Rattle.writing.proofs.write_proof.Tie as tie

@@ -5,7 +5,7 @@ use lib.IntN.{ℤ}
 use lib.ListN.{length}
 use mir.Facts.{toZ-ofZ}
 use Rattle.stab.specs.Text.{bytes, schemaHeading, rowHeading}
-use Rattle.writing.proofs.HeadedTexts.{schema-headed}
+use Rattle.output.proofs.HeadedTexts.{schema-headed}
 use Rattle.writing.proofs.Writings.{answered}
 use Rattle.writing.proofs.write_schema.Statement.{statement}
 use Rattle.writing.proofs.write_schema.Tie as tie

@@ -14,16 +14,16 @@ use Rattle.stab.specs.Formula.{Row, joined, tree, wellFormed}
 use Rattle.stab.specs.Alike.{agree}
 use Rattle.stab.proofs.Bools.{false-of-not, true-of-not, and-both, and-first-false, and-second-false}
 use Rattle.formula.specs.Column.{column}
-use Rattle.alike.specs.Compare.{changed}
+use Rattle.leaves.specs.Compare.{changed}
 use Rattle.formula.specs.Facts.{AllFormed}
 use Rattle.alike.specs.Memo.{remembered, Remembers}
-use Rattle.alike.proofs.Compares.{literal-range, limit-offset, junction-falls, iteration-falls, kinds-differ, constants-agree, literals-agree, junctions-agree, iterations-agree, row-agrees, fewer-formed}
+use Rattle.leaves.proofs.Compares.{literal-range, limit-offset, junction-falls, iteration-falls, kinds-differ, constants-agree, literals-agree, junctions-agree, iterations-agree, row-agrees, fewer-formed}
 use Rattle.alike.proofs.Remembering.{seen-agrees, seen-more}
 use Rattle.alike.proofs.compare.agrees.Reads as agrees
 use Rattle.alike.proofs.compare.agrees.Kinds as agrees-kinds
 use Rattle.alike.proofs.compare.+agrees.Lts-agrees as agrees-lts
-use Rattle.alike.proofs.compare.literals_agree.Reads as literals-agree-reads
-use Rattle.alike.proofs.compare.ranges_agree.Reads as ranges-agree-reads
+use Rattle.leaves.proofs.literals_agree.Reads as literals-agree-reads
+use Rattle.leaves.proofs.ranges_agree.Reads as ranges-agree-reads
 use Rattle.alike.proofs.memo.remember.Reads as remember-reads
 use Rattle.alike.proofs.memo.was_seen.Reads as was-seen-reads
 use Rattle.formula.proofs.natural_in.Reads as natural-in-reads

@@ -7,8 +7,8 @@ use lib.IntN.{ℤ, pos, _-ℤ_}
 use Rattle.stab.specs.Formula.{Row, joined, tree, wellFormed}
 use Rattle.stab.specs.Alike.{instance, agree}
 use Rattle.formula.specs.Column.{column}
-use Rattle.alike.specs.Compare.{changed}
-use Rattle.alike.proofs.Compares.{whole-parts, offset-small, limit-offset, iteration-falls, fewer-formed}
+use Rattle.leaves.specs.Compare.{changed}
+use Rattle.leaves.proofs.Compares.{whole-parts, offset-small, limit-offset, iteration-falls, fewer-formed}
 use Rattle.alike.proofs.Remembering.{nothing-seen}
 use Rattle.alike.proofs.compare.is_instance.Statement.{statement}
 use Rattle.alike.proofs.compare.is_instance.Tie as tie

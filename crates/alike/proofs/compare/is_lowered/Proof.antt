@@ -8,9 +8,9 @@ use Rattle.signed.proofs.Signs.{nat-small}
 use Rattle.stab.specs.Basic.{nat}
 use Rattle.stab.specs.Formula.{Row, joined, tree}
 use Rattle.stab.specs.Alike.{lower, agree}
-use Rattle.alike.specs.Compare.{changed}
+use Rattle.leaves.specs.Compare.{changed}
 use Rattle.alike.specs.Memo.{Remembers}
-use Rattle.alike.proofs.Compares.{whole-parts, under-small}
+use Rattle.leaves.proofs.Compares.{whole-parts, under-small}
 use Rattle.alike.proofs.compare.is_lowered.Statement.{statement}
 use Rattle.alike.proofs.compare.is_lowered.Tie as tie
 

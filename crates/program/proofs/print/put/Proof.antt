@@ -6,8 +6,8 @@ use mathlib.Core.List.{List, _++_}
 use borrow.Author.Needs.{needs}
 use lib.ListN.{length, length-append, length-replicate}
 use Rattle.stab.specs.Text.{bytes, rowLine, headingLine}
-use Rattle.writing.specs.Over.{over}
-use Rattle.writing.proofs.Overs.{Room, lent-start, lent-room, lent-over, lent-count, count-fits}
+use Rattle.digits.specs.Over.{over}
+use Rattle.digits.proofs.Overs.{Room, lent-start, lent-room, lent-over, lent-count, count-fits}
 use Rattle.program.specs.Printing.{printedRow}
 use Rattle.program.proofs.Prints.{over-zeros}
 use Rattle.program.proofs.print.put.Statement.{statement}

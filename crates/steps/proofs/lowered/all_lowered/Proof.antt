@@ -17,9 +17,9 @@ use Rattle.stab.proofs.Trees.{below-nat, below-pos}
 use Rattle.alike.specs.Memo.{Remembers}
 use Rattle.alike.proofs.Remembering.{nothing-seen}
 use Rattle.branch.specs.Lent.{lent}
-use Rattle.steps.proofs.Answers.{refused, passed}
-use Rattle.steps.proofs.HeldLaws.{set-length, member-nat}
-use Rattle.branch.proofs.SetLaws.{all-at, at-all, fails}
+use Rattle.fields.proofs.Answers.{refused, passed}
+use Rattle.drawn.proofs.HeldLaws.{set-length, member-nat}
+use Rattle.sets.proofs.SetLaws.{all-at, at-all, fails}
 use Rattle.steps.proofs.lowered.all_lowered.Statement.{statement}
 use Rattle.steps.proofs.lowered.all_lowered.Tie as tie
 

@@ -15,7 +15,7 @@ use Rattle.stab.specs.Rule.{isLowered, hasLowered}
 use Rattle.stab.proofs.Trees.{below-nat}
 use Rattle.alike.specs.Memo.{Remembers}
 use Rattle.branch.specs.Lent.{lent}
-use Rattle.steps.proofs.HeldLaws.{set-length, member-nat}
+use Rattle.drawn.proofs.HeldLaws.{set-length, member-nat}
 use Rattle.steps.proofs.LoweredLaws.{lowered-at, lowered-nowhere}
 use Rattle.stab.specs.Formula.{joined, tree}
 use Rattle.stab.specs.Alike.{lower, agree}

@@ -2,7 +2,7 @@ use borrow.Author.Needs.{needs}
 use mathlib.Core.Path.{_∙_}
 use Rattle.stab.specs.Rule.{shortened}
 use Rattle.formula.specs.Column.{column}
-use Rattle.steps.proofs.Answers.{refused, passed, first-fails, second-fails, third-decides}
+use Rattle.fields.proofs.Answers.{refused, passed, first-fails, second-fails, third-decides}
 use Rattle.steps.proofs.partners.is_shortened.Statement.{statement}
 use Rattle.steps.proofs.partners.is_shortened.Tie as tie
 

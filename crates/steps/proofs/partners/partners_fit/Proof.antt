@@ -9,8 +9,8 @@ use Rattle.stab.specs.Formula.{joined}
 use Rattle.stab.specs.Node.{Tableau, node, row, rows, rowCount, formula}
 use Rattle.stab.specs.Rule.{ofRule, isInstance}
 use Rattle.branch.specs.Lent.{lent}
-use Rattle.steps.proofs.Answers.{refused, passed}
-use Rattle.steps.proofs.BoundSteps.{Ranged, unfold-on, unfold-with, unfold-kind, unfold-other}
+use Rattle.fields.proofs.Answers.{refused, passed}
+use Rattle.limits.proofs.BoundSteps.{Ranged, unfold-on, unfold-with, unfold-kind, unfold-other}
 use Rattle.steps.proofs.PartnerLaws.{unfolding-number, no-partners, not-shortened, instance-decides}
 use Rattle.steps.proofs.partners.partners_fit.Statement.{statement}
 use Rattle.steps.proofs.partners.partners_fit.Tie as tie

@@ -9,8 +9,8 @@ use Rattle.stab.specs.Node.{Tableau, node, nodeAt, childCount}
 use Rattle.stab.specs.Rule.{ruleOf, rule, childrenFit}
 use Rattle.stab.specs.Check.{finding, stepRefusal}
 use Rattle.branch.specs.Lent.{lent}
-use Rattle.steps.proofs.Answers.{refused, passed}
-use Rattle.steps.proofs.FieldParts.{fields-known}
+use Rattle.fields.proofs.Answers.{refused, passed}
+use Rattle.fields.proofs.FieldParts.{fields-known}
 use Rattle.steps.proofs.StepLaws.{fields-passed, step-found, children-found, node-passes}
 use Rattle.steps.proofs.steps.judge.Statement.{statement}
 use Rattle.steps.proofs.steps.judge.Tie as tie

@@ -4,7 +4,7 @@ use mathlib.Core.Path.{sym, _∙_}
 use Rattle.stab.specs.Node.{node, nodeAt, set}
 use Rattle.stab.specs.Rule.{ofRule, loweredFits}
 use Rattle.signed.proofs.Signs.{read-back}
-use Rattle.steps.proofs.Answers.{refused, passed, implies-made, implies-spared}
+use Rattle.fields.proofs.Answers.{refused, passed, implies-made, implies-spared}
 use Rattle.steps.proofs.steps.lowered_fits.Statement.{statement}
 use Rattle.steps.proofs.steps.lowered_fits.Tie as tie
 

@@ -6,8 +6,8 @@ use mathlib.Core.List.{[]}
 use Rattle.stab.specs.Node.{Tableau, node, row, rows, rowCount, bound, formula}
 use Rattle.stab.specs.Rule.{drawn, fieldsFit, targetFits, boundFits, partnersFit, isInstance}
 use Rattle.branch.specs.Lent.{lent, FieldsKnown}
-use Rattle.steps.proofs.Answers.{refused, passed}
-use Rattle.steps.proofs.FieldParts.{fields-known, fields-bare}
+use Rattle.fields.proofs.Answers.{refused, passed}
+use Rattle.fields.proofs.FieldParts.{fields-known, fields-bare}
 use Rattle.steps.proofs.ReadyLaws.{set-held, set-of-rows, ups, child-known, target-less}
 use Rattle.steps.proofs.StepLaws.{drawn-found, fields-found, target-found, bound-found, partner-found, lowered-found, nothing-found}
 use Rattle.steps.proofs.steps.step.Statement.{statement}

@@ -5,7 +5,7 @@ use mathlib.Core.Path.{sym, _∙_, ap}
 use lib.IntN.{ℤ, pos}
 use Rattle.stab.specs.Node.{isAncestor}
 use Rattle.stab.specs.Rule.{ofRule}
-use Rattle.steps.proofs.Answers.{refused, passed, implies-made, implies-spared}
+use Rattle.fields.proofs.Answers.{refused, passed, implies-made, implies-spared}
 use Rattle.branch.proofs.Parts.{is-natural}
 use Rattle.steps.proofs.ReadyLaws.{no-ancestor}
 use Rattle.steps.proofs.steps.target_fits.Statement.{statement}

@@ -14,7 +14,7 @@ use Rattle.stab.specs.declared.Refusal.the-variants.{Parent}
 use Rattle.stab.proofs.Findings.{stays, nothing-found, later}
 use Rattle.branch.specs.Work.{tableau}
 use Rattle.tableau.specs.Passes.{nodesRefusal}
-use Rattle.branch.proofs.SetRefusals.{sets-known, set-within}
+use Rattle.sets.proofs.SetRefusals.{sets-known, set-within}
 use Rattle.tableau.proofs.CheckLaws.{whole-found, whole-passes}
 use Rattle.tableau.proofs.check.nodes_pass.Statement.{statement}
 use Rattle.tableau.proofs.check.nodes_pass.Tie as tie

@@ -1,0 +1,158 @@
+-- Bounds, ranks and numbers of children, from node to node.
+use Prim.Native.Nat.{ℕ, zero, suc, _+_, _<_, _≤_}
+use native.Mathlib.Omega.{arith}
+use native.Mathlib.Numerals.{add-one}
+use mathlib.Core.Path.{_≡_, refl, sym, _∙_, ap}
+use mathlib.Core.Bool.{Bool, true, false}
+use mathlib.Core.List.{List}
+use lib.IntN.{ℤ, pos, negsuc, negℤ}
+use lib.Signed.{ltZ}
+use borrow.Author.Tests.{le-ltb}
+use Rattle.stab.specs.Basic.{_and_, if_then_else_, eqZ, nat, below, count}
+use Rattle.stab.specs.Node.{Bound, nodeAt, names, childCountOf, rank, splitBound, childBound, firstBound, boundIf, boundN, boundOf}
+use Rattle.stab.proofs.Bools.{and-first-false, and-second-false, if-true, if-false}
+use Rattle.stab.proofs.Whole.{eqZ-of, eqZ-not}
+use Rattle.stab.proofs.Scans.{count-true, count-false, count-le}
+use Rattle.stab.proofs.Trees.{below-nat}
+use Rattle.branch.specs.Parents.{upFits, AllUpFit}
+use Rattle.branch.proofs.Parts.{natural-of, under-of}
+use Rattle.branch.proofs.ParentLaws.{first-up, parent-less}
+
+-- ---- the bound of a node, by its parent's
+
+boundIf-same : (v : Bool) (nodes : List ℤ) (least : ℤ) (f g : ℕ → Bound) (j : ℕ) → (v ≡ true → f (nat (nodeAt nodes j .up)) ≡ g (nat (nodeAt nodes j .up))) → boundIf v nodes least f j ≡ boundIf v nodes least g j
+unfolding boundIf
+boundIf-same true nodes least f g j h = ap (λ (B : Bound). childBound (nodeAt nodes (nat (nodeAt nodes j .up)) .rule) B (rank nodes j)) (h refl)
+boundIf-same false nodes least f g j h = refl
+
+-- more steps than the node's number make no difference
+boundN-same : (nodes : List ℤ) (least : ℤ) (k l j : ℕ) → j < k → j < l → boundN nodes least k j ≡ boundN nodes least l j
+unfolding boundN
+boundN-same nodes least zero l j p q = absurd (omega arith)
+boundN-same nodes least (suc k) zero j p q = absurd (omega arith)
+boundN-same nodes least (suc k) (suc l) j p q =
+    boundIf-same (below j (nodeAt nodes j .up)) nodes least (boundN nodes least k) (boundN nodes least l) j
+    (λ h. boundN-same nodes least k l (nat (nodeAt nodes j .up)) (omega (arith, below-nat j (nodeAt nodes j .up) h)) (omega (arith, below-nat j (nodeAt nodes j .up) h)))
+
+pub bound-is : (nodes : List ℤ) (least : ℤ) (j : ℕ) → boundOf nodes least j ≡ boundIf (below j (nodeAt nodes j .up)) nodes least (boundOf nodes least) j
+unfolding boundOf boundN
+bound-is nodes least j =
+    boundIf-same (below j (nodeAt nodes j .up)) nodes least (boundN nodes least j) (boundOf nodes least) j
+    (λ h. boundN-same nodes least j (suc (nat (nodeAt nodes j .up))) (nat (nodeAt nodes j .up)) (below-nat j (nodeAt nodes j .up) h) (omega arith))
+
+pub below-none : (z : ℤ) → below 0 z ≡ false
+unfolding below
+below-none (pos n) = and-second-false _ (ltZ (pos n) (pos 0)) (le-ltb n 0 (omega arith))
+below-none (negsuc n) = and-first-false _ _ refl
+
+pub bound-first : (nodes : List ℤ) (least : ℤ) → boundOf nodes least 0 ≡ firstBound least
+unfolding boundIf
+bound-first nodes least =
+    bound-is nodes least 0 ∙ ap (λ (v : Bool). boundIf v nodes least (boundOf nodes least) 0) (below-none (nodeAt nodes 0 .up))
+
+module _ (nodes : List ℤ) (least : ℤ) (j : ℕ) where
+  pub bound-child :
+      below j (nodeAt nodes j .up) ≡ true
+      → boundOf nodes least j ≡ childBound (nodeAt nodes (nat (nodeAt nodes j .up)) .rule) (boundOf nodes least (nat (nodeAt nodes j .up))) (rank nodes j)
+  unfolding boundIf
+  bound-child h = bound-is nodes least j ∙ ap (λ (v : Bool). boundIf v nodes least (boundOf nodes least) j) h
+
+-- what a child's bound is, by its parent's rule and its rank
+module _ (z : ℤ) (B : Bound) (k : ℕ) where
+  pub child-same : eqZ z (pos 2) ≡ false → childBound z B k ≡ B
+  unfolding childBound
+  child-same h = if-false (eqZ z (pos 2)) (splitBound B k) B h
+
+  child-split : eqZ z (pos 2) ≡ true → childBound z B k ≡ splitBound B k
+  unfolding childBound
+  child-split h = if-true (eqZ z (pos 2)) (splitBound B k) B h
+
+  pub child-first : eqZ z (pos 2) ≡ true → k ≡ 0 → childBound z B k ≡ record { exact = true; L = B .L }
+  unfolding splitBound
+  child-first h e = child-split h ∙ ap (splitBound B) e
+
+split-second : (B : Bound) (k : ℕ) → (k ≡ 0 → ⊥) → splitBound B k ≡ record { exact = false; L = B .L + 1 }
+unfolding splitBound
+split-second B zero f = absurd (f refl)
+split-second B (suc k) f = ap (λ (n : ℕ). record { exact = false; L = n }) (sym (add-one (B .L)))
+
+pub child-second : (z : ℤ) (B : Bound) (k : ℕ) → eqZ z (pos 2) ≡ true → (k ≡ 0 → ⊥) → childBound z B k ≡ record { exact = false; L = B .L + 1 }
+child-second z B k h f = child-split z B k h ∙ split-second B k f
+
+-- a bound is at most one more than its parent's
+split-le : (B : Bound) (k : ℕ) → splitBound B k .L ≤ B .L + 1
+unfolding splitBound
+split-le B zero = omega arith
+split-le B (suc k) = omega arith
+
+child-le : (z : ℤ) (B : Bound) (k : ℕ) → childBound z B k .L ≤ B .L + 1
+unfolding childBound if_then_else_
+child-le z B k = go (eqZ z (pos 2))
+  where
+    go : (v : Bool) → (if v then splitBound B k else B) .L ≤ B .L + 1
+    go true = split-le B k
+    go false = omega arith
+
+boundN-le : (nodes : List ℤ) (least : ℤ) (k j : ℕ) → boundN nodes least k j .L ≤ nat least + j
+unfolding boundN boundIf firstBound
+boundN-le nodes least zero j = omega arith
+boundN-le nodes least (suc k) j = go (below j (nodeAt nodes j .up)) refl (boundN-le nodes least k (nat (nodeAt nodes j .up)))
+  where
+    go :
+        (v : Bool)
+        → below j (nodeAt nodes j .up) ≡ v
+        → boundN nodes least k (nat (nodeAt nodes j .up)) .L ≤ nat least + nat (nodeAt nodes j .up)
+        → boundIf v nodes least (boundN nodes least k) j .L ≤ nat least + j
+    go true e h =
+        omega (
+          arith,
+          below-nat j (nodeAt nodes j .up) e,
+          child-le (nodeAt nodes (nat (nodeAt nodes j .up)) .rule) (boundN nodes least k (nat (nodeAt nodes j .up))) (rank nodes j),
+        )
+    go false e h = omega arith
+
+pub bound-le : (nodes : List ℤ) (least : ℤ) (j : ℕ) → boundOf nodes least j .L ≤ nat least + j
+unfolding boundOf
+bound-le nodes least j = boundN-le nodes least (suc j) j
+
+-- ---- ranks and numbers of children
+
+count-none : (p : ℕ → Bool) (n : ℕ) → ((i : ℕ) → i < n → p i ≡ false) → count p n ≡ 0
+unfolding count if_then_else_
+count-none p zero h = refl
+count-none p (suc n) h =
+    ap (λ (b : Bool). if b then suc (count p n) else count p n) (h n (omega arith)) ∙ count-none p n (λ i q. h i (omega arith))
+
+module _ (nodes : List ℤ) (j : ℕ) where
+  -- the rank of a child is the number of its parent's children so far
+  pub rank-is : (u : ℕ) → nodeAt nodes j .up ≡ pos u → rank nodes j ≡ childCountOf nodes j u
+  unfolding rank childCountOf
+  rank-is u e = ap (λ (z : ℤ). count (names nodes z) j) e
+
+  pub rank-first : j ≡ 0 → rank nodes j ≡ 0
+  unfolding rank count
+  rank-first e = ap (λ (n : ℕ). count (names nodes (nodeAt nodes j .up)) n) e
+
+  pub children-more : (u : ℕ) → nodeAt nodes j .up ≡ pos u → childCountOf nodes (j + 1) u ≡ childCountOf nodes j u + 1
+  unfolding childCountOf names
+  children-more u e = count-true (names nodes (pos u)) j (eqZ-of (nodeAt nodes j .up) (pos u) e)
+
+  pub children-same : (i : ℕ) → (nodeAt nodes j .up ≡ pos i → ⊥) → childCountOf nodes (j + 1) i ≡ childCountOf nodes j i
+  unfolding childCountOf names
+  children-same i f = count-false (names nodes (pos i)) j (eqZ-not (nodeAt nodes j .up) (pos i) f)
+
+  pub children-le : (i : ℕ) → childCountOf nodes j i ≤ j
+  unfolding childCountOf
+  children-le i = count-le (names nodes (pos i)) j
+
+-- no node so far is a child of a later one
+up-not : (nodes : List ℤ) (i j : ℕ) → upFits nodes i ≡ true → i ≤ j → nodeAt nodes i .up ≡ pos j → ⊥
+unfolding nat
+up-not nodes zero j h p e =
+    omega (arith, under-of (nodeAt nodes 0 .up) j e, ap (λ (z : ℤ). nat (negℤ z)) (first-up nodes h))
+up-not nodes (suc i) j h p e =
+    omega (arith, natural-of (nodeAt nodes (suc i) .up) j e, parent-less nodes (suc i) h (omega arith))
+
+pub children-none : (nodes : List ℤ) (j : ℕ) → AllUpFit nodes (j + 1) → childCountOf nodes (j + 1) j ≡ 0
+unfolding childCountOf names
+children-none nodes j h = count-none (names nodes (pos j)) (j + 1) (λ i q. eqZ-not (nodeAt nodes i .up) (pos j) (up-not nodes i j (h i q) (omega arith)))

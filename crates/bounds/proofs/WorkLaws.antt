@@ -1,0 +1,164 @@
+-- The table of what is worked out for each node, one node more at a time.
+use Prim.Native.Nat.{ℕ, _+_, _*_, _<_, _≤_}
+use native.Mathlib.Omega.{arith}
+use mathlib.Core.Path.{_≡_, refl, sym, _∙_, ap, subst}
+use mathlib.Core.Logic.{⊎-elim}
+use mathlib.Core.List.{List}
+use lib.Dec.{eqb}
+use lib.IntN.{ℤ, pos}
+use lib.ListN.{getD, length, set, length-set}
+use lib.Seq.{getD-set-same, getD-set-other}
+use borrow.Author.Tests.{eqb-true, eqb-false}
+use Rattle.stab.specs.Basic.{nat}
+use Rattle.stab.specs.Node.{Bound, nodeAt, childCountOf, rank, childBound, firstBound, boundOf}
+use Rattle.stab.proofs.Bools.{decide}
+use Rattle.stab.proofs.Scans.{below-suc}
+use Rattle.formula.specs.Facts.{bit}
+use Rattle.bounds.specs.Bounds.{kept, Next}
+use Rattle.branch.specs.Parents.{AllUpFit}
+use Rattle.branch.specs.Work.{Worked, AllWorked}
+use Rattle.branch.proofs.Parts.{natural-of}
+use Rattle.branch.proofs.ParentLaws.{later-up, parent-less, parent-pos}
+use Rattle.bounds.proofs.BoundLaws.{bound-child, bound-le, children-le, bound-first, rank-is, rank-first, children-more, children-same, children-none}
+
+-- ---- the four numbers stored
+
+module _ (work : List ℕ) (j r l e : ℕ) where
+  abbrev one : List ℕ
+  one = set work (4 * j) r
+
+  abbrev two : List ℕ
+  two = set one (4 * j + 1) l
+
+  abbrev three : List ℕ
+  three = set two (4 * j + 2) e
+
+  kept-before : (x : ℕ) → x < 4 * j → getD (kept work j r l e) x 0 ≡ getD work x 0
+  unfolding kept
+  kept-before x p =
+      getD-set-other three (4 * j + 3) x 0 0 (λ q. omega arith)
+      ∙ getD-set-other two (4 * j + 2) x e 0 (λ q. omega arith)
+      ∙ getD-set-other one (4 * j + 1) x l 0 (λ q. omega arith)
+      ∙ getD-set-other work (4 * j) x r 0 (λ q. omega arith)
+
+  pub kept-length : length (kept work j r l e) ≡ length work
+  unfolding kept
+  kept-length = simp length-set
+
+  module _ (room : 4 * j + 3 < length work) where
+    kept-rank : getD (kept work j r l e) (4 * j) 0 ≡ r
+    unfolding kept
+    kept-rank =
+        getD-set-other three (4 * j + 3) (4 * j) 0 0 (λ q. omega arith)
+        ∙ getD-set-other two (4 * j + 2) (4 * j) e 0 (λ q. omega arith)
+        ∙ getD-set-other one (4 * j + 1) (4 * j) l 0 (λ q. omega arith)
+        ∙ getD-set-same work (4 * j) r 0 (omega arith)
+
+    kept-l : getD (kept work j r l e) (4 * j + 1) 0 ≡ l
+    unfolding kept
+    kept-l =
+        getD-set-other three (4 * j + 3) (4 * j + 1) 0 0 (λ q. omega arith)
+        ∙ getD-set-other two (4 * j + 2) (4 * j + 1) e 0 (λ q. omega arith)
+        ∙ getD-set-same one (4 * j + 1) l 0 (simp length-set (omega arith))
+
+    kept-exact : getD (kept work j r l e) (4 * j + 2) 0 ≡ e
+    unfolding kept
+    kept-exact =
+        getD-set-other three (4 * j + 3) (4 * j + 2) 0 0 (λ q. omega arith)
+        ∙ getD-set-same two (4 * j + 2) e 0 (simp length-set (omega arith))
+
+    kept-children : getD (kept work j r l e) (4 * j + 3) 0 ≡ 0
+    unfolding kept
+    kept-children = getD-set-same three (4 * j + 3) 0 0 (simp length-set (omega arith))
+
+-- ---- the first node
+
+pub work-first : (nodes : List ℤ) (least : ℤ) (work : List ℕ) → 3 < length work → AllUpFit nodes 1 → AllWorked nodes least 1 (kept work 0 0 (nat least) 0) 1
+unfolding firstBound bit
+work-first nodes least work room fits j p = subst (Worked nodes least 1 (kept work 0 0 (nat least) 0)) (sym e) first
+  where
+    e : j ≡ 0
+    e = omega arith
+
+    first : Worked nodes least 1 (kept work 0 0 (nat least) 0) 0
+    first =
+        record {
+          rank = kept-rank work 0 0 (nat least) 0 room ∙ sym (rank-first nodes 0 refl);
+          L = kept-l work 0 0 (nat least) 0 room ∙ sym (ap (λ (B : Bound). B .L) (bound-first nodes least));
+          exact = kept-exact work 0 0 (nat least) 0 room ∙ sym (ap (λ (B : Bound). bit (B .exact)) (bound-first nodes least));
+          children = kept-children work 0 0 (nat least) 0 room ∙ sym (children-none nodes 0 fits);
+        }
+
+-- ---- one node more, a child of u
+
+module _ {nodes : List ℤ} {least : ℤ} {work : List ℕ} {j u : ℕ} (next : Next nodes least work j u) where
+  pub parent-before : u < j
+  parent-before = omega (arith, next .parent, parent-less nodes j (next .fits j (omega arith)) (next .later))
+
+  up-is : nodeAt nodes j .up ≡ pos u
+  up-is = sym (parent-pos nodes j (next .fits j (omega arith)) (next .later)) ∙ ap pos (sym (next .parent))
+
+  pub l-small : getD work (4 * u + 1) 0 ≤ nat least + u
+  l-small = omega (arith, next .done u parent-before .L, bound-le nodes least u)
+
+  pub rank-small : getD work (4 * u + 3) 0 ≤ j
+  rank-small = omega (arith, next .done u parent-before .children, children-le nodes j u)
+
+  -- the rank of node j stands at its parent
+  pub rank-at : getD work (4 * u + 3) 0 ≡ rank nodes j
+  rank-at = next .done u parent-before .children ∙ sym (rank-is nodes j u up-is)
+
+  pub bound-at : (r : ℕ) → r ≡ getD work (4 * u + 3) 0 → boundOf nodes least j ≡ childBound (nodeAt nodes u .rule) (boundOf nodes least u) r
+  bound-at r e =
+      bound-child nodes least j (later-up nodes j (next .fits j (omega arith)) (next .later))
+      ∙ ap (λ (v : ℕ). childBound (nodeAt nodes v .rule) (boundOf nodes least v) (rank nodes j)) (sym (next .parent))
+      ∙ ap (childBound (nodeAt nodes u .rule) (boundOf nodes least u)) (sym (e ∙ rank-at))
+
+  module _ (r l e : ℕ) (r-is : r ≡ getD work (4 * u + 3) 0) (l-is : boundOf nodes least j .L ≡ l) (e-is : bit (boundOf nodes least j .exact) ≡ e) where
+    -- what stands anywhere but at the parent's children
+    elsewhere : (x : ℕ) → (x ≡ 4 * u + 3 → ⊥) → getD (set (kept work j r l e) (4 * u + 3) (r + 1)) x 0 ≡ getD (kept work j r l e) x 0
+    elsewhere x f = getD-set-other (kept work j r l e) (4 * u + 3) x (r + 1) 0 f
+
+    before : (x : ℕ) → x < 4 * j → (x ≡ 4 * u + 3 → ⊥) → getD (set (kept work j r l e) (4 * u + 3) (r + 1)) x 0 ≡ getD work x 0
+    before x p f = elsewhere x f ∙ kept-before work j r l e x p
+
+    children-at : (i : ℕ) → i < j → getD (set (kept work j r l e) (4 * u + 3) (r + 1)) (4 * i + 3) 0 ≡ childCountOf nodes (j + 1) i
+    children-at i p =
+        ⊎-elim
+        (λ q.
+        let v = eqb-true i u q in
+        ap (λ (x : ℕ). getD (set (kept work j r l e) (4 * u + 3) (r + 1)) x 0) (omega arith)
+        ∙ getD-set-same (kept work j r l e) (4 * u + 3) (r + 1) 0 (omega (arith, kept-length work j r l e, parent-before))
+        ∙ ap (λ (x : ℕ). x + 1) (r-is ∙ next .done u parent-before .children)
+        ∙ sym (children-more nodes j u up-is)
+        ∙ ap (childCountOf nodes (j + 1)) (sym v))
+        (λ q.
+        before (4 * i + 3) (omega arith) (λ w. eqb-false i u q (omega arith))
+        ∙ next .done i p .children
+        ∙ sym (children-same nodes j i (λ w. eqb-false i u q (omega (arith, natural-of (nodeAt nodes j .up) i w)))))
+        (decide (eqb i u))
+
+    earlier : (i : ℕ) → i < j → Worked nodes least (j + 1) (set (kept work j r l e) (4 * u + 3) (r + 1)) i
+    earlier i p =
+        record {
+          rank = before (4 * i) (omega arith) (λ w. omega arith) ∙ next .done i p .rank;
+          L = before (4 * i + 1) (omega arith) (λ w. omega arith) ∙ next .done i p .L;
+          exact = before (4 * i + 2) (omega arith) (λ w. omega arith) ∙ next .done i p .exact;
+          children = children-at i p;
+        }
+
+    last : Worked nodes least (j + 1) (set (kept work j r l e) (4 * u + 3) (r + 1)) j
+    last =
+        record {
+          rank = elsewhere (4 * j) (λ w. omega arith) ∙ kept-rank work j r l e (next .room) ∙ r-is ∙ rank-at;
+          L = elsewhere (4 * j + 1) (λ w. omega arith) ∙ kept-l work j r l e (next .room) ∙ sym l-is;
+          exact = elsewhere (4 * j + 2) (λ w. omega arith) ∙ kept-exact work j r l e (next .room) ∙ sym e-is;
+          children = elsewhere (4 * j + 3) (λ w. omega (arith, parent-before)) ∙ kept-children work j r l e (next .room) ∙ sym (children-none nodes j (next .fits));
+        }
+
+    pub work-more : AllWorked nodes least (j + 1) (set (kept work j r l e) (4 * u + 3) (r + 1)) (j + 1)
+    work-more i p =
+        ⊎-elim
+        (λ q. earlier i q)
+        (λ q. subst (Worked nodes least (j + 1) (set (kept work j r l e) (4 * u + 3) (r + 1))) (sym q) last)
+        (below-suc i j (omega arith))

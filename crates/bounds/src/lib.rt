@@ -1,0 +1,97 @@
+// What is worked out once for each node: its rank, its bound, its number of children.
+use branch::node;
+ghost use mathlib.Core.Path.{_≡_};
+ghost use mathlib.Core.Bool.{true};
+ghost use Prim.Native.Nat.{_+_, _*_, _<_, _≤_, _^_};
+ghost use lib.IntN.{pos};
+ghost use lib.ListN.{getD, length};
+ghost use Rattle.stab.specs.Basic.{within};
+ghost use Rattle.stab.specs.Node.{Bound, nodeAt, childBound};
+ghost use Rattle.formula.specs.Facts.{bit};
+ghost use Rattle.bounds.specs.Bounds.{kept, Next};
+ghost use Rattle.branch.specs.Parents.{AllUpFit};
+ghost use Rattle.branch.specs.Work.{AllWorked};
+
+// Number k of the four of node j.
+fn number_of(work: &[u32], j: usize, k: usize) -> u32
+    requires { ⌜ (4 * j + k < length (now work)) ⌝ }
+    ensures { λ r. ⌜ r ≡ getD (now (work .entry)) (4 * j + k) 0 ⌝ }
+{
+    work[4 * j + k]
+}
+
+// Stores the four numbers of node j, which has no children yet.
+fn keep(work: &mut [u32], j: usize, rank: u32, l: u32, exact: u32)
+    requires { ⌜ 4 * j + 3 < length (now work) ⌝ }
+    ensures { λ _. ⌜ now (work .exit) ≡ kept (now (work .entry)) j rank l exact ⌝ }
+{
+    work[4 * j] = rank;
+    work[4 * j + 1] = l;
+    work[4 * j + 2] = exact;
+    work[4 * j + 3] = 0;
+}
+
+// The L of a child of u, by its rank.
+fn child_l(nodes: &[i32], u: usize, l: u32, rank: u32) -> u32
+    requires { ⌜ (u < 2 ^ 31) × (l < 2 ^ 31) ⌝ }
+    ensures { λ r. ⌜ ((B : Bound) → B .L ≡ l → childBound (nodeAt (now (nodes .entry)) u .rule) B rank .L ≡ r) ⌝ }
+{
+    if !node::is_of(nodes, u, 1, 2) {
+        return l;
+    }
+    if rank == 0 {
+        return l;
+    }
+    l + 1
+}
+
+// Whether it is exact.
+fn child_exact(nodes: &[i32], u: usize, exact: u32, rank: u32) -> u32
+    requires { ⌜ u < 2 ^ 31 ⌝ }
+    ensures { λ r. ⌜ ((B : Bound) → bit (B .exact) ≡ exact → bit (childBound (nodeAt (now (nodes .entry)) u .rule) B rank .exact) ≡ r) ⌝ }
+{
+    if !node::is_of(nodes, u, 1, 2) {
+        return exact;
+    }
+    if rank == 0 {
+        return 1;
+    }
+    0
+}
+
+// Works out node j, a child of u, and counts it there.
+fn work_child(nodes: &[i32], least: usize, work: &mut [u32], j: usize, u: usize)
+    requires { ⌜ (least ≤ 9999) × (j < 1024) × Next (now nodes) (pos least) (now work) j u ⌝ }
+    ensures { λ _. ⌜ AllWorked (now (nodes .entry)) (pos least) (j + 1) (now (work .exit)) (j + 1) ⌝ }
+{
+    let rank = number_of(work, u, 3);
+    let l = child_l(nodes, u, number_of(work, u, 1), rank);
+    let exact = child_exact(nodes, u, number_of(work, u, 2), rank);
+    keep(work, j, rank, l, exact);
+    work[4 * u + 3] = rank + 1;
+}
+
+// Works out node j after the nodes before it.
+fn work_node(nodes: &[i32], least: usize, work: &mut [u32], j: usize)
+    requires { ⌜ (least ≤ 9999) × (j < 1024) × (4 * j + 3 < length (now work)) × AllUpFit (now nodes) (j + 1) × AllWorked (now nodes) (pos least) j (now work) j ⌝ }
+    ensures { λ _. ⌜ AllWorked (now (nodes .entry)) (pos least) (j + 1) (now (work .exit)) (j + 1) ⌝ }
+{
+    if j == 0 {
+        keep(work, 0, 0, least as u32, 0);
+    } else {
+        work_child(nodes, least, work, j, node::natural_of(nodes, j, 0));
+    }
+}
+
+// Fills the table `work` with the four numbers of each of k nodes.
+pub fn work_out(nodes: &[i32], k: usize, least: i32, work: &mut [u32])
+    requires { ⌜ (k ≤ 1024) × (4 * k ≤ length (now work)) × (within (pos 0) (pos 9999) least ≡ true) × AllUpFit (now nodes) k ⌝ }
+    ensures { λ _. ⌜ AllWorked (now (nodes .entry)) least k (now (work .exit)) k ⌝ }
+{
+    let l = signed::natural(least);
+    let mut j: usize = 0;
+    while j < k {
+        work_node(nodes, l, work, j);
+        j += 1;
+    }
+}

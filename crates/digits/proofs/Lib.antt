@@ -1,0 +1,2 @@
+pub mod Overs
+pub mod Decimals

@@ -1,0 +1,47 @@
+-- The tests on a node's fields, answer by answer as the code finds them.
+use Prim.Native.Nat.{ℕ, _<_, _≤_}
+use mathlib.Core.Path.{_≡_, refl, sym, _∙_}
+use mathlib.Core.Bool.{true, false}
+use lib.Dec.{ltb}
+use lib.IntN.{ℤ, pos, negsuc, negℤ}
+use lib.Signed.{leZ, ltZ}
+use Rattle.stab.specs.Basic.{_and_, eqZ, nat, below}
+use Rattle.stab.specs.Formula.{Row}
+use Rattle.stab.specs.Rule.{unused}
+use Rattle.stab.proofs.Bools.{and-left, and-first-false, if-true, if-false}
+use Rattle.stab.proofs.Trees.{below-pos}
+use Rattle.branch.specs.Lent.{fitsKind}
+use Rattle.fields.proofs.Answers.{and-first-true}
+use Rattle.branch.proofs.Parts.{at-least-0, below-0, natural-less}
+
+-- ---- kinds
+
+module _ (rows : ℕ → Row) (n : ℕ) (need z : ℤ) where
+  pub kind-unused : eqZ need unused ≡ true → eqZ z unused ≡ fitsKind rows n need z
+  unfolding fitsKind
+  kind-unused h = sym (if-true (eqZ need unused) _ _ h)
+
+  kind-used : eqZ need unused ≡ false → (below n z and eqZ (rows (nat z) .kind) need) ≡ fitsKind rows n need z
+  unfolding fitsKind
+  kind-used h = sym (if-false (eqZ need unused) _ _ h)
+
+  pub kind-none : eqZ need unused ≡ false → below n z ≡ false → false ≡ fitsKind rows n need z
+  kind-none h l = sym (and-first-false _ _ l) ∙ kind-used h
+
+  pub kind-row : eqZ need unused ≡ false → below n z ≡ true → eqZ (rows (nat z) .kind) need ≡ fitsKind rows n need z
+  kind-row h l = sym (and-first-true _ _ l) ∙ kind-used h
+
+-- ---- links
+
+pub at-least-1 : (z : ℤ) → ltb 0 (nat z) ≡ leZ (pos 1) z
+unfolding nat
+at-least-1 (pos n) = refl
+at-least-1 (negsuc n) = refl
+
+-- ---- a field that fits a kind names a row
+
+pub kind-below : (rows : ℕ → Row) (n : ℕ) (need z : ℤ) → eqZ need unused ≡ false → fitsKind rows n need z ≡ true → below n z ≡ true
+kind-below rows n need z h l = and-left _ _ (kind-used rows n need z h ∙ l)
+
+pub kind-natural : (rows : ℕ → Row) (n : ℕ) (need z : ℤ) → eqZ need unused ≡ false → fitsKind rows n need z ≡ true → pos (nat z) ≡ z
+kind-natural rows n need z h l = below-pos n z (kind-below rows n need z h l)

@@ -1,0 +1,4 @@
+pub mod Answers
+pub mod FieldLaws
+pub mod FieldParts
+pub mod RuleLaws

@@ -1,0 +1,215 @@
+// A node's fields against the rule table: refusal 12.
+pub mod rules;
+
+use branch::counts::Counts;
+use branch::member;
+use branch::node;
+use stab::Rule;
+ghost use mathlib.Core.Path.{_≡_};
+ghost use mathlib.Core.Bool.{true, false};
+ghost use Prim.Native.Nat.{_+_, _<_, _≤_, _^_};
+ghost use lib.IntN.{pos};
+ghost use Rattle.stab.specs.Basic.{_or_, eqZ, nat, below, has};
+ghost use Rattle.stab.specs.Formula.{joined};
+ghost use Rattle.stab.specs.Node.{nodeAt, setOf};
+ghost use Rattle.stab.specs.Rule.{unused, symbolFits, fieldsFit};
+ghost use Rattle.branch.specs.NodeColumn.{nodeColumn};
+ghost use Rattle.branch.specs.Lent.{lent, SetHeld, fitsKind, otherFits, linkFits, rowsFit, restFits};
+
+// The numbers of a node, by their place.
+pub const UP: usize = 0;
+
+pub const RULE: usize = 1;
+
+pub const ON: usize = 2;
+
+pub const WITH: usize = 3;
+
+pub const OTHER: usize = 4;
+
+pub const TO: usize = 5;
+
+pub const BY: usize = 6;
+
+pub const START: usize = 7;
+
+pub const SIZE: usize = 8;
+
+// The natural part of number k of node j, and how large it can be.
+pub fn small_of(nodes: &[i32], j: usize, k: usize) -> usize
+    requires { ⌜ (j < 2 ^ 32) × (k < 9) ⌝ }
+    ensures { λ v. ⌜ (v ≡ nat (nodeColumn (nodeAt (now (nodes .entry)) j) k)) × (v < 2 ^ 32) ⌝ }
+{
+    signed::small_at(nodes, 9 * j + k)
+}
+
+// Number k of node j is one of 0 .. n - 1.
+fn is_below(nodes: &[i32], j: usize, k: usize, n: usize) -> bool
+    requires { ⌜ (j < 2 ^ 32) × (k < 9) ⌝ }
+    ensures { λ r. ⌜ r ≡ below n (nodeColumn (nodeAt (now (nodes .entry)) j) k) ⌝ }
+{
+    if 0 < node::under_of(nodes, j, k) {
+        return false;
+    }
+    node::natural_of(nodes, j, k) < n
+}
+
+// It stands in the node's set.
+fn in_set(nodes: &[i32], members: &[i32], j: usize, k: usize) -> bool
+    requires { ⌜ (j < 2 ^ 32) × (k < 9) ⌝ }
+    requires { ⌜ SetHeld (now nodes) (now members) j ⌝ }
+    requires { ⌜ pos (nat (nodeColumn (nodeAt (now nodes) j) k)) ≡ nodeColumn (nodeAt (now nodes) j) k ⌝ }
+    ensures { λ r. ⌜ r ≡ has (nodeColumn (nodeAt (now (nodes .entry)) j) k) (setOf (now (members .entry)) (nodeAt (now (nodes .entry)) j)) ⌝ }
+{
+    let start = node::natural_of(nodes, j, START);
+    let size = node::natural_of(nodes, j, SIZE);
+    member::stands(members, start, size, node::natural_of(nodes, j, k))
+}
+
+// It is unused if no kind is needed, and else names a row of the kind.
+fn kind_fits(
+    schema: &[i32],
+    proof: &[i32],
+    nodes: &[i32],
+    t: Counts,
+    j: usize,
+    k: usize,
+    need: i32,
+) -> bool
+    requires { ⌜ (j < 2 ^ 32) × (k < 9) ⌝ }
+    requires { ⌜ t .schema + t .proof ≤ 1024 ⌝ }
+    ensures { λ r. ⌜ r ≡ fitsKind (joined (now (schema .entry)) (t .schema) (now (proof .entry))) (t .schema + t .proof) need (nodeColumn (nodeAt (now (nodes .entry)) j) k) ⌝ }
+{
+    if signed::equal(need, -1) {
+        return node::is_of(nodes, j, k, -1);
+    }
+    if !is_below(nodes, j, k, t.schema + t.proof) {
+        return false;
+    }
+    let r = node::natural_of(nodes, j, k);
+    formula::is_in(schema, t.schema, proof, r, 0, need)
+}
+
+// Where a kind is needed, `on` stands in the node's set.
+fn on_stands(nodes: &[i32], members: &[i32], j: usize, need: i32) -> bool
+    requires { ⌜ j < 2 ^ 32 ⌝ }
+    requires { ⌜ SetHeld (now nodes) (now members) j ⌝ }
+    requires { ⌜ (eqZ need unused ≡ false → pos (nat (nodeAt (now nodes) j .on)) ≡ nodeAt (now nodes) j .on) ⌝ }
+    ensures { λ r. ⌜ r ≡ (eqZ need unused or has (nodeAt (now (nodes .entry)) j .on) (setOf (now (members .entry)) (nodeAt (now (nodes .entry)) j))) ⌝ }
+{
+    if signed::equal(need, -1) {
+        return true;
+    }
+    in_set(nodes, members, j, ON)
+}
+
+// `other` names a row if it is used.
+fn other_fits(nodes: &[i32], t: Counts, j: usize, used: bool) -> bool
+    requires { ⌜ j < 2 ^ 32 ⌝ }
+    requires { ⌜ t .schema + t .proof ≤ 1024 ⌝ }
+    ensures { λ r. ⌜ r ≡ otherFits (t .schema + t .proof) (nodeAt (now (nodes .entry)) j) used ⌝ }
+{
+    if used {
+        return is_below(nodes, j, OTHER, t.schema + t.proof);
+    }
+    node::is_of(nodes, j, OTHER, -1)
+}
+
+// `by` is at least 1 if the link's fields are used; unused, `to` is -1 and `by` 0.
+fn link_fits(nodes: &[i32], j: usize, used: bool) -> bool
+    requires { ⌜ j < 2 ^ 32 ⌝ }
+    ensures { λ r. ⌜ r ≡ linkFits (nodeAt (now (nodes .entry)) j) used ⌝ }
+{
+    if used {
+        return 0 < node::natural_of(nodes, j, BY);
+    }
+    if !node::is_of(nodes, j, TO, -1) {
+        return false;
+    }
+    node::is_of(nodes, j, BY, 0)
+}
+
+// Of a clash: `with` stands in the node's set, and has the symbol of `on`.
+fn symbol_fits(
+    schema: &[i32],
+    proof: &[i32],
+    nodes: &[i32],
+    members: &[i32],
+    t: Counts,
+    j: usize,
+) -> bool
+    requires { ⌜ j < 2 ^ 32 ⌝ }
+    requires { ⌜ SetHeld (now nodes) (now members) j ⌝ }
+    requires { ⌜ (below 1024 (nodeAt (now nodes) j .on) ≡ true) × (below 1024 (nodeAt (now nodes) j .with) ≡ true) ⌝ }
+    ensures { λ r. ⌜ r ≡ symbolFits (lent (now (schema .entry)) (now (proof .entry)) (now (nodes .entry)) (now (members .entry)) t) j ⌝ }
+{
+    if !in_set(nodes, members, j, WITH) {
+        return false;
+    }
+    let on = node::natural_of(nodes, j, ON);
+    let with = node::natural_of(nodes, j, WITH);
+    leaves::same_in(schema, t.schema, proof, on, 1, with, 1)
+}
+
+// `on` and `with` are as the rule says.
+fn rows_fit(
+    schema: &[i32],
+    proof: &[i32],
+    nodes: &[i32],
+    members: &[i32],
+    t: Counts,
+    j: usize,
+    rule: Rule,
+) -> bool
+    requires { ⌜ (j < 2 ^ 32) × (t .schema + t .proof ≤ 1024) ⌝ }
+    requires { ⌜ SetHeld (now nodes) (now members) j ⌝ }
+    ensures { λ r. ⌜ r ≡ rowsFit (lent (now (schema .entry)) (now (proof .entry)) (now (nodes .entry)) (now (members .entry)) t) j rule ⌝ }
+{
+    if !kind_fits(schema, proof, nodes, t, j, ON, rule.on) {
+        return false;
+    }
+    if !on_stands(nodes, members, j, rule.on) {
+        return false;
+    }
+    kind_fits(schema, proof, nodes, t, j, WITH, rule.with)
+}
+
+// `other`, `to` and `by` are as the rule says.
+fn rest_fits(nodes: &[i32], t: Counts, j: usize, rule: Rule) -> bool
+    requires { ⌜ (j < 2 ^ 32) × (t .schema + t .proof ≤ 1024) ⌝ }
+    ensures { λ r. ⌜ r ≡ restFits (t .schema + t .proof) (nodeAt (now (nodes .entry)) j) rule ⌝ }
+{
+    if !other_fits(nodes, t, j, rule.other) {
+        return false;
+    }
+    link_fits(nodes, j, rule.link)
+}
+
+// The fields of node j are as the table says of its rule.
+pub fn fields_fit(
+    schema: &[i32],
+    proof: &[i32],
+    nodes: &[i32],
+    members: &[i32],
+    t: Counts,
+    j: usize,
+) -> bool
+    requires { ⌜ (j < 2 ^ 32) × (t .schema + t .proof ≤ 1024) ⌝ }
+    requires { ⌜ SetHeld (now nodes) (now members) j ⌝ }
+    ensures { λ r. ⌜ r ≡ fieldsFit (lent (now (schema .entry)) (now (proof .entry)) (now (nodes .entry)) (now (members .entry)) t) j ⌝ }
+{
+    if !is_below(nodes, j, RULE, 9) {
+        return false;
+    }
+    let rule = rules::rule_at(node::natural_of(nodes, j, RULE));
+    if !rows_fit(schema, proof, nodes, members, t, j, rule) {
+        return false;
+    }
+    if !rest_fits(nodes, t, j, rule) {
+        return false;
+    }
+    if node::is_of(nodes, j, RULE, 6) {
+        return symbol_fits(schema, proof, nodes, members, t, j);
+    }
+    true
+}

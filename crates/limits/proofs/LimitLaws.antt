@@ -1,0 +1,82 @@
+-- The tests on bounds and indices, by natural parts.
+use Prim.Native.Nat.{ℕ, _+_, _≤_}
+use native.Mathlib.Omega.{arith}
+use mathlib.Core.Path.{_≡_, refl, sym, _∙_, ap, ap₂}
+use mathlib.Core.Logic.{⊎-elim}
+use mathlib.Core.Bool.{Bool, true, false, not, true≢false}
+use lib.Dec.{leb, eqb}
+use lib.IntN.{ℤ, pos, negℤ, _+ℤ_, _-ℤ_}
+use lib.Signed.{leZ, ltZ}
+use borrow.Author.Tests.{le-leb, leb-true}
+use Rattle.stab.specs.Basic.{if_then_else_, eqZ, nat}
+use Rattle.stab.specs.Formula.{Row, nothing, parameter, index, baseOf}
+use Rattle.stab.specs.Meaning.{base}
+use Rattle.stab.specs.Node.{Bound}
+use Rattle.stab.specs.Rule.{indexAt, loopFits}
+use Rattle.stab.proofs.Bools.{decide, same-test}
+use Rattle.stab.proofs.Whole.{atom, num, _⊕_, _⊖_, le-of, of-le, lt-of, not-lt-of, of-not-le, eq-of, of-eq, eqZ-true, plus-nat}
+use Rattle.leaves.proofs.Compares.{minus-nat, test-same}
+
+-- L ≥ b + c
+pub reach-test : (b c : ℤ) (l : ℕ) → leb (nat b + nat c) (l + (nat (negℤ b) + nat (negℤ c))) ≡ leZ (b +ℤ c) (pos l)
+reach-test b c l =
+    same-test _ _
+    (λ h.
+    le-of (atom b ⊕ atom c) (num l)
+    (omega (
+      arith,
+      leb-true (nat b + nat c) (l + (nat (negℤ b) + nat (negℤ c))) h,
+      plus-nat b,
+      minus-nat b,
+      plus-nat c,
+      minus-nat c,
+    )))
+    (λ h. le-leb (nat b + nat c) (l + (nat (negℤ b) + nat (negℤ c))) (omega (arith, of-le (atom b ⊕ atom c) (num l) h, plus-nat b, minus-nat b, plus-nat c, minus-nat c)))
+
+-- L < b + c
+pub not-reached : (b c : ℤ) (l : ℕ) → not (leZ (b +ℤ c) (pos l)) ≡ ltZ (pos l) (b +ℤ c)
+not-reached b c l =
+    ⊎-elim
+    (λ h. ap not h ∙ sym (not-lt-of (num l) (atom b ⊕ atom c) (omega (arith, of-le (atom b ⊕ atom c) (num l) h))))
+    (λ h. ap not h ∙ sym (lt-of (num l) (atom b ⊕ atom c) (omega (arith, of-not-le (atom b ⊕ atom c) (num l) h))))
+    (decide (leZ (b +ℤ c) (pos l)))
+
+-- ---- indices
+
+module _ (b : ℤ) (l : ℕ) where
+  pub base-parameter : eqZ b (pos 1) ≡ true → pos l ≡ base l (pos 0) (baseOf b)
+  unfolding base baseOf if_then_else_ eqZ
+  base-parameter h = ap (λ (z : ℤ). base l (pos 0) (baseOf z)) (sym (eqZ-true b (pos 1) h))
+
+  pub base-other : eqZ b (pos 1) ≡ false → pos 0 ≡ base l (pos 0) (baseOf b)
+  unfolding baseOf base if_then_else_
+  base-other h = go (eqZ b (pos 0)) (eqZ b (pos 1)) h
+    where
+      go : (t u : Bool) → u ≡ false → pos 0 ≡ base l (pos 0) (if t then nothing else if u then parameter else index)
+      go true u e = refl
+      go false true e = absurd (true≢false e)
+      go false false e = refl
+
+-- the same index, for what the two are added to
+pub index-test :
+    (v w : Row) (l x y : ℕ)
+    → pos x ≡ base l (pos 0) (baseOf (v .b))
+    → pos y ≡ base l (pos 0) (baseOf (w .b))
+    → eqb (x + nat (v .c) + nat (negℤ (w .c))) (y + nat (w .c) + nat (negℤ (v .c))) ≡ eqZ (indexAt l v) (indexAt l w)
+unfolding indexAt
+index-test v w l x y e d =
+    test-same (x + nat (v .c) + nat (negℤ (w .c))) (y + nat (w .c) + nat (negℤ (v .c))) (pos x +ℤ v .c) (pos y +ℤ w .c)
+    (λ h. eq-of (num x ⊕ atom (v .c)) (num y ⊕ atom (w .c)) (omega (arith, plus-nat (v .c), minus-nat (v .c), plus-nat (w .c), minus-nat (w .c))))
+    (λ h. omega (arith, of-eq (num x ⊕ atom (v .c)) (num y ⊕ atom (w .c)) h, plus-nat (v .c), minus-nat (v .c), plus-nat (w .c), minus-nat (w .c)))
+    ∙ ap₂ (λ (a b : ℤ). eqZ (a +ℤ v .c) (b +ℤ w .c)) e d
+
+-- ---- links: L - k is at least the ancestor's
+
+pub link-test : (l a k : ℕ) → leb (a + k) l ≡ leZ (pos a) (pos l -ℤ pos k)
+link-test l a k =
+    same-test _ _
+    (λ h. le-of (num a) (num l ⊖ num k) (omega (arith, leb-true (a + k) l h)))
+    (λ h. le-leb (a + k) l (omega (arith, of-le (num a) (num l ⊖ num k) h)))
+
+pub loop-same : {B B′ A A′ : Bound} {k k′ : ℤ} → B ≡ B′ → A ≡ A′ → k ≡ k′ → loopFits B A k ≡ loopFits B′ A′ k′
+loop-same p q r = cc

@@ -1,0 +1,181 @@
+// A node's bound against its rule, and the index of a clash: refusal 14.
+// A sum of table numbers is compared by natural parts: what lies below 0 goes to the other side.
+use branch::counts::Counts;
+use branch::kept;
+use branch::node;
+ghost use mathlib.Core.Path.{_≡_};
+ghost use mathlib.Core.Bool.{Bool, true};
+ghost use mathlib.Core.List.{[]};
+ghost use Prim.Native.Nat.{_+_, _*_, _<_, _≤_, _^_};
+ghost use lib.Dec.{eqb};
+ghost use lib.IntN.{pos, _+ℤ_};
+ghost use lib.ListN.{getD};
+ghost use lib.Signed.{leZ};
+ghost use Rattle.stab.specs.Basic.{_and_, eqZ, nat};
+ghost use Rattle.stab.specs.Formula.{joined, baseOf, offset};
+ghost use Rattle.stab.specs.Meaning.{base};
+ghost use Rattle.stab.specs.Node.{nodeAt};
+ghost use Rattle.stab.specs.Rule.{ofRule, splitFits, indexAt, clashFits, voidFits, loopFits, boundFits};
+ghost use Rattle.formula.specs.Facts.{AllFormed};
+ghost use Rattle.branch.specs.Work.{AllWorked};
+ghost use Rattle.branch.specs.Lent.{lent, bounded, boundBy, FieldsKnown};
+
+// Rule 2: open, L at most 9998.
+fn split_fits(exact: bool, l: usize) -> bool
+    ensures { λ r. ⌜ r ≡ splitFits (bounded exact l) ⌝ }
+{
+    if exact {
+        return false;
+    }
+    l <= 9998
+}
+
+// L is at least b + c of row r.
+fn reaches(schema: &[i32], s: usize, proof: &[i32], r: usize, l: usize) -> bool
+    requires { ⌜ (r < 2 ^ 32) × (l < 2 ^ 32) ⌝ }
+    requires { ⌜ offset (joined (now schema) s (now proof) r .b) ≡ true ⌝ }
+    requires { ⌜ offset (joined (now schema) s (now proof) r .c) ≡ true ⌝ }
+    ensures { λ v. ⌜ v ≡ leZ (joined (now (schema .entry)) s (now (proof .entry)) r .b +ℤ joined (now (schema .entry)) s (now (proof .entry)) r .c) (pos l) ⌝ }
+{
+    let over = formula::natural_in(schema, s, proof, r, 2)
+        + formula::natural_in(schema, s, proof, r, 3);
+    let under = formula::under_in(schema, s, proof, r, 2)
+        + formula::under_in(schema, s, proof, r, 3);
+    over <= l + under
+}
+
+// Rule 7: exact, L below b + c.
+fn void_fits(schema: &[i32], s: usize, proof: &[i32], r: usize, exact: bool, l: usize) -> bool
+    requires { ⌜ (r < 2 ^ 32) × (l < 2 ^ 32) ⌝ }
+    requires { ⌜ offset (joined (now schema) s (now proof) r .b) ≡ true ⌝ }
+    requires { ⌜ offset (joined (now schema) s (now proof) r .c) ≡ true ⌝ }
+    ensures { λ v. ⌜ v ≡ voidFits (bounded exact l) (joined (now (schema .entry)) s (now (proof .entry)) r) ⌝ }
+{
+    if !exact {
+        return false;
+    }
+    !reaches(schema, s, proof, r, l)
+}
+
+// What c of the literal in row r is added to, at n = l.
+fn base_at(schema: &[i32], s: usize, proof: &[i32], r: usize, l: usize) -> usize
+    requires { ⌜ (r < 2 ^ 32) × (l < 2 ^ 32) ⌝ }
+    ensures { λ v. ⌜ (pos v ≡ base l (pos 0) (baseOf (joined (now (schema .entry)) s (now (proof .entry)) r .b))) × (v < 2 ^ 32) ⌝ }
+{
+    if formula::is_in(schema, s, proof, r, 2, 1) {
+        return l;
+    }
+    0
+}
+
+// Two literals name the same index at n = l.
+fn same_index(schema: &[i32], s: usize, proof: &[i32], on: usize, with: usize, l: usize) -> bool
+    requires { ⌜ (on < 2 ^ 32) × (with < 2 ^ 32) × (l < 2 ^ 32) ⌝ }
+    requires { ⌜ offset (joined (now schema) s (now proof) on .c) ≡ true ⌝ }
+    requires { ⌜ offset (joined (now schema) s (now proof) with .c) ≡ true ⌝ }
+    ensures { λ v. ⌜ v ≡ eqZ (indexAt l (joined (now (schema .entry)) s (now (proof .entry)) on)) (indexAt l (joined (now (schema .entry)) s (now (proof .entry)) with)) ⌝ }
+{
+    let left = base_at(schema, s, proof, on, l) + formula::natural_in(schema, s, proof, on, 3);
+    let right = base_at(schema, s, proof, with, l) + formula::natural_in(schema, s, proof, with, 3);
+    left + formula::under_in(schema, s, proof, with, 3)
+        == right + formula::under_in(schema, s, proof, on, 3)
+}
+
+// Columns b and c of two rows are equal.
+fn same_place(schema: &[i32], s: usize, proof: &[i32], on: usize, with: usize) -> bool
+    requires { ⌜ (on < 2 ^ 32) × (with < 2 ^ 32) ⌝ }
+    ensures { λ v. ⌜ v ≡ (eqZ (joined (now (schema .entry)) s (now (proof .entry)) on .b) (joined (now (schema .entry)) s (now (proof .entry)) with .b) and eqZ (joined (now (schema .entry)) s (now (proof .entry)) on .c) (joined (now (schema .entry)) s (now (proof .entry)) with .c)) ⌝ }
+{
+    if !leaves::same_in(schema, s, proof, on, 2, with, 2) {
+        return false;
+    }
+    leaves::same_in(schema, s, proof, on, 3, with, 3)
+}
+
+// Rule 6: the same index, at every n or at the one that the node knows.
+fn clash_fits(
+    schema: &[i32],
+    s: usize,
+    proof: &[i32],
+    on: usize,
+    with: usize,
+    exact: bool,
+    l: usize,
+) -> bool
+    requires { ⌜ (on < 2 ^ 32) × (with < 2 ^ 32) × (l < 2 ^ 32) ⌝ }
+    requires { ⌜ offset (joined (now schema) s (now proof) on .c) ≡ true ⌝ }
+    requires { ⌜ offset (joined (now schema) s (now proof) with .c) ≡ true ⌝ }
+    ensures { λ v. ⌜ v ≡ clashFits (bounded exact l) (joined (now (schema .entry)) s (now (proof .entry)) on) (joined (now (schema .entry)) s (now (proof .entry)) with) ⌝ }
+{
+    if same_place(schema, s, proof, on, with) {
+        return true;
+    }
+    if !exact {
+        return false;
+    }
+    same_index(schema, s, proof, on, with, l)
+}
+
+// Rule 8: the ancestor is open with `least`, and L - k is at least that.
+fn link_fits(l: usize, exact: bool, least: usize, k: usize) -> bool
+    requires { ⌜ (least < 2 ^ 32) × (k < 2 ^ 32) ⌝ }
+    ensures { λ r. ⌜ ((own : Bool) → r ≡ loopFits (bounded own l) (bounded exact least) (pos k)) ⌝ }
+{
+    if exact {
+        return false;
+    }
+    least + k <= l
+}
+
+// Node j is exact.
+fn is_exact(work: &[u32], j: usize) -> bool
+    requires { ⌜ j < 2 ^ 32 ⌝ }
+    ensures { λ r. ⌜ r ≡ eqb (getD (now (work .entry)) (4 * j + 2) 0) 1 ⌝ }
+{
+    kept::kept_at(work, 4 * j + 2) == 1
+}
+
+// Node j is a link whose target's bound allows it, where L is the node's own.
+fn target_allows(nodes: &[i32], work: &[u32], j: usize, l: usize) -> bool
+    requires { ⌜ j < 2 ^ 32 ⌝ }
+    ensures { λ r. ⌜ ((own : Bool) → r ≡ loopFits (bounded own l) (boundBy (now (work .entry)) (nat (nodeAt (now (nodes .entry)) j .to))) (pos (nat (nodeAt (now (nodes .entry)) j .by)))) ⌝ }
+{
+    let to = fields::small_of(nodes, j, fields::TO);
+    let least = kept::kept_at(work, 4 * to + 1);
+    link_fits(
+        l,
+        is_exact(work, to),
+        least,
+        fields::small_of(nodes, j, fields::BY),
+    )
+}
+
+// What the rule of node j asks of its bound holds. No set is looked at.
+pub fn bound_fits(
+    schema: &[i32],
+    proof: &[i32],
+    nodes: &[i32],
+    work: &[u32],
+    t: Counts,
+    j: usize,
+) -> bool
+    requires { ⌜ (j < t .nodes) × (t .nodes ≤ 1024) × (t .schema + t .proof ≤ 1024) ⌝ }
+    requires { ⌜ FieldsKnown (lent (now schema) (now proof) (now nodes) [] t) j ⌝ }
+    requires { ⌜ AllFormed (joined (now schema) (t .schema) (now proof)) (t .schema + t .proof) ⌝ }
+    requires { ⌜ AllWorked (now nodes) (t .least) (t .nodes) (now work) (t .nodes) ⌝ }
+    requires { ⌜ (ofRule 8 (nodeAt (now nodes) j) ≡ true → nat (nodeAt (now nodes) j .to) < j) ⌝ }
+    ensures { λ r. ⌜ r ≡ boundFits (lent (now (schema .entry)) (now (proof .entry)) (now (nodes .entry)) [] t) j ⌝ }
+{
+    let l = kept::kept_at(work, 4 * j + 1);
+    let exact = is_exact(work, j);
+    let on = node::natural_of(nodes, j, fields::ON);
+    let with = node::natural_of(nodes, j, fields::WITH);
+    match node::natural_of(nodes, j, fields::RULE) {
+        2 => split_fits(exact, l),
+        3 | 4 => reaches(schema, t.schema, proof, on, l),
+        6 => clash_fits(schema, t.schema, proof, on, with, exact, l),
+        7 => void_fits(schema, t.schema, proof, on, exact, l),
+        8 => target_allows(nodes, work, j, l),
+        _ => true,
+    }
+}

@@ -1,0 +1,4 @@
+pub mod Runs
+pub mod Fields
+pub mod Signs
+pub mod Steps

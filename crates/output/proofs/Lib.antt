@@ -1,0 +1,4 @@
+pub mod Spreads
+pub mod RowTexts
+pub mod HeadedTexts
+pub mod NodeRows

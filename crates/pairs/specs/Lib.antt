@@ -1,0 +1,4 @@
+pub mod Index
+pub mod Word
+pub mod Pairs
+pub mod Reading

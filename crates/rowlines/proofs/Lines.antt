@@ -1,0 +1,254 @@
+-- The first line of a text: as the definitions have it, and by its first field.
+use Prim.Native.Nat.{ℕ, zero, suc, _+_, _-_, _<_, _≤_}
+use native.Mathlib.Omega.{arith}
+use mathlib.Core.Path.{_≡_, refl, sym, _∙_, ap, ap₂, subst}
+use mathlib.Core.Logic.{_⊎_, inl, inr, ⊎-elim}
+use mathlib.Core.Bool.{Bool, true, false, not, true≢false, false≢true}
+use mathlib.Core.List.{List, [], _∷_, _++_}
+use mathlib.Core.Option.{Option, none, some}
+use lib.Dec.{eqb}
+use lib.IntN.{ℤ}
+use lib.ListN.{length, getD, drop}
+use borrow.Author.Tests.{eqb-true, eqb-false, eq-eqb, ne-eqb}
+use Rattle.stab.specs.Basic.{if_then_else_, _and_, _or_}
+use Rattle.stab.specs.Text.{Line, newline, space, lines, inFront, sameBytes, fields, inFrontOf, numbersIn, numbers, numberOf}
+use Rattle.stab.proofs.Bools.{and-left, and-right, and-both, and-first-false, and-second-false, or-left, or-right, if-true, if-false, decide, not-of-false, false-of-not}
+use Rattle.stab.proofs.Texts.Lines.{lacks, fields-last, fields-space}
+use Rattle.numerals.specs.Here.{firstLine, afterLine, row, endsField, field, fieldEnd, pastField, numberHere}
+use Rattle.numerals.proofs.Fields.{field-none, field-more, end-here, end-later, ends-cases, ends-nonzero, ends-space, ends-line}
+use Rattle.numerals.proofs.Steps.{end-or-none}
+
+-- ---- one byte in front of a text
+
+abbrev pub withByte : ℕ → Line → Line
+withByte x l = record { content = x ∷ l .content; ended = l .ended }
+
+module _ (x : ℕ) (xs : List ℕ) where
+  pub line-end : eqb x 10 ≡ true → firstLine (x ∷ xs) ≡ record { content = []; ended = true }
+  unfolding firstLine newline
+  line-end h = if-true (eqb x 10) _ _ h
+
+  pub line-byte : eqb x 10 ≡ false → firstLine (x ∷ xs) ≡ withByte x (firstLine xs)
+  unfolding firstLine newline
+  line-byte h = if-false (eqb x 10) _ _ h
+
+  pub after-end : eqb x 10 ≡ true → afterLine (x ∷ xs) ≡ xs
+  unfolding afterLine newline
+  after-end h = if-true (eqb x 10) _ _ h
+
+  pub after-byte : eqb x 10 ≡ false → afterLine (x ∷ xs) ≡ afterLine xs
+  unfolding afterLine newline
+  after-byte h = if-false (eqb x 10) _ _ h
+
+-- ---- the lines of a text that is not empty
+
+pub lines-nil : lines [] ≡ []
+unfolding lines
+lines-nil = refl
+
+pub lines-first : (x : ℕ) (xs : List ℕ) → lines (x ∷ xs) ≡ firstLine (x ∷ xs) ∷ lines (afterLine (x ∷ xs))
+unfolding lines newline
+lines-first x [] =
+    ⊎-elim
+    (λ h. if-true (eqb x 10) _ _ h ∙ ap₂ (λ (l : Line) (ys : List ℕ). l ∷ lines ys) (sym (line-end x [] h)) (sym (after-end x [] h)))
+    (λ h. if-false (eqb x 10) _ _ h ∙ alone ∙ ap₂ (λ (l : Line) (ys : List ℕ). l ∷ lines ys) (sym (line-byte x [] h)) (sym (after-byte x [] h)))
+    (decide (eqb x 10))
+  where
+    alone : inFront x (lines []) ≡ withByte x (firstLine []) ∷ lines (afterLine [])
+    alone = unfold inFront firstLine afterLine in refl
+lines-first x (y ∷ ys) =
+    ⊎-elim
+    (λ h. if-true (eqb x 10) _ _ h ∙ ap₂ (λ (l : Line) (zs : List ℕ). l ∷ lines zs) (sym (line-end x (y ∷ ys) h)) (sym (after-end x (y ∷ ys) h)))
+    (λ h. if-false (eqb x 10) _ _ h
+    ∙ ap (inFront x) (lines-first y ys)
+    ∙ more
+    ∙ ap₂ (λ (l : Line) (zs : List ℕ). l ∷ lines zs) (sym (line-byte x (y ∷ ys) h)) (sym (after-byte x (y ∷ ys) h)))
+    (decide (eqb x 10))
+  where
+    more : inFront x (firstLine (y ∷ ys) ∷ lines (afterLine (y ∷ ys))) ≡ withByte x (firstLine (y ∷ ys)) ∷ lines (afterLine (y ∷ ys))
+    more = unfold inFront in refl
+
+-- ---- a line by its first field
+
+-- the line goes on after the field, or ends with it
+pub record Goes (xs ys : List ℕ) : Type 0 where
+  pub content : firstLine xs .content ≡ field xs ++ 32 ∷ firstLine ys .content
+  pub ended : firstLine xs .ended ≡ firstLine ys .ended
+  pub after : afterLine xs ≡ afterLine ys
+
+pub record Ends (xs ys : List ℕ) : Type 0 where
+  pub content : firstLine xs .content ≡ field xs
+  pub ended : firstLine xs .ended ≡ true
+  pub after : afterLine xs ≡ ys
+
+not-line : (x : ℕ) → endsField x ≡ false → eqb x 10 ≡ false
+not-line x h = ne-eqb x 10 (λ e. true≢false (sym (ends-line x e) ∙ h))
+
+past-more : (x : ℕ) (xs : List ℕ) → endsField x ≡ false → drop (pastField (x ∷ xs)) (x ∷ xs) ≡ drop (pastField xs) xs
+unfolding pastField
+past-more x xs h = ap (λ (f : List ℕ). drop (length f) xs) (field-more x xs h)
+
+past-none : (x : ℕ) (xs : List ℕ) → endsField x ≡ true → drop (pastField (x ∷ xs)) (x ∷ xs) ≡ xs
+unfolding pastField
+past-none x xs h = ap (λ (f : List ℕ). drop (length f) xs) (field-none x xs h)
+
+-- no end at all
+pub no-end : (xs : List ℕ) → fieldEnd xs ≡ 0 → firstLine xs .ended ≡ false
+no-end [] h = unfold firstLine in refl
+no-end (x ∷ xs) h =
+    ⊎-elim
+    (λ e. absurd (⊎-elim (λ p. omega (arith, end-here x xs e)) (λ p. omega (arith, end-here x xs e)) (ends-cases x e)))
+    (λ e. ap (λ (l : Line). l .ended) (line-byte x xs (not-line x e)) ∙ no-end xs (sym (end-later x xs e) ∙ h))
+    (decide (endsField x))
+
+module _ (x : ℕ) (xs : List ℕ) where
+  ends-here : endsField x ≡ true → x ≡ 10 → Ends (x ∷ xs) (drop (pastField (x ∷ xs)) (x ∷ xs))
+  ends-here e h =
+      let q = eq-eqb x 10 h in
+      record {
+        content = ap (λ (l : Line). l .content) (line-end x xs q) ∙ sym (field-none x xs e);
+        ended = ap (λ (l : Line). l .ended) (line-end x xs q);
+        after = after-end x xs q ∙ sym (past-none x xs e);
+      }
+
+  ends-on : endsField x ≡ false → Ends xs (drop (pastField xs) xs) → Ends (x ∷ xs) (drop (pastField (x ∷ xs)) (x ∷ xs))
+  ends-on e g =
+      let q = not-line x e in
+      record {
+        content = ap (λ (l : Line). l .content) (line-byte x xs q) ∙ ap (λ (f : List ℕ). x ∷ f) (g .content) ∙ sym (field-more x xs e);
+        ended = ap (λ (l : Line). l .ended) (line-byte x xs q) ∙ g .ended;
+        after = after-byte x xs q ∙ g .after ∙ sym (past-more x xs e);
+      }
+
+  goes-here : endsField x ≡ true → x ≡ 32 → Goes (x ∷ xs) (drop (pastField (x ∷ xs)) (x ∷ xs))
+  goes-here e h =
+      let q = ne-eqb x 10 (λ p. omega arith) in
+      let r = past-none x xs e in
+      record {
+        content =
+            ap (λ (l : Line). l .content) (line-byte x xs q)
+            ∙ ap (λ (y : ℕ). y ∷ firstLine xs .content) h
+            ∙ ap₂ (λ (f ys : List ℕ). f ++ 32 ∷ firstLine ys .content) (sym (field-none x xs e)) (sym r);
+        ended = ap (λ (l : Line). l .ended) (line-byte x xs q) ∙ ap (λ (ys : List ℕ). firstLine ys .ended) (sym r);
+        after = after-byte x xs q ∙ ap afterLine (sym r);
+      }
+
+  goes-on : endsField x ≡ false → Goes xs (drop (pastField xs) xs) → Goes (x ∷ xs) (drop (pastField (x ∷ xs)) (x ∷ xs))
+  goes-on e g =
+      let q = not-line x e in
+      let r = past-more x xs e in
+      record {
+        content =
+            ap (λ (l : Line). l .content) (line-byte x xs q)
+            ∙ ap (λ (f : List ℕ). x ∷ f) (g .content)
+            ∙ ap₂ (λ (f ys : List ℕ). f ++ 32 ∷ firstLine ys .content) (sym (field-more x xs e)) (sym r);
+        ended = ap (λ (l : Line). l .ended) (line-byte x xs q) ∙ g .ended ∙ ap (λ (ys : List ℕ). firstLine ys .ended) (sym r);
+        after = after-byte x xs q ∙ g .after ∙ ap afterLine (sym r);
+      }
+
+end-nil : fieldEnd [] ≡ 0
+unfolding fieldEnd
+end-nil = refl
+
+line-ends : (xs : List ℕ) → fieldEnd xs ≡ 10 → Ends xs (drop (pastField xs) xs)
+line-ends [] h = absurd (omega (arith, end-nil))
+line-ends (x ∷ xs) h =
+    ⊎-elim
+    (λ e. ends-here x xs e (sym (end-here x xs e) ∙ h))
+    (λ e. ends-on x xs e (line-ends xs (sym (end-later x xs e) ∙ h)))
+    (decide (endsField x))
+
+line-goes : (xs : List ℕ) → fieldEnd xs ≡ 32 → Goes xs (drop (pastField xs) xs)
+line-goes [] h = absurd (omega (arith, end-nil))
+line-goes (x ∷ xs) h =
+    ⊎-elim
+    (λ e. goes-here x xs e (sym (end-here x xs e) ∙ h))
+    (λ e. goes-on x xs e (line-goes xs (sym (end-later x xs e) ∙ h)))
+    (decide (endsField x))
+
+field-lacks : (xs : List ℕ) → lacks 32 (field xs) ≡ true
+unfolding lacks
+field-lacks [] = unfold field in refl
+field-lacks (x ∷ xs) =
+    ⊎-elim
+    (λ e. ap (lacks 32) (field-none x xs e))
+    (λ e. ap (lacks 32) (field-more x xs e) ∙ and-both _ _ (not-of-false _ (ne-eqb x 32 (λ p. true≢false (sym (ends-space x p) ∙ e)))) (field-lacks xs))
+    (decide (endsField x))
+
+-- ---- a row by its first number
+
+row-not : (xs : List ℕ) → firstLine xs .ended ≡ false → row xs ≡ none
+unfolding row
+row-not xs h = if-false (firstLine xs .ended) _ _ h
+
+row-is : (xs : List ℕ) (l : List ℕ) → firstLine xs .ended ≡ true → firstLine xs .content ≡ l → row xs ≡ numbers l
+unfolding row
+row-is xs l h e = if-true (firstLine xs .ended) _ _ h ∙ ap numbers e
+
+row-end : (xs : List ℕ) → fieldEnd xs ≡ 10 → row xs ≡ inFrontOf (numberOf (field xs)) (some [])
+unfolding numbers numbersIn
+row-end xs h =
+    let g = line-ends xs h in
+    row-is xs (field xs) (g .ended) (g .content) ∙ ap numbersIn (fields-last (field xs) (field-lacks xs))
+
+front-none : (o : Option ℤ) → inFrontOf o none ≡ none
+unfolding inFrontOf
+front-none none = refl
+front-none (some z) = refl
+
+row-space : (xs : List ℕ) → fieldEnd xs ≡ 32 → row xs ≡ inFrontOf (numberOf (field xs)) (row (drop (pastField xs) xs))
+row-space xs h =
+    let g = line-goes xs h in
+    let ys = drop (pastField xs) xs in
+    ⊎-elim
+    (λ e. row-is xs _ (g .ended ∙ e) (g .content)
+    ∙ spaced (firstLine ys .content)
+    ∙ ap (inFrontOf (numberOf (field xs))) (sym (row-is ys (firstLine ys .content) e refl)))
+    (λ e. row-not xs (g .ended ∙ e) ∙ sym (ap (inFrontOf (numberOf (field xs))) (row-not ys e) ∙ front-none (numberOf (field xs))))
+    (decide (firstLine ys .ended))
+  where
+    spaced : (l : List ℕ) → numbers (field xs ++ 32 ∷ l) ≡ inFrontOf (numberOf (field xs)) (numbers l)
+    spaced l = unfold numbers numbersIn in ap numbersIn (fields-space (field xs) l (field-lacks xs))
+
+-- ---- the number that a line starts with
+
+-- a field that has an end lies within the text
+pub past-within : (xs : List ℕ) → endsField (fieldEnd xs) ≡ true → pastField xs ≤ length xs
+unfolding pastField
+past-within [] h = absurd (ends-nonzero _ h end-nil)
+past-within (x ∷ xs) h =
+    ⊎-elim
+    (λ e. omega (arith, ap length (field-none x xs e)))
+    (λ e. omega (arith, ap length (field-more x xs e), past-within xs (ap endsField (sym (end-later x xs e)) ∙ h)))
+    (decide (endsField x))
+
+module _ (xs : List ℕ) where
+  here-closed : endsField (fieldEnd xs) ≡ true → numberHere xs ≡ numberOf (field xs)
+  unfolding numberHere
+  here-closed h = if-false (eqb (fieldEnd xs) 0) _ _ (ne-eqb _ 0 (ends-nonzero _ h))
+
+  pub row-none : numberHere xs ≡ none → row xs ≡ none
+  unfolding inFrontOf
+  row-none h =
+      ⊎-elim
+      (λ e. row-not xs (no-end xs e))
+      (λ e. let n = sym (here-closed e) ∙ h in
+      ⊎-elim
+      (λ p. row-space xs p ∙ ap (λ (o : Option ℤ). inFrontOf o (row (drop (pastField xs) xs))) n)
+      (λ p. row-end xs p ∙ ap (λ (o : Option ℤ). inFrontOf o (some [])) n)
+      (ends-cases _ e))
+      (end-or-none xs)
+
+  pub row-more : (z : ℤ) → numberHere xs ≡ some z → fieldEnd xs ≡ 32 → row xs ≡ inFrontOf (some z) (row (drop (pastField xs) xs))
+  row-more z h e =
+      row-space xs e ∙ ap (λ (o : Option ℤ). inFrontOf o (row (drop (pastField xs) xs))) (sym (here-closed (ends-space _ e)) ∙ h)
+
+  pub row-last : (z : ℤ) → numberHere xs ≡ some z → fieldEnd xs ≡ 10 → row xs ≡ some (z ∷ [])
+  unfolding inFrontOf
+  row-last z h e = row-end xs e ∙ ap (λ (o : Option ℤ). inFrontOf o (some [])) (sym (here-closed (ends-line _ e)) ∙ h)
+
+  pub after-more : fieldEnd xs ≡ 32 → afterLine xs ≡ afterLine (drop (pastField xs) xs)
+  after-more e = line-goes xs e .after
+
+  pub after-last : fieldEnd xs ≡ 10 → afterLine xs ≡ drop (pastField xs) xs
+  after-last e = line-ends xs e .after

@@ -1,0 +1,175 @@
+-- The pass over the sets against the definition of refusal 9, and what it says of each set that it passed.
+use Prim.Native.Nat.{ℕ, zero, suc, _+_, _<_, _≤_}
+use native.Mathlib.Omega.{arith}
+use mathlib.Core.Path.{_≡_, refl, sym, _∙_, ap, ap₂}
+use mathlib.Core.Bool.{Bool, true, false, not}
+use mathlib.Core.Logic.{⊎-elim}
+use mathlib.Core.List.{List, [], _∷_}
+use mathlib.Core.Option.{none, some}
+use lib.Dec.{eqb}
+use lib.IntN.{ℤ, pos, _+ℤ_}
+use lib.Signed.{leZ}
+use lib.ListN.{getD, length}
+use Rattle.stab.specs.Basic.{_and_, _implies_, eqZ, nat, below, allOf, ascending, has, scan}
+use Rattle.stab.specs.Formula.{joined, tree, loose, isOuter}
+use Rattle.stab.specs.Node.{Tableau, rows, rowCount, isRow, formula, isOuterRow, node, nodeAt, set, setOf, setEnd, setStart, setFollows, setFits}
+use Rattle.stab.specs.Check.{setRefusal, atUnless}
+use Rattle.stab.specs.declared.Place.the-variants.{At}
+use Rattle.stab.specs.declared.Refusal.the-variants.{Set}
+use Rattle.stab.specs.declared.Verdict.the-variants.{Refused}
+use Rattle.stab.proofs.Bools.{and-left, and-right, and-first-false, decide, unless-none, none-unless, some-unless}
+use Rattle.stab.proofs.Scans.{none-scan, has-mem, all-use}
+use Rattle.stab.proofs.Trees.{below-nat}
+use Rattle.stab.proofs.Whole.{atom, num, _⊕_, le-of, of-le, eqZ-true, nat-pos, plus-nat, nonneg-minus}
+use Rattle.formula.specs.Facts.{bit, AllKnown}
+use Rattle.branch.specs.Sets.{outerBy, listFits, placeFits, setRight, Within, SetKnown, AllSetsKnown}
+use Rattle.branch.specs.Work.{tableau}
+use Rattle.branch.proofs.Ascending.{part-length, part-at}
+use Rattle.sets.proofs.SetLaws.{at-all}
+
+and-assoc : (a b c : Bool) → ((a and b) and c) ≡ (a and (b and c))
+unfolding _and_
+and-assoc true b c = refl
+and-assoc false b c = refl
+
+bit-zero : (b : Bool) → eqb (bit b) 0 ≡ not b
+unfolding bit
+bit-zero true = refl
+bit-zero false = refl
+
+all-same : {A : Type 0} (p q : A → Bool) → ((x : A) → p x ≡ q x) → (xs : List A) → allOf p xs ≡ allOf q xs
+unfolding allOf
+all-same p q h [] = refl
+all-same p q h (x ∷ xs) = ap₂ _and_ (h x) (all-same p q h xs)
+
+module _ (schema : List ℤ) (s : ℕ) (proof : List ℤ) (p : ℕ) (facts : List ℕ) (n : ℕ) (rows-are : s + p ≡ n) (known : AllKnown (joined schema s proof) facts n) where
+  -- a row is outer exactly if its third fact is 0
+  pub outer-same :
+      (root least : ℤ) (nodes : List ℤ) (k : ℕ) (members : List ℤ) (m : ℕ) (z : ℤ)
+      → outerBy facts n z ≡ isOuterRow (tableau schema s proof p root least nodes k members m) z
+  unfolding outerBy isOuterRow isRow rowCount formula rows isOuter tableau
+  outer-same root least nodes k members m z =
+      ⊎-elim
+      (λ h.
+      ap (λ (b : Bool). below n z and b) (ap (λ (x : ℕ). eqb x 0) (known (nat z) (below-nat n z h) .loose) ∙ bit-zero (loose (tree (joined schema s proof) (nat z)))))
+      (λ h. and-first-false _ _ h ∙ sym (and-first-false _ _ h))
+      (decide (below n z))
+      ∙ ap (λ (c : ℕ). below c z and not (loose (tree (joined schema s proof) (nat z)))) (sym rows-are)
+
+  module _ (root least : ℤ) (nodes : List ℤ) (k : ℕ) (members : List ℤ) (m : ℕ) (j : ℕ) where
+    same-fits :
+        (placeFits nodes m j and listFits facts n (setOf members (nodeAt nodes j)))
+        ≡ setFits (tableau schema s proof p root least nodes k members m) j
+    unfolding placeFits listFits setFits set node tableau
+    same-fits =
+        and-assoc (setFollows nodes j) (leZ (setEnd nodes j) (pos m)) _
+        ∙ ap (λ (b : Bool). setFollows nodes j and (leZ (setEnd nodes j) (pos m) and (ascending (setOf members (nodeAt nodes j)) and b))) (all-same _ _ (outer-same root least nodes k members m) (setOf members (nodeAt nodes j)))
+
+    set-refusal : setRefusal (tableau schema s proof p root least nodes k members m) j ≡ atUnless (setRight facts n nodes k members m j) Set j
+    unfolding setRight setRefusal tableau
+    set-refusal = ap (λ (b : Bool). atUnless (b and (eqb (suc j) k implies eqZ (setEnd nodes j) (pos m))) Set j) (sym same-fits)
+
+    pub set-passes : setRight facts n nodes k members m j ≡ true → setRefusal (tableau schema s proof p root least nodes k members m) j ≡ none
+    unfolding atUnless
+    set-passes h = set-refusal ∙ none-unless _ _ h
+
+    pub set-refused : setRight facts n nodes k members m j ≡ false → setRefusal (tableau schema s proof p root least nodes k members m) j ≡ some (Refused Set (At j))
+    unfolding atUnless
+    set-refused h = set-refusal ∙ some-unless _ _ h
+
+-- ---- what a set that was not refused is
+
+module _ (T : Tableau) where
+  fits-of : (j : ℕ) → setRefusal T j ≡ none → setFits T j ≡ true
+  unfolding setRefusal atUnless
+  fits-of j h = and-left _ _ (unless-none _ _ h)
+
+  follows-of : (j : ℕ) → setFits T j ≡ true → setFollows (T .nodes) j ≡ true
+  unfolding setFits
+  follows-of j h = and-left _ _ h
+
+  -- the size is a natural number, and the start is where it has to be
+  size-of : (j : ℕ) → setFits T j ≡ true → leZ (pos 0) (node T j .size) ≡ true
+  unfolding setFollows node
+  size-of j h = and-right (eqZ (node T j .start) (setStart (T .nodes) j)) _ (follows-of j h)
+
+  start-of : (j : ℕ) → setFits T j ≡ true → node T j .start ≡ setStart (T .nodes) j
+  unfolding setFollows node
+  start-of j h = eqZ-true (node T j .start) (setStart (T .nodes) j) (and-left _ _ (follows-of j h))
+
+  start-natural : (j : ℕ) → ((i : ℕ) → i ≤ j → setFits T i ≡ true) → leZ (pos 0) (node T j .start) ≡ true
+  unfolding setStart node
+  start-natural zero h = ap (leZ (pos 0)) (start-of zero (h zero (omega arith)))
+  start-natural (suc j) h =
+      ap (leZ (pos 0)) (start-of (suc j) (h (suc j) (omega arith)))
+      ∙ le-of (num 0) (atom (node T j .start) ⊕ atom (node T j .size))
+      (omega (
+        arith,
+        nonneg-minus (node T j .start) (start-natural j (λ i q. h i (omega arith))),
+        nonneg-minus (node T j .size) (size-of j (h j (omega arith))),
+      ))
+
+  end-of : (j : ℕ) → setFits T j ≡ true → leZ (node T j .start +ℤ node T j .size) (pos (T .memberCount)) ≡ true
+  unfolding setFits setEnd node
+  end-of j h = and-left _ _ (and-right (setFollows (T .nodes) j) _ h)
+
+  list-of : (j : ℕ) → setFits T j ≡ true → (ascending (set T j) and allOf (isOuterRow T) (set T j)) ≡ true
+  unfolding setFits
+  list-of j h = and-right (leZ (setEnd (T .nodes) j) (pos (T .memberCount))) _ (and-right (setFollows (T .nodes) j) _ h)
+
+  known-of : (j : ℕ) → ((i : ℕ) → i ≤ j → setFits T i ≡ true) → SetKnown T j
+  known-of j h =
+      let f = h j (omega arith) in
+      let a = start-natural j h in
+      let b = size-of j f in
+      record {
+        start = nat-pos (node T j .start) a;
+        size = nat-pos (node T j .size) b;
+        end =
+            omega (
+              arith,
+              of-le (atom (node T j .start) ⊕ atom (node T j .size)) (num (T .memberCount)) (end-of j f),
+              nonneg-minus (node T j .start) a,
+              nonneg-minus (node T j .size) b,
+              plus-nat (node T j .start),
+              plus-nat (node T j .size),
+            );
+        up = and-left _ _ (list-of j f);
+        outer = and-right (ascending (set T j)) _ (list-of j f);
+      }
+
+  -- what the pass over the sets gives
+  pub sets-known : (k : ℕ) → scan (setRefusal T) k ≡ none → AllSetsKnown T k
+  sets-known k h j p = known-of j (λ i q. fits-of i (none-scan (setRefusal T) k h i (omega arith)))
+
+-- ---- the members of such a set
+
+-- an outer row is a row
+pub outer-below : (T : Tableau) (z : ℤ) → isOuterRow T z ≡ true → below (rowCount T) z ≡ true
+unfolding isOuterRow isRow
+outer-below T z h = and-left _ _ h
+
+-- a row that stands in the set is an outer row
+pub has-outer : (T : Tableau) (j : ℕ) → SetKnown T j → (z : ℤ) → has z (set T j) ≡ true → isOuterRow T z ≡ true
+has-outer T j known z h = all-use (isOuterRow T) z (set T j) (known .outer) (has-mem z (set T j) h)
+
+module _ (T : Tableau) (j : ℕ) (known : SetKnown T j) (held : T .memberCount ≤ length (T .members)) where
+  -- the set lies within the table, as what reads it requires
+  pub set-within : Within (T .nodes) (length (T .members)) j
+  unfolding node
+  set-within = omega (arith, known .end)
+
+  pub set-length : length (set T j) ≡ nat (node T j .size)
+  unfolding set setOf node
+  set-length = part-length (T .members) _ _ set-within
+
+  pub set-at : (i : ℕ) → i < nat (node T j .size) → getD (set T j) i (pos 0) ≡ getD (T .members) (nat (node T j .start) + i) (pos 0)
+  unfolding set setOf node
+  set-at i p = part-at (T .members) _ _ set-within i p
+
+  -- each member is the number of an outer row
+  pub member-outer : (i : ℕ) → i < nat (node T j .size) → isOuterRow T (getD (T .members) (nat (node T j .start) + i) (pos 0)) ≡ true
+  member-outer i p = ap (isOuterRow T) (sym (set-at i p)) ∙ at-all (isOuterRow T) (pos 0) (set T j) (known .outer) i (omega (arith, set-length))
+
+  pub member-below : (i : ℕ) → i < nat (node T j .size) → below (rowCount T) (getD (T .members) (nat (node T j .start) + i) (pos 0)) ≡ true
+  member-below i p = outer-below T _ (member-outer i p)
