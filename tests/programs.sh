@@ -77,13 +77,36 @@ sed -i 's/^4 8 -1 -1 -1 1 1 5 7$/4 8 -1 -1 -1 1 2 5 7/' "$work/r/proof.txt"
 out=$(./zorambi check "$work/r" 2>"$work/err")
 same "node 5 by 2" "answer place nodes links
 14 5 0 0" "$out" $?
-said "node 5 by 2" "(14) at node 5"
+said "node 5 by 2" "refused: a link's bound (14) at node 5"
 said "node 5 by 2" "proof.txt:12: 4 8 -1 -1 -1 1 2 5 7"
 record "$work/r"
 sed -i 's/^4 1$/4 0/' "$work/r/schema.txt"
 out=$(./zorambi check "$work/r" 2>"$work/err")
 same "least 0" "answer place nodes links
 14 3 0 0" "$out" $?
+said "least 0" "refused: an unfolding's bound (14) at node 3"
+record "$work/r"
+sed -i 's/^4 1$/4 2/' "$work/r/schema.txt"
+out=$(./zorambi check "$work/r" 2>"$work/err")
+same "least 2" "answer place nodes links
+14 2 0 0" "$out" $?
+said "least 2" "refused: a void's bound (14) at node 2"
+record "$work/r"
+sed -i 's/^4 6 6 8 -1/4 6 8 6 -1/' "$work/r/proof.txt"
+out=$(./zorambi check "$work/r" 2>"$work/err")
+same "node 6 on 8 with 6" "answer place nodes links
+12 6 0 0" "$out" $?
+said "node 6 on 8 with 6" "refused: the fields of rule 6, clash (12) at node 6"
+record "$work/r"
+sed -i '$d' "$work/r/proof.txt"
+out=$(./zorambi check "$work/r" 2>"$work/err")
+same "last row gone" "answer place nodes links
+17 4 0 0" "$out" $?
+said "last row gone" "refused: the number of children of rule 4, unfold or (17) at node 4"
+record "$work/r"
+sed -i '7,$d' "$work/r/proof.txt"
+check_record "$work/r" "no node"
+said "no node" "refused: no node (10)"
 record "$work/r"
 sed -i 's/^7 0 2 0$/7 9 2 0/' "$work/r/schema.txt"
 check_record "$work/r" "an ill-formed schema row"
@@ -138,6 +161,7 @@ for f in schema.txt proof.txt model.txt; do
   spoil "binary $f" $f < <(head -c 5000 target/bin/check_proof)
   spoil "65,536 bytes in $f" $f < <(head -c 65536 /dev/zero | tr '\0' '7')
   spoil "65,537 bytes in $f" $f < <(head -c 65537 /dev/zero | tr '\0' '7')
+  said "65,537 bytes in $f" "refused: $f has over 65,536 bytes (1)"
   spoil "3,000,000 bytes in $f" $f < <(head -c 3000000 /dev/zero | tr '\0' '7')
   spoil "NUL bytes in $f" $f < <(head -c 300 /dev/zero)
 done
