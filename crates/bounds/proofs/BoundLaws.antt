@@ -11,51 +11,23 @@ use borrow.Author.Tests.{le-ltb}
 use Rattle.stab.specs.Basic.{_and_, if_then_else_, eqZ, nat, below, count}
 use Rattle.stab.specs.Node.{Bound, nodeAt, names, childCountOf, rank, splitBound, childBound, firstBound, boundIf, boundN, boundOf}
 use Rattle.stab.proofs.Bools.{and-first-false, and-second-false, if-true, if-false}
-use Rattle.stab.proofs.Whole.{eqZ-of, eqZ-not}
+use Rattle.stab.proofs.Whole.{eqZ-of, eqZ-not, nat-of}
 use Rattle.stab.proofs.Scans.{count-true, count-false, count-le}
 use Rattle.stab.proofs.Trees.{below-nat}
 use Rattle.branch.specs.Parents.{upFits, AllUpFit}
-use Rattle.branch.proofs.Parts.{natural-of, under-of}
+use Rattle.branch.proofs.Parts.{under-of}
 use Rattle.branch.proofs.ParentLaws.{first-up, parent-less}
+use Rattle.stab.proofs.Bounds.{bound-first}
 
 -- ---- the bound of a node, by its parent's
-
-boundIf-same : (v : Bool) (nodes : List ℤ) (least : ℤ) (f g : ℕ → Bound) (j : ℕ) → (v ≡ true → f (nat (nodeAt nodes j .up)) ≡ g (nat (nodeAt nodes j .up))) → boundIf v nodes least f j ≡ boundIf v nodes least g j
-unfolding boundIf
-boundIf-same true nodes least f g j h = ap (λ (B : Bound). childBound (nodeAt nodes (nat (nodeAt nodes j .up)) .rule) B (rank nodes j)) (h refl)
-boundIf-same false nodes least f g j h = refl
-
--- more steps than the node's number make no difference
-boundN-same : (nodes : List ℤ) (least : ℤ) (k l j : ℕ) → j < k → j < l → boundN nodes least k j ≡ boundN nodes least l j
-unfolding boundN
-boundN-same nodes least zero l j p q = absurd (omega arith)
-boundN-same nodes least (suc k) zero j p q = absurd (omega arith)
-boundN-same nodes least (suc k) (suc l) j p q =
-    boundIf-same (below j (nodeAt nodes j .up)) nodes least (boundN nodes least k) (boundN nodes least l) j
-    (λ h. boundN-same nodes least k l (nat (nodeAt nodes j .up)) (omega (arith, below-nat j (nodeAt nodes j .up) h)) (omega (arith, below-nat j (nodeAt nodes j .up) h)))
-
-pub bound-is : (nodes : List ℤ) (least : ℤ) (j : ℕ) → boundOf nodes least j ≡ boundIf (below j (nodeAt nodes j .up)) nodes least (boundOf nodes least) j
-unfolding boundOf boundN
-bound-is nodes least j =
-    boundIf-same (below j (nodeAt nodes j .up)) nodes least (boundN nodes least j) (boundOf nodes least) j
-    (λ h. boundN-same nodes least j (suc (nat (nodeAt nodes j .up))) (nat (nodeAt nodes j .up)) (below-nat j (nodeAt nodes j .up) h) (omega arith))
 
 pub below-none : (z : ℤ) → below 0 z ≡ false
 unfolding below
 below-none (pos n) = and-second-false _ (ltZ (pos n) (pos 0)) (le-ltb n 0 (omega arith))
 below-none (negsuc n) = and-first-false _ _ refl
 
-pub bound-first : (nodes : List ℤ) (least : ℤ) → boundOf nodes least 0 ≡ firstBound least
-unfolding boundIf
-bound-first nodes least =
-    bound-is nodes least 0 ∙ ap (λ (v : Bool). boundIf v nodes least (boundOf nodes least) 0) (below-none (nodeAt nodes 0 .up))
-
-module _ (nodes : List ℤ) (least : ℤ) (j : ℕ) where
-  pub bound-child :
-      below j (nodeAt nodes j .up) ≡ true
-      → boundOf nodes least j ≡ childBound (nodeAt nodes (nat (nodeAt nodes j .up)) .rule) (boundOf nodes least (nat (nodeAt nodes j .up))) (rank nodes j)
-  unfolding boundIf
-  bound-child h = bound-is nodes least j ∙ ap (λ (v : Bool). boundIf v nodes least (boundOf nodes least) j) h
+pub bound-root : (nodes : List ℤ) (least : ℤ) → boundOf nodes least 0 ≡ firstBound least
+bound-root nodes least = bound-first nodes least 0 (below-none (nodeAt nodes 0 .up))
 
 -- what a child's bound is, by its parent's rule and its rank
 module _ (z : ℤ) (B : Bound) (k : ℕ) where
@@ -151,7 +123,7 @@ unfolding nat
 up-not nodes zero j h p e =
     omega (arith, under-of (nodeAt nodes 0 .up) j e, ap (λ (z : ℤ). nat (negℤ z)) (first-up nodes h))
 up-not nodes (suc i) j h p e =
-    omega (arith, natural-of (nodeAt nodes (suc i) .up) j e, parent-less nodes (suc i) h (omega arith))
+    omega (arith, nat-of (nodeAt nodes (suc i) .up) j e, parent-less nodes (suc i) h (omega arith))
 
 pub children-none : (nodes : List ℤ) (j : ℕ) → AllUpFit nodes (j + 1) → childCountOf nodes (j + 1) j ≡ 0
 unfolding childCountOf names

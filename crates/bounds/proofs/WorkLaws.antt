@@ -17,9 +17,10 @@ use Rattle.formula.specs.Facts.{bit}
 use Rattle.bounds.specs.Bounds.{kept, Next}
 use Rattle.branch.specs.Parents.{AllUpFit}
 use Rattle.branch.specs.Work.{Worked, AllWorked}
-use Rattle.branch.proofs.Parts.{natural-of}
 use Rattle.branch.proofs.ParentLaws.{later-up, parent-less, parent-pos}
-use Rattle.bounds.proofs.BoundLaws.{bound-child, bound-le, children-le, bound-first, rank-is, rank-first, children-more, children-same, children-none}
+use Rattle.bounds.proofs.BoundLaws.{bound-le, children-le, bound-root, rank-is, rank-first, children-more, children-same, children-none}
+use Rattle.stab.proofs.Whole.{nat-of}
+use Rattle.stab.proofs.Bounds.{bound-child}
 
 -- ---- the four numbers stored
 
@@ -84,8 +85,8 @@ work-first nodes least work room fits j p = subst (Worked nodes least 1 (kept wo
     first =
         record {
           rank = kept-rank work 0 0 (nat least) 0 room ∙ sym (rank-first nodes 0 refl);
-          L = kept-l work 0 0 (nat least) 0 room ∙ sym (ap (λ (B : Bound). B .L) (bound-first nodes least));
-          exact = kept-exact work 0 0 (nat least) 0 room ∙ sym (ap (λ (B : Bound). bit (B .exact)) (bound-first nodes least));
+          L = kept-l work 0 0 (nat least) 0 room ∙ sym (ap (λ (B : Bound). B .L) (bound-root nodes least));
+          exact = kept-exact work 0 0 (nat least) 0 room ∙ sym (ap (λ (B : Bound). bit (B .exact)) (bound-root nodes least));
           children = kept-children work 0 0 (nat least) 0 room ∙ sym (children-none nodes 0 fits);
         }
 
@@ -135,7 +136,7 @@ module _ {nodes : List ℤ} {least : ℤ} {work : List ℕ} {j u : ℕ} (next : 
         (λ q.
         before (4 * i + 3) (omega arith) (λ w. eqb-false i u q (omega arith))
         ∙ next .done i p .children
-        ∙ sym (children-same nodes j i (λ w. eqb-false i u q (omega (arith, natural-of (nodeAt nodes j .up) i w)))))
+        ∙ sym (children-same nodes j i (λ w. eqb-false i u q (omega (arith, nat-of (nodeAt nodes j .up) i w)))))
         (decide (eqb i u))
 
     earlier : (i : ℕ) → i < j → Worked nodes least (j + 1) (set (kept work j r l e) (4 * u + 3) (r + 1)) i

@@ -10,10 +10,9 @@ use borrow.Author.Tests.{ne-eqb}
 use Rattle.stab.specs.Basic.{_or_, eqZ, nat, below}
 use Rattle.stab.specs.Node.{nodeAt, aboveIf, aboveN, isAncestor}
 use Rattle.stab.proofs.Bools.{or-false}
-use Rattle.stab.proofs.Whole.{eqZ-not}
+use Rattle.stab.proofs.Whole.{eqZ-not, nat-of}
 use Rattle.stab.proofs.Trees.{below-nat}
 use Rattle.branch.specs.Parents.{upFits}
-use Rattle.branch.proofs.Parts.{natural-of}
 use Rattle.branch.proofs.ParentLaws.{later-up, parent-pos, parent-less}
 
 -- ---- more steps than the node's number make no difference
@@ -56,7 +55,7 @@ aboveN-none nodes to (suc k) j p = go (below j (nodeAt nodes j .up)) refl (above
         → aboveIf v nodes (aboveN nodes k (pos to)) (pos to) j ≡ false
     go true e f =
         or-false _ _
-        (eqZ-not (nodeAt nodes j .up) (pos to) (λ q. omega (arith, natural-of (nodeAt nodes j .up) to q, below-nat j (nodeAt nodes j .up) e)))
+        (eqZ-not (nodeAt nodes j .up) (pos to) (λ q. omega (arith, nat-of (nodeAt nodes j .up) to q, below-nat j (nodeAt nodes j .up) e)))
         (f (omega (arith, below-nat j (nodeAt nodes j .up) e)))
     go false e f = refl
 

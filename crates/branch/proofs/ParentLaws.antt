@@ -16,14 +16,14 @@ use Rattle.stab.specs.declared.Place.the-variants.{At}
 use Rattle.stab.specs.declared.Refusal.the-variants.{Parent}
 use Rattle.stab.specs.declared.Verdict.the-variants.{Refused}
 use Rattle.stab.proofs.Bools.{and-left, and-both, and-first-false, and-second-false, unless-none, none-unless, some-unless, same-test}
-use Rattle.stab.proofs.Whole.{eqZ-true}
+use Rattle.stab.proofs.Whole.{eqZ-true, at-least-0, below-0}
 use Rattle.stab.proofs.Scans.{none-scan}
 use Rattle.stab.proofs.Trees.{below-nat, below-pos}
 use Rattle.branch.specs.Parents.{upFits, isAlone, parentRight, AllUpFit}
 use Rattle.branch.specs.Sets.{Within}
 use Rattle.branch.specs.Work.{tableau}
 use Rattle.branch.proofs.Ascending.{part-length, part-at}
-use Rattle.branch.proofs.Parts.{at-least-0, below-0, natural-less}
+use Rattle.branch.proofs.Parts.{natural-less}
 
 -- ---- parents
 

@@ -6,21 +6,9 @@ use mathlib.Core.Bool.{true, false}
 use lib.Dec.{ltb, eqb}
 use lib.IntN.{ℤ, pos, negsuc, negℤ}
 use lib.Signed.{leZ, ltZ}
-use borrow.Author.Tests.{le-leb}
 use Rattle.stab.specs.Basic.{eqZ, nat, within}
 use Rattle.stab.proofs.Bools.{and-left, and-right}
 use Rattle.stab.proofs.Whole.{atom, num, of-le, nat-pos, plus-nat, nonneg-minus}
-
-pub at-least-0 : (z : ℤ) → nat (negℤ z) ≤ 0 → leZ (pos 0) z ≡ true
-unfolding nat
-at-least-0 (pos n) h = le-leb 0 n (omega arith)
-at-least-0 (negsuc n) h = absurd (omega arith)
-
-pub below-0 : (z : ℤ) → 0 < nat (negℤ z) → leZ (pos 0) z ≡ false
-unfolding nat
-below-0 (pos zero) h = absurd (omega arith)
-below-0 (pos (suc n)) h = absurd (omega arith)
-below-0 (negsuc n) h = refl
 
 -- a number at least 0 is its natural part
 pub is-natural : (z : ℤ) → nat (negℤ z) ≤ 0 → pos (nat z) ≡ z
@@ -48,10 +36,6 @@ unfolding eqZ
 natural-same z n h = ap (eqZ (pos n)) (is-natural z h)
 
 -- ---- when a number is the natural number n
-
-pub natural-of : (z : ℤ) (n : ℕ) → z ≡ pos n → nat z ≡ n
-unfolding nat
-natural-of z n e = ap nat e
 
 under-pos : (n : ℕ) → nat (negℤ (pos n)) ≡ 0
 unfolding nat

@@ -5,7 +5,7 @@ use mathlib.Core.List.{List}
 use lib.IntN.{ℤ}
 use lib.ListN.{getD}
 use Rattle.stab.specs.Node as N
-use Rattle.stab.specs.Node.{Tableau, Bound}
+use Rattle.stab.specs.Node.{Tableau}
 use Rattle.formula.specs.Facts.{bit}
 
 -- lent tables, with their counts

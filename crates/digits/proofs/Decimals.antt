@@ -32,14 +32,6 @@ count-one k v h = sym (ap length (digits-one k v h))
 pub count-more : (k v n : ℕ) → 10 ≤ v → n ≡ length (digitsN k (v / 10)) → suc n ≡ length (digitsN (suc k) v)
 count-more k v n h e = omega (arith, ap length (digits-more k v h), length-append (digitsN k (v / 10)) ((48 + v % 10) ∷ []))
 
-pub count-some : (k v : ℕ) → 1 ≤ length (digitsN k v)
-count-some zero v = unfold digitsN in omega arith
-count-some (suc k) v =
-    ⊎-elim
-    (λ e. omega (arith, count-one (suc k) v (ltb-true v 10 e)))
-    (λ e. omega (arith, count-more k v _ (ltb-false v 10 e) refl))
-    (decide (ltb v 10))
-
 pub count-most : (k v : ℕ) → length (digitsN k v) ≤ suc k
 count-most zero v = unfold digitsN in omega arith
 count-most (suc k) v =

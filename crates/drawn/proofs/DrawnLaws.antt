@@ -9,9 +9,8 @@ use lib.ListN.{take, drop}
 use Rattle.stab.specs.Basic.{if_then_else_, _or_, eqZ, nat, has}
 use Rattle.stab.specs.Node.{Tableau, Node, node, nodeAt, set, setOf, row}
 use Rattle.stab.specs.Rule.{ofRule, oneOf, given, drawnFrom}
-use Rattle.stab.proofs.Bools.{or-left, if-true, if-false}
+use Rattle.stab.proofs.Bools.{or-left, if-true, if-false, or-first-false}
 use Rattle.branch.specs.Search.{walk}
-use Rattle.fields.proofs.Answers.{or-first-false}
 
 or-false-last : (a : Bool) → a ≡ (a or false)
 unfolding _or_

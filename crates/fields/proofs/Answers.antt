@@ -1,29 +1,12 @@
 -- What a test's answer says: of the test that was asked, and of a longer test that starts with it.
 use mathlib.Core.Path.{_≡_, refl, sym, _∙_}
-use mathlib.Core.Bool.{Bool, true, false, not, true≢false, false≢true}
-use borrow.Author.Tests.{not-true, not-false}
+use mathlib.Core.Bool.{Bool, true, false, true≢false, false≢true}
 use Rattle.stab.specs.Basic.{_and_, _or_, _implies_}
-use Rattle.stab.proofs.Bools.{and-first-false}
+use Rattle.stab.proofs.Bools.{and-first-false, and-first-true}
 
 -- ---- `if !r`: r is the answer to t
 
-pub refused : {r t : Bool} → r ≡ t → not r ≡ true → t ≡ false
-refused {r} {t} e h = sym e ∙ not-true r h
-
-pub passed : {r t : Bool} → r ≡ t → not r ≡ false → t ≡ true
-passed {r} {t} e h = sym e ∙ not-false r h
-
 -- ---- a longer test whose first part is known
-
-pub and-first-true : (a b : Bool) → a ≡ true → (a and b) ≡ b
-unfolding _and_
-and-first-true true b h = refl
-and-first-true false b h = absurd (false≢true h)
-
-pub or-first-false : (a b : Bool) → a ≡ false → (a or b) ≡ b
-unfolding _or_
-or-first-false true b h = absurd (true≢false h)
-or-first-false false b h = refl
 
 pub or-last-false : (a b : Bool) → b ≡ false → (a or b) ≡ a
 unfolding _or_

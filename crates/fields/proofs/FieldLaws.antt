@@ -1,18 +1,16 @@
 -- The tests on a node's fields, answer by answer as the code finds them.
-use Prim.Native.Nat.{ℕ, _<_, _≤_}
+use Prim.Native.Nat.{ℕ}
 use mathlib.Core.Path.{_≡_, refl, sym, _∙_}
 use mathlib.Core.Bool.{true, false}
 use lib.Dec.{ltb}
-use lib.IntN.{ℤ, pos, negsuc, negℤ}
-use lib.Signed.{leZ, ltZ}
+use lib.IntN.{ℤ, pos, negsuc}
+use lib.Signed.{leZ}
 use Rattle.stab.specs.Basic.{_and_, eqZ, nat, below}
 use Rattle.stab.specs.Formula.{Row}
 use Rattle.stab.specs.Rule.{unused}
-use Rattle.stab.proofs.Bools.{and-left, and-first-false, if-true, if-false}
+use Rattle.stab.proofs.Bools.{and-left, and-first-false, if-true, if-false, and-first-true}
 use Rattle.stab.proofs.Trees.{below-pos}
 use Rattle.branch.specs.Lent.{fitsKind}
-use Rattle.fields.proofs.Answers.{and-first-true}
-use Rattle.branch.proofs.Parts.{at-least-0, below-0, natural-less}
 
 -- ---- kinds
 

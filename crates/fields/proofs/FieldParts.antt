@@ -12,7 +12,7 @@ use Rattle.stab.specs.declared.Rule.{Rule}
 use Rattle.stab.proofs.Bools.{and-left, and-right}
 use Rattle.stab.proofs.Trees.{below-pos}
 use Rattle.stab.proofs.Whole.{eqZ-true}
-use Rattle.branch.specs.Lent.{lent, fitsKind, otherFits, linkFits, rowsFit, restFits, FieldsKnown}
+use Rattle.branch.specs.Lent.{lent, otherFits, linkFits, rowsFit, restFits, FieldsKnown}
 use Rattle.branch.specs.declared.counts.Counts.{Counts}
 use Rattle.fields.proofs.Answers.{first-fails, second-fails, second-decides, third-decides, implies-made, implies-spared}
 

@@ -7,7 +7,6 @@ use lib.Dec.{ltb}
 use lib.IntN.{ℤ, pos}
 use lib.ListN.{getD}
 use borrow.Author.Tests.{lt-ltb, le-ltb}
-use Rattle.stab.specs.Basic.{if_then_else_}
 use Rattle.stab.specs.Formula.{Row, rowAt, joined}
 use Rattle.stab.proofs.Bools.{if-true, if-false}
 use Rattle.formula.specs.Column.{column}

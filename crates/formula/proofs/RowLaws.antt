@@ -10,7 +10,6 @@ use lib.Dec.{leb, ltb, leb·zero, leb·suc-suc}
 use lib.ListN.{length, getD, set, length-set}
 use lib.Seq.{getD-set-same, getD-set-other}
 use lib.IntN.{ℤ, pos, negsuc, negℤ}
-use lib.Signed.{leZ}
 use borrow.Author.Tests.{le-leb, lt-leb, leb-true}
 use Rattle.stab.specs.Basic.{if_then_else_, _and_, _or_, eqZ, within, nat, below, _otherwise_, scan}
 use Rattle.stab.specs.Formula as F
@@ -21,13 +20,12 @@ use Rattle.stab.specs.declared.Refusal.the-variants.{Root, IllFormed, TooLarge}
 use Rattle.stab.specs.declared.Verdict.{Verdict}
 use Rattle.stab.specs.declared.Verdict.the-variants.{Refused}
 use Rattle.stab.proofs.Bools.{and-both, and-left, and-right, and-first-false, and-second-false, if-true, if-false, not-of-false, not-of-true, false-of-not, true-of-not, otherwise-none, otherwise-some, none-unless, some-unless}
-use Rattle.stab.proofs.Whole.{num, of-eq, eqZ-not, nat-pos}
+use Rattle.stab.proofs.Whole.{num, of-eq, eqZ-not, nat-pos, at-least-0, below-0}
 use Rattle.stab.proofs.Scans.{below-suc}
-use Rattle.stab.proofs.Trees.{part-of, tree-is}
+use Rattle.stab.proofs.Decoded.{decoded}
 use Rattle.formula.specs.Facts.{bit, Known}
 use Rattle.formula.specs.Rows.{factsOf, factsAt, kept, judged, Passed}
 use Rattle.formula.specs.declared.rows.Facts.{Facts}
-use Rattle.formula.specs.declared.rows.Judged.{Judged}
 use Rattle.formula.specs.declared.rows.Judged.the-variants.{Ill, Formed}
 
 -- ---- what a function said of a test, and the branch that it led to
@@ -38,33 +36,18 @@ fails v e h = sym e ∙ false-of-not v h
 pub passes : (v : Bool) {t : Bool} → v ≡ t → not v ≡ false → t ≡ true
 passes v e h = sym e ∙ true-of-not v h
 
-pub and-true : (a b : Bool) → a ≡ true → (a and b) ≡ b
-unfolding _and_
-and-true a b h = ap (λ (t : Bool). t and b) h
-
 -- ---- a whole number by its two naturals
-
-pub nonneg : (z : ℤ) → nat (negℤ z) ≤ 0 → leZ (pos 0) z ≡ true
-unfolding nat
-nonneg (pos n) h = leb·zero n
-nonneg (negsuc n) h = absurd (omega arith)
-
-pub negative : (z : ℤ) → 0 < nat (negℤ z) → leZ (pos 0) z ≡ false
-unfolding nat
-negative (pos zero) h = absurd (omega arith)
-negative (pos (suc n)) h = absurd (omega arith)
-negative (negsuc n) h = refl
 
 pub below-negative : (m : ℕ) (z : ℤ) → 0 < nat (negℤ z) → below m z ≡ false
 unfolding below
-below-negative m z h = and-first-false _ _ (negative z h)
+below-negative m z h = and-first-false _ _ (below-0 z h)
 
 pub below-pos-is : (m n : ℕ) → below m (pos n) ≡ ltb n m
 unfolding below _and_
 below-pos-is m n = ap (λ (t : Bool). t and ltb n m) (leb·zero n)
 
 pub below-natural : (m : ℕ) (z : ℤ) → nat (negℤ z) ≤ 0 → below m z ≡ ltb (nat z) m
-below-natural m z h = ap (below m) (sym (nat-pos z (nonneg z h))) ∙ below-pos-is m (nat z)
+below-natural m z h = ap (below m) (sym (nat-pos z (at-least-0 z h))) ∙ below-pos-is m (nat z)
 
 -- a range from 0 is a bound
 pub within-below : (m : ℕ) (z : ℤ) → below (suc m) z ≡ within (pos 0) (pos m) z
@@ -92,7 +75,7 @@ kind-negative (pos (suc n)) h = absurd (omega arith)
 kind-negative (negsuc n) h = refl
 
 pub kind-natural : (z : ℤ) → nat (negℤ z) ≤ 0 → kindOf (pos (nat z)) ≡ kindOf z
-kind-natural z h = ap kindOf (nat-pos z (nonneg z h))
+kind-natural z h = ap kindOf (nat-pos z (at-least-0 z h))
 
 two : (k n : ℕ) → n ≤ k → k < n + 2 → (k ≡ n) ⊎ (k ≡ n + 1)
 two k n l h = ⊎-elim (λ p. inl (omega arith)) (λ e. inr (omega arith)) (below-suc k (suc n) (omega arith))
@@ -220,9 +203,6 @@ module _ (x : Formula) {f : Facts} (e : f ≡ factsOf x) where
 -- ---- one row, by its kind
 
 module _ (rows : ℕ → Row) (r : ℕ) (k : Kind) (kind : kindOf (rows r .kind) ≡ k) where
-  pub tree-as : tree rows r ≡ decode r (rows r) k (tree rows)
-  tree-as = tree-is rows r ∙ ap (λ (j : Kind). decode r (rows r) j (tree rows)) kind
-
   pub formed-as : wellFormed rows r ≡ wellFormedAs rows r (rows r) k
   unfolding wellFormed
   formed-as = ap (wellFormedAs rows r (rows r)) kind
@@ -237,23 +217,7 @@ module _ (rows : ℕ → Row) (r : ℕ) (k : Kind) (kind : kindOf (rows r .kind)
 
   -- the same, by what the row is decoded to
   pub formed : wellFormedAs rows r (rows r) k ≡ true → {f : Facts} → f ≡ factsOf (decode r (rows r) k (tree rows)) → Formed f ≡ judged rows r
-  formed h p = formed-tree h (p ∙ ap factsOf (sym tree-as))
-
--- the formula of an and or an or, and of an iteration, where the parts are smaller rows
-module _ (rows : ℕ → Row) (r : ℕ) (o : Op) where
-  pub tree-junction : kindOf (rows r .kind) ≡ junction o → below r (rows r .a) ≡ true → below r (rows r .b) ≡ true
-      → tree rows r ≡ join o (tree rows (nat (rows r .a))) (tree rows (nat (rows r .b)))
-  unfolding decode
-  tree-junction kind p q =
-      tree-as rows r (junction o) kind
-      ∙ ap₂ (join o) (part-of r (tree rows) (rows r .a) p) (part-of r (tree rows) (rows r .b) q)
-
-  pub tree-iteration : kindOf (rows r .kind) ≡ iteration o → below r (rows r .a) ≡ true
-      → tree rows r ≡ iter o (tree rows (nat (rows r .a))) (rows r .b) (rows r .c)
-  unfolding decode
-  tree-iteration kind p =
-      tree-as rows r (iteration o) kind
-      ∙ ap (λ (x : Formula). iter o x (rows r .b) (rows r .c)) (part-of r (tree rows) (rows r .a) p)
+  formed h p = formed-tree h (p ∙ ap factsOf (sym (decoded rows r k kind)))
 
 -- ---- rows that passed
 

@@ -2,7 +2,7 @@
 pub mod rows;
 
 ghost use mathlib.Core.Path.{_≡_};
-ghost use Prim.Native.Nat.{_<_, _≤_, _^_};
+ghost use Prim.Native.Nat.{_<_, _^_};
 ghost use lib.IntN.{negℤ};
 ghost use Rattle.stab.specs.Basic.{eqZ, nat};
 ghost use Rattle.stab.specs.Formula.{joined};

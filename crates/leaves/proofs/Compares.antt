@@ -1,5 +1,5 @@
 -- When two formulas agree, by the columns of their rows.
-use Prim.Native.Nat.{ℕ, zero, suc, _+_, _<_, _≤_, _^_}
+use Prim.Native.Nat.{ℕ, zero, suc, _+_, _<_, _≤_}
 use native.Mathlib.Omega.{arith}
 use mathlib.Core.Path.{_≡_, refl, sym, _∙_, ap, ap₂, subst}
 use mathlib.Core.Logic.{_⊎_, inl, inr, ⊎-elim}
@@ -7,37 +7,23 @@ use mathlib.Core.Bool.{Bool, true, false, false≢true}
 use lib.Dec.{eqb}
 use lib.IntN.{ℤ, pos, negsuc, negℤ, _+ℤ_, _-ℤ_}
 use lib.Signed.{leZ}
-use mir.Syntax.{w32}
-use mir.Val.{SFits}
 use borrow.Author.Tests.{eqb-true, eqb-false, eq-eqb, ne-eqb}
 use Rattle.stab.specs.Basic.{if_then_else_, _and_, eqZ, nat, within, below}
 use Rattle.stab.specs.Formula.{Row, Op, conj, disj, Kind, constant, literal, junction, iteration, unknown, kindOf, Base, nothing, parameter, index, baseOf, Formula, const, lit, join, iter, decode, tree, offset, wellFormedAs, wellFormed}
 use Rattle.stab.specs.Alike.{lower, lowerBase, instance, instanceLit, eqBool, eqOp, eqBase, agree}
-use Rattle.stab.proofs.Bools.{decide, and-left, and-right, and-both, and-first-false, and-second-false, if-true, if-false}
-use Rattle.stab.proofs.Whole.{minus, atom, num, _⊕_, _⊖_, less, parts, le-of, of-le, eq-of, of-eq, eqZ-true, eqZ-of, eqZ-not, eqZ-refl, plus-nat, nonneg-minus}
-use Rattle.stab.proofs.Trees.{below-nat, part-of, tree-is}
+use Rattle.stab.proofs.Bools.{decide, and-left, and-right, and-first-false, and-second-false, if-true, if-false, and-first-true}
+use Rattle.stab.proofs.Whole.{atom, num, _⊕_, _⊖_, less, of-le, eq-of, of-eq, eqZ-true, eqZ-of, eqZ-not, plus-nat, minus-nat}
+use Rattle.stab.proofs.Trees.{below-nat, tree-is}
+use Rattle.stab.proofs.Decoded.{formed-as, tree-constant, tree-literal, left-below, right-below, tree-junction, body-below, tree-iteration}
 use Rattle.leaves.specs.Compare.{changed, limit, literalOf, InRange}
 use Rattle.formula.specs.Facts.{AllFormed}
+use Rattle.stab.proofs.Alikes.{eqBool-true, eqBool-refl, eqOp-true, eqOp-refl, agree-refl}
 
 -- ---- whole numbers by their two natural parts
-
-pub minus-nat : (z : ℤ) → nat (negℤ z) ≡ minus z
-unfolding nat
-minus-nat (pos zero) = sym (nonneg-minus (pos 0) refl)
-minus-nat (pos (suc n)) = sym (nonneg-minus (pos (suc n)) (le-of (num 0) (num (suc n)) (omega arith)))
-minus-nat (negsuc n) =
-    omega (arith, parts (less (atom (negsuc n))), nonneg-minus (pos (suc n)) (le-of (num 0) (num (suc n)) (omega arith)), plus-nat (negsuc n), plus-nat (pos (suc n)))
 
 -- a whole number is the difference of its two parts
 pub whole-parts : (k : ℤ) → (pos (nat k) -ℤ pos (nat (negℤ k))) ≡ k
 whole-parts k = eq-of (num (nat k) ⊖ num (nat (negℤ k))) (atom k) (omega (arith, plus-nat k, minus-nat k))
-
--- a number of 32 bits has a negative part of 32 bits
-pub under-small : (z : ℤ) → SFits w32 z → nat (negℤ z) < 2 ^ 32
-unfolding nat
-under-small (pos zero) f = omega arith
-under-small (pos (suc n)) f = omega arith
-under-small (negsuc n) f = omega (arith, f .sfits)
 
 -- c - (up - down) is c + (down - up)
 pub less-is-more : (c : ℤ) (up down : ℕ) → (c +ℤ (pos down -ℤ pos up)) ≡ (c -ℤ (pos up -ℤ pos down))
@@ -120,20 +106,6 @@ headOf (lit v s x c) = literal v
 headOf (join o f g) = junction o
 headOf (iter o f b c) = iteration o
 
-eqBool-true : (v w : Bool) → eqBool v w ≡ true → v ≡ w
-unfolding eqBool
-eqBool-true true true h = refl
-eqBool-true true false h = sym h
-eqBool-true false true h = h
-eqBool-true false false h = refl
-
-eqOp-true : (o p : Op) → eqOp o p ≡ true → o ≡ p
-unfolding eqOp
-eqOp-true conj conj h = refl
-eqOp-true conj disj h = absurd (false≢true h)
-eqOp-true disj conj h = absurd (false≢true h)
-eqOp-true disj disj h = refl
-
 agree-head : (f g : Formula) → agree f g ≡ true → headOf f ≡ headOf g
 unfolding agree headOf
 agree-head (const v) (const w) h = ap constant (eqBool-true v w h)
@@ -202,46 +174,17 @@ changed-head mode k (iter o f b c) = ap headOf (changed-iter mode k o f b c)
 
 -- ---- two formulas of one kind agree by their parts
 
-eqBool-refl : (v : Bool) → eqBool v v ≡ true
-unfolding eqBool
-eqBool-refl true = refl
-eqBool-refl false = refl
-
-eqOp-refl : (o : Op) → eqOp o o ≡ true
-unfolding eqOp
-eqOp-refl conj = refl
-eqOp-refl disj = refl
-
-eqBase-refl : (x : Base) → eqBase x x ≡ true
-unfolding eqBase
-eqBase-refl nothing = refl
-eqBase-refl parameter = refl
-eqBase-refl index = refl
-
-true-and : (a b : Bool) → a ≡ true → (a and b) ≡ b
-unfolding _and_
-true-and true b h = refl
-true-and false b h = absurd (false≢true h)
-
 agree-lit : (v : Bool) (s t : ℤ) (x y : Base) (c d : ℤ) → agree (lit v s x c) (lit v t y d) ≡ (eqZ s t and eqBase x y and eqZ c d)
 unfolding agree
-agree-lit v s t x y c d = true-and (eqBool v v) _ (eqBool-refl v)
+agree-lit v s t x y c d = and-first-true (eqBool v v) _ (eqBool-refl v)
 
 agree-join : (o : Op) (f g h k : Formula) → agree (join o f g) (join o h k) ≡ (agree f h and agree g k)
 unfolding agree
-agree-join o f g h k = true-and (eqOp o o) _ (eqOp-refl o)
+agree-join o f g h k = and-first-true (eqOp o o) _ (eqOp-refl o)
 
 agree-iter : (o : Op) (f h : Formula) (b c d e : ℤ) → agree (iter o f b c) (iter o h d e) ≡ (agree f h and (eqZ b d and eqZ c e))
 unfolding agree
-agree-iter o f h b c d e = true-and (eqOp o o) _ (eqOp-refl o)
-
--- a formula agrees with itself
-pub agree-refl : (f : Formula) → agree f f ≡ true
-unfolding agree
-agree-refl (const v) = eqBool-refl v
-agree-refl (lit v s x c) = agree-lit v s s x x c c ∙ and-both _ _ (eqZ-refl s) (and-both _ _ (eqBase-refl x) (eqZ-refl c))
-agree-refl (join o f g) = agree-join o f g f g ∙ and-both _ _ (agree-refl f) (agree-refl g)
-agree-refl (iter o f b c) = agree-iter o f f b c b c ∙ and-both _ _ (agree-refl f) (and-both _ _ (eqZ-refl b) (eqZ-refl c))
+agree-iter o f h b c d e = and-first-true (eqOp o o) _ (eqOp-refl o)
 
 -- ---- literals: their bases by number
 
@@ -312,7 +255,7 @@ module _ (mode : ℕ) (k : ℤ) (w v : Row) where
   bases-differ h = literals-by ∙ and-second-false (eqZ (w .a) (v .a)) _ (and-first-false _ _ (eqBase-number base-to (baseOf (v .b)) ∙ ne-eqb _ _ h))
 
   bases-same : eqZ (w .a) (v .a) ≡ true → baseNumber base-to ≡ baseNumber (baseOf (v .b)) → agree (changed mode k (literalOf w)) (literalOf v) ≡ eqZ added-to (v .c)
-  bases-same h e = literals-by ∙ true-and _ _ h ∙ true-and _ _ (eqBase-number base-to (baseOf (v .b)) ∙ eq-eqb _ _ e)
+  bases-same h e = literals-by ∙ and-first-true _ _ h ∙ and-first-true _ _ (eqBase-number base-to (baseOf (v .b)) ∙ eq-eqb _ _ e)
 
   module _ (rw : InRange w) (rv : InRange v) (l : mode ≤ 2) where
     moved-base : 0 < mode → nat (w .b) ≡ mode → moves mode (baseOf (w .b)) ≡ true
@@ -361,10 +304,10 @@ limit-kept (suc (suc m)) k c h = refl
 
 module _ (mode : ℕ) (k b c d e : ℤ) (h : eqZ b d ≡ true) where
   pub ranges-lowered : mode ≡ 1 → (eqZ b d and eqZ (limit mode k c) e) ≡ eqZ (c +ℤ k) e
-  ranges-lowered m = true-and (eqZ b d) _ h ∙ ap (λ (z : ℤ). eqZ z e) (limit-lowered mode k c m)
+  ranges-lowered m = and-first-true (eqZ b d) _ h ∙ ap (λ (z : ℤ). eqZ z e) (limit-lowered mode k c m)
 
   pub ranges-kept : (mode ≡ 1 → ⊥) → (eqZ b d and eqZ (limit mode k c) e) ≡ eqZ c e
-  ranges-kept m = true-and (eqZ b d) _ h ∙ ap (λ (z : ℤ). eqZ z e) (limit-kept mode k c m)
+  ranges-kept m = and-first-true (eqZ b d) _ h ∙ ap (λ (z : ℤ). eqZ z e) (limit-kept mode k c m)
 
 -- ---- which kind a number stands for
 
@@ -419,13 +362,9 @@ kind-small (iteration o) h = omega (arith, opRank-small o)
 kind-small unknown h = absurd (h refl)
 
 module _ (rows : ℕ → Row) (r : ℕ) (h : wellFormed rows r ≡ true) where
-  formed-as : (k : Kind) → kindOf (rows r .kind) ≡ k → wellFormedAs rows r (rows r) k ≡ true
-  unfolding wellFormed
-  formed-as k e = subst (λ (x : Kind). wellFormedAs rows r (rows r) x ≡ true) e h
-
   formed-known : kindOf (rows r .kind) ≡ unknown → ⊥
   unfolding wellFormedAs
-  formed-known e = false≢true (formed-as unknown e)
+  formed-known e = false≢true (formed-as rows r unknown e h)
 
   kind-is : rows r .kind ≡ pos (kindNumber (kindOf (rows r .kind)))
   kind-is = ⊎-elim (λ e. absurd (formed-known e)) (λ e. e) (kind-known (rows r .kind))
@@ -436,37 +375,6 @@ module _ (rows : ℕ → Row) (r : ℕ) (h : wellFormed rows r ≡ true) where
 
   tree-head : headOf (tree rows r) ≡ kindOf (rows r .kind)
   tree-head = ap headOf (tree-is rows r) ∙ decode-head r (rows r) (kindOf (rows r .kind)) (tree rows) formed-known
-
-  tree-as : (k : Kind) → kindOf (rows r .kind) ≡ k → tree rows r ≡ decode r (rows r) k (tree rows)
-  tree-as k e = tree-is rows r ∙ ap (λ (x : Kind). decode r (rows r) x (tree rows)) e
-
-  -- the formula of a row, with its parts
-  pub tree-const : (v : Bool) → kindOf (rows r .kind) ≡ constant v → tree rows r ≡ const v
-  unfolding decode
-  tree-const v e = tree-as (constant v) e
-
-  pub tree-lit : (v : Bool) → kindOf (rows r .kind) ≡ literal v → tree rows r ≡ lit v (rows r .a) (baseOf (rows r .b)) (rows r .c)
-  unfolding decode
-  tree-lit v e = tree-as (literal v) e
-
-  join-parts : (o : Op) → kindOf (rows r .kind) ≡ junction o → (below r (rows r .a) ≡ true) × (below r (rows r .b) ≡ true)
-  unfolding wellFormedAs
-  join-parts o e = let w = formed-as (junction o) e in (and-left _ _ w, and-left _ _ (and-right (below r (rows r .a)) _ w))
-
-  iter-part : (o : Op) → kindOf (rows r .kind) ≡ iteration o → below r (rows r .a) ≡ true
-  unfolding wellFormedAs
-  iter-part o e = and-left _ _ (formed-as (iteration o) e)
-
-  pub tree-join : (o : Op) → kindOf (rows r .kind) ≡ junction o → tree rows r ≡ join o (tree rows (nat (rows r .a))) (tree rows (nat (rows r .b)))
-  unfolding decode
-  tree-join o e =
-      tree-as (junction o) e
-      ∙ ap₂ (join o) (part-of r (tree rows) (rows r .a) (join-parts o e .0)) (part-of r (tree rows) (rows r .b) (join-parts o e .1))
-
-  pub tree-iter : (o : Op) → kindOf (rows r .kind) ≡ iteration o → tree rows r ≡ iter o (tree rows (nat (rows r .a))) (rows r .b) (rows r .c)
-  unfolding decode
-  tree-iter o e =
-      tree-as (iteration o) e ∙ ap (λ (f : Formula). iter o f (rows r .b) (rows r .c)) (part-of r (tree rows) (rows r .a) (iter-part o e))
 
   -- which kind it is
   kind-constant : nat (rows r .kind) < 2 → (v : Bool) × (kindOf (rows r .kind) ≡ constant v)
@@ -486,7 +394,7 @@ module _ (rows : ℕ → Row) (r : ℕ) (h : wellFormed rows r ≡ true) where
   unfolding wellFormedAs
   literal-range p l =
       let k = kind-literal p l in
-      let w = formed-as (literal (k .0)) (k .1) in
+      let w = formed-as rows r (literal (k .0)) (k .1) h in
       let u = and-right (within (pos 0) (pos 255) (rows r .a)) _ w in
       record { base = and-left _ _ u; added = and-right (within (pos 0) (pos 2) (rows r .b)) _ u }
 
@@ -494,17 +402,16 @@ module _ (rows : ℕ → Row) (r : ℕ) (h : wellFormed rows r ≡ true) where
   unfolding wellFormedAs
   limit-offset p =
       let k = kind-iteration p in
-      let w = formed-as (iteration (k .0)) (k .1) in
+      let w = formed-as rows r (iteration (k .0)) (k .1) h in
       and-left _ _ (and-right (offset (rows r .b)) _ (and-right (below r (rows r .a)) _ w))
 
   pub junction-falls : 4 ≤ nat (rows r .kind) → nat (rows r .kind) < 6 → (nat (rows r .a) < r) × (nat (rows r .b) < r)
   junction-falls p l =
       let k = kind-junction p l in
-      let b = join-parts (k .0) (k .1) in
-      (below-nat r (rows r .a) (b .0), below-nat r (rows r .b) (b .1))
+      (below-nat r (rows r .a) (left-below rows r (k .0) (k .1) h), below-nat r (rows r .b) (right-below rows r (k .0) (k .1) h))
 
   pub iteration-falls : 6 ≤ nat (rows r .kind) → nat (rows r .a) < r
-  iteration-falls p = let k = kind-iteration p in below-nat r (rows r .a) (iter-part (k .0) (k .1))
+  iteration-falls p = let k = kind-iteration p in below-nat r (rows r .a) (body-below rows r (k .0) (k .1) h)
 
 -- ---- two well-formed rows side by side
 
@@ -533,15 +440,15 @@ module _ (rows : ℕ → Row) (mode : ℕ) (k : ℤ) (f g : ℕ) (wf : wellForme
     constants-agree l =
         let e = kind-constant rows f wf l in
         ap₂ agree
-        (ap (changed mode k) (tree-const rows f wf (e .0) (e .1)) ∙ changed-const mode k (e .0))
-        (tree-const rows g wg (e .0) (other-kind _ (e .1)))
+        (ap (changed mode k) (tree-constant rows f (e .0) (e .1)) ∙ changed-const mode k (e .0))
+        (tree-constant rows g (e .0) (other-kind _ (e .1)))
         ∙ eqBool-refl (e .0)
 
     pub literals-agree : 2 ≤ nat (rows f .kind) → nat (rows f .kind) < 4 → agree (changed mode k (tree rows f)) (tree rows g) ≡ agree (changed mode k (literalOf (rows f))) (literalOf (rows g))
     unfolding literalOf
     literals-agree p l =
         let e = kind-literal rows f wf p l in
-        ap₂ agree (ap (changed mode k) (tree-lit rows f wf (e .0) (e .1))) (tree-lit rows g wg (e .0) (other-kind _ (e .1)))
+        ap₂ agree (ap (changed mode k) (tree-literal rows f (e .0) (e .1))) (tree-literal rows g (e .0) (other-kind _ (e .1)))
         ∙ polarity (e .0) (rows f .a) (baseOf (rows f .b)) (rows f .c) (rows g .a) (baseOf (rows g .b)) (rows g .c)
       where
         polarity : (v : Bool) (s : ℤ) (x : Base) (c : ℤ) (t : ℤ) (y : Base) (d : ℤ) → agree (changed mode k (lit v s x c)) (lit v t y d) ≡ agree (changed mode k (lit true s x c)) (lit true t y d)
@@ -555,16 +462,16 @@ module _ (rows : ℕ → Row) (mode : ℕ) (k : ℤ) (f g : ℕ) (wf : wellForme
     junctions-agree p l =
         let e = kind-junction rows f wf p l in
         ap₂ agree
-        (ap (changed mode k) (tree-join rows f wf (e .0) (e .1)) ∙ changed-join mode k (e .0) _ _)
-        (tree-join rows g wg (e .0) (other-kind _ (e .1)))
+        (ap (changed mode k) (tree-junction rows f (e .0) (e .1) wf) ∙ changed-join mode k (e .0) _ _)
+        (tree-junction rows g (e .0) (other-kind _ (e .1)) wg)
         ∙ agree-join (e .0) _ _ _ _
 
     pub iterations-agree : 6 ≤ nat (rows f .kind) → agree (changed mode k (tree rows f)) (tree rows g) ≡ (agree (tree rows (nat (rows f .a))) (tree rows (nat (rows g .a))) and (eqZ (rows f .b) (rows g .b) and eqZ (limit mode k (rows f .c)) (rows g .c)))
     iterations-agree p =
         let e = kind-iteration rows f wf p in
         ap₂ agree
-        (ap (changed mode k) (tree-iter rows f wf (e .0) (e .1)) ∙ changed-iter mode k (e .0) _ _ _)
-        (tree-iter rows g wg (e .0) (other-kind _ (e .1)))
+        (ap (changed mode k) (tree-iteration rows f (e .0) (e .1) wf) ∙ changed-iter mode k (e .0) _ _ _)
+        (tree-iteration rows g (e .0) (other-kind _ (e .1)) wg)
         ∙ agree-iter (e .0) _ _ _ _ _ _
 
 -- a row that is not changed agrees with itself

@@ -1,22 +1,22 @@
 -- What a rule asks of its node's bound, rule by rule.
 use Prim.Native.Nat.{ℕ, _<_, _≤_}
 use native.Mathlib.Omega.{arith}
-use mathlib.Core.Path.{_≡_, refl, sym, _∙_, ap, ap₂, subst}
-use mathlib.Core.Logic.{_⊎_, inl, inr, ⊎-elim}
+use mathlib.Core.Path.{_≡_, refl, sym, _∙_, ap, ap₂}
+use mathlib.Core.Logic.{_⊎_, ⊎-elim}
 use mathlib.Core.Bool.{Bool, true, false}
 use mathlib.Core.List.{List}
 use lib.Dec.{eqb}
 use lib.IntN.{ℤ, pos}
 use lib.Signed.{leZ}
 use borrow.Author.Tests.{ne-eqb}
-use Rattle.stab.specs.Basic.{if_then_else_, _and_, _or_, _implies_, eqZ, nat, within, below}
-use Rattle.stab.specs.Formula.{Row, Op, conj, disj, kindOf, literal, iteration, Kind, offset, wellFormed, wellFormedAs}
+use Rattle.stab.specs.Basic.{_and_, _or_, _implies_, eqZ, nat, within, below}
+use Rattle.stab.specs.Formula.{Op, conj, disj, kindOf, literal, iteration, offset, wellFormedAs}
 use Rattle.stab.specs.Node.{Tableau, node, row, rows, rowCount, isRow, bound, boundOf}
 use Rattle.stab.specs.Rule as R
 use Rattle.stab.specs.Rule.{entry, ruleTable, ruleOf, ofRule, splitFits, unfoldFits, clashFits, voidFits, loopFits, boundFits}
 use Rattle.stab.specs.declared.Rule.{Rule}
 use Rattle.stab.proofs.Bools.{and-left, and-right, if-true}
-use Rattle.stab.proofs.Decoded.{kind-2, kind-3, kind-6, kind-7}
+use Rattle.stab.proofs.Decoded.{kind-2, kind-3, kind-6, kind-7, formed-as}
 use Rattle.stab.proofs.Scans.{below-suc}
 use Rattle.stab.proofs.Trees.{below-nat}
 use Rattle.stab.proofs.Whole.{atom, num, le-of, of-le, nat-pos}
@@ -131,10 +131,6 @@ Ranged T z = (nat z < rowCount T) × (offset (row T z .b) ≡ true) × (offset (
 
 abbrev pub Added : Tableau → ℤ → Type 0
 Added T z = (nat z < rowCount T) × (offset (row T z .c) ≡ true)
-
-formed-as : (rows : ℕ → Row) (r : ℕ) (k : Kind) → kindOf (rows r .kind) ≡ k → wellFormed rows r ≡ true → wellFormedAs rows r (rows r) k ≡ true
-unfolding wellFormed
-formed-as rows r k e h = subst (λ (x : Kind). wellFormedAs rows r (rows r) x ≡ true) e h
 
 module _ (T : Tableau) (formed : AllFormed (rows T) (rowCount T)) (z : ℤ) (inside : below (rowCount T) z ≡ true) where
   pub ranged : (o : Op) → kindOf (row T z .kind) ≡ iteration o → Ranged T z

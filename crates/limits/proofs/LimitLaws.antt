@@ -1,5 +1,5 @@
 -- The tests on bounds and indices, by natural parts.
-use Prim.Native.Nat.{ℕ, _+_, _≤_}
+use Prim.Native.Nat.{ℕ, _+_}
 use native.Mathlib.Omega.{arith}
 use mathlib.Core.Path.{_≡_, refl, sym, _∙_, ap, ap₂}
 use mathlib.Core.Logic.{⊎-elim}
@@ -14,8 +14,8 @@ use Rattle.stab.specs.Meaning.{base}
 use Rattle.stab.specs.Node.{Bound}
 use Rattle.stab.specs.Rule.{indexAt, loopFits}
 use Rattle.stab.proofs.Bools.{decide, same-test}
-use Rattle.stab.proofs.Whole.{atom, num, _⊕_, _⊖_, le-of, of-le, lt-of, not-lt-of, of-not-le, eq-of, of-eq, eqZ-true, plus-nat}
-use Rattle.leaves.proofs.Compares.{minus-nat, test-same}
+use Rattle.stab.proofs.Whole.{atom, num, _⊕_, _⊖_, le-of, of-le, lt-of, not-lt-of, of-not-le, eq-of, of-eq, eqZ-true, plus-nat, minus-nat}
+use Rattle.leaves.proofs.Compares.{test-same}
 
 -- L ≥ b + c
 pub reach-test : (b c : ℤ) (l : ℕ) → leb (nat b + nat c) (l + (nat (negℤ b) + nat (negℤ c))) ≡ leZ (b +ℤ c) (pos l)

@@ -1,19 +1,16 @@
 -- The laws of the passes that the model check is made of.
-use Prim.Native.Nat.{ℕ, zero, suc, _+_, _-_, _*_, _/_, _≤_, _<_, _^_}
+use Prim.Native.Nat.{ℕ, _+_, _-_, _*_, _≤_, _<_}
 use native.Mathlib.Omega.{arith}
-use native.Mathlib.Nat.{le-div-iff-mul-le}
 use native.Mathlib.Decide.{decLt}
-use mathlib.Core.Path.{_≡_, refl, sym, _∙_, ap, fun-ext}
+use mathlib.Core.Path.{_≡_, sym, _∙_, ap, fun-ext}
 use mathlib.Core.Bool.{Bool, true, false}
 use mathlib.Core.List.{List}
 use mathlib.Core.Option.{Option, none, some}
 use lib.Dec.{leb}
-use lib.IntN.{ℤ, pos, negsuc, negℤ}
+use lib.IntN.{ℤ, pos, negℤ}
 use lib.ListN.{length, getD, take, drop, length-drop}
 use lib.Seq.{take-all, getD-drop}
 use lib.Signed.{leZ}
-use mir.Syntax.{w32}
-use mir.Val.{SFits}
 use borrow.Author.Tests.{leb-true, le-leb}
 use Rattle.stab.specs.Basic.{_and_, nat, below, _otherwise_, scan}
 use Rattle.stab.specs.Formula.{Row, rowAt, joined}
@@ -30,10 +27,10 @@ use Rattle.stab.specs.declared.Verdict.the-variants.{Accepted, Refused}
 use Rattle.stab.proofs.Bools.{and-left, and-right, same-test, none-unless, unless-none, some-unless, otherwise-first, otherwise-second, otherwise-none, otherwise-some}
 use Rattle.stab.proofs.Findings.{otherwise-assoc}
 use Rattle.stab.proofs.Trees.{below-nat}
-use Rattle.stab.proofs.Whole.{atom, le-of, of-le, plus-nat}
+use Rattle.stab.proofs.Whole.{atom, le-of, of-le, plus-nat, minus-nat}
 use Rattle.formula.proofs.Columns.{joined-schema, joined-proof}
 use Rattle.model.specs.Passes.{tablesRefusal, truthRefusal}
-use Rattle.pairs.proofs.Parts.{minus-nat, high-is}
+use Rattle.pairs.proofs.Parts.{high-is}
 
 -- ---- tests
 
@@ -47,13 +44,6 @@ order-is a b =
 -- n is not over 9999
 pub n-small : (least n : ℤ) → (leZ least n and leZ n (pos 9999)) ≡ true → nat n ≤ 9999
 n-small least n h = leb-true (nat n) 9999 (sym (high-is 9999 n) ∙ and-right (leZ least n) _ h)
-
--- how far a number of 32 bits can lie below 0
-pub under-small : (z : ℤ) → SFits w32 z → nat (negℤ z) < 2 ^ 32
-unfolding nat
-under-small (pos zero) f = omega arith
-under-small (pos (suc n)) f = omega arith
-under-small (negsuc n) f = omega (arith, f .sfits)
 
 -- ---- refusals of the whole record
 

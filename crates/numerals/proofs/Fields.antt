@@ -1,5 +1,5 @@
 -- The first field of a text, and the natural number that it is, by the run of digits that it starts with.
-use Prim.Native.Nat.{ℕ, zero, suc, _+_, _*_, _-_, _<_, _≤_}
+use Prim.Native.Nat.{ℕ, zero, suc, _+_, _*_, _-_, _≤_}
 use native.Mathlib.Omega.{arith}
 use native.Mathlib.Nat.{add-zero}
 use mathlib.Core.Path.{_≡_, refl, sym, _∙_, ap, ap₂, subst}
@@ -11,11 +11,11 @@ use lib.Dec.{leb, eqb, leb·suc-zero, leb·suc-suc}
 use lib.IntN.{ℤ, pos, negsuc, negℤ}
 use lib.ListN.{length, getD, drop}
 use lib.Seq.{getD-drop}
-use borrow.Author.Tests.{leb-true, le-leb, lt-leb, eqb-true, eqb-false, eq-eqb, ne-eqb}
+use borrow.Author.Tests.{leb-true, le-leb, eqb-true, eq-eqb, ne-eqb}
 use Rattle.stab.specs.Basic.{if_then_else_, _and_, _or_, allOf}
 use Rattle.stab.specs.Text.{newline, space, minus, zeroDigit, sameBytes, isDigit, digitsValue, isNatural, someIf, numberOf}
-use Rattle.stab.proofs.Bools.{and-left, and-right, and-both, and-first-false, and-second-false, or-cases, or-left, or-right, or-false, if-true, if-false, decide, not-of-false, not-of-true}
-use Rattle.stab.proofs.Texts.Numbers.{digit-low, digit-high, natural-positive, natural-below, same-bytes-true}
+use Rattle.stab.proofs.Bools.{and-left, and-right, and-both, and-first-false, and-second-false, or-cases, or-left, or-right, or-false, if-true, if-false, decide, not-of-false}
+use Rattle.stab.proofs.Texts.Numbers.{digit-low, natural-positive, same-bytes-true}
 use Rattle.numerals.specs.Here.{endsField, field, fieldEnd, pastField, numberHere, naturalOf, naturalHere, runLength, runValue}
 use Rattle.numerals.specs.Numerals.{noNumeral, closedBy, numeralAs, naturalAt}
 use Rattle.numerals.specs.declared.Numeral.{Numeral}

@@ -2,18 +2,18 @@
 use Prim.Native.Nat.{ℕ, zero, suc, _+_, _*_, _-_, _<_, _≤_}
 use native.Mathlib.Omega.{arith}
 use native.Mathlib.Numerals.{add-one}
-use mathlib.Core.Path.{_≡_, refl, sym, _∙_, ap, ap₂, subst}
+use mathlib.Core.Path.{_≡_, refl, sym, _∙_, ap, ap₂}
 use mathlib.Core.Logic.{_⊎_, inl, inr, ⊎-elim}
-use mathlib.Core.Bool.{Bool, true, false, false≢true}
+use mathlib.Core.Bool.{true, false}
 use mathlib.Core.List.{List, [], _∷_}
 use lib.ListN.{length, getD, drop, drop-of-length-le, List·getD-eq-default}
 use lib.Seq.{drop-cons}
 use lib.Dec.{leb, ltb}
-use borrow.Author.Tests.{leb-true, le-leb, lt-leb, ltb-true, ltb-false}
-use Rattle.stab.specs.Basic.{if_then_else_, _and_}
+use borrow.Author.Tests.{le-leb, lt-leb, ltb-true, ltb-false}
+use Rattle.stab.specs.Basic.{_and_}
 use Rattle.stab.specs.Text.{isDigit}
 use Rattle.stab.proofs.Bools.{and-both, and-first-false, and-second-false, if-true, if-false, decide}
-use Rattle.stab.proofs.Texts.Numbers.{digit-low, digit-high}
+use Rattle.stab.proofs.Texts.Numbers.{digit-high}
 use Rattle.numerals.specs.Here.{runLength, runValue}
 
 -- ---- what stands at a place

@@ -1,9 +1,9 @@
 -- A number with its sign, by the natural number that stands for it.
-use Prim.Native.Nat.{ℕ, zero, suc, _+_, _<_, _≤_}
+use Prim.Native.Nat.{ℕ, zero, suc, _+_, _≤_}
 use native.Mathlib.Omega.{arith}
-use mathlib.Core.Path.{_≡_, refl, sym, _∙_, ap, ap₂, subst}
+use mathlib.Core.Path.{_≡_, refl, sym, _∙_, ap, ap₂}
 use mathlib.Core.Logic.{_⊎_, inl, inr, ⊎-elim}
-use mathlib.Core.Bool.{Bool, true, false, false≢true, true≢false}
+use mathlib.Core.Bool.{Bool, true, false}
 use mathlib.Core.List.{List, [], _∷_}
 use mathlib.Core.Option.{Option, none, some, Option·none-ne-some, Option·some-injective}
 use lib.Dec.{eqb}
@@ -18,7 +18,7 @@ use Rattle.numerals.specs.Here.{endsField, field, fieldEnd, pastField, n
 use Rattle.numerals.specs.Numerals.{noNumeral, numeralAs, naturalAt, signedOf, stepBy, stepOf, keptOf, keptBy, stepAt}
 use Rattle.numerals.specs.declared.Numeral.{Numeral}
 use Rattle.numerals.specs.declared.Step.the-variants.{Bad, More, Last}
-use Rattle.numerals.proofs.Fields.{end-here, end-later, field-more, ends-space, ends-line, ends-neither, lessOf, plainOf, here-less, here-plain, byte-of-drop}
+use Rattle.numerals.proofs.Fields.{end-here, end-later, field-more, ends-neither, lessOf, plainOf, here-less, here-plain, byte-of-drop}
 use Rattle.numerals.proofs.Runs.{drop-byte}
 
 -- ---- by the byte that ends the field

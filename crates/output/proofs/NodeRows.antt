@@ -14,11 +14,11 @@ use lib.ListN.{length, take, drop, getD, length-append, length-drop}
 use lib.Seq.{take-add, length-take-le}
 use borrow.Author.Tests.{le-leb}
 use Rattle.stab.specs.Basic.{_and_, allOf, eqZ, nat}
-use Rattle.stab.specs.Node.{Node, nodeAt, setStart, setFollows}
+use Rattle.stab.specs.Node.{nodeAt, setStart, setFollows}
 use Rattle.stab.specs.Text.{fiveDigits, bytes, rowLine, headingLine, rowHeading, nodeHeading}
 use Rattle.stab.specs.Write.{rowLines, proofText, nodeValues, nodeLines, nodeWritable, nodesWritable}
 use Rattle.stab.proofs.Bools.{and-both, and-first-false, and-second-false, decide}
-use Rattle.stab.proofs.Whole.{eqZ-of, eqZ-not, nat-pos}
+use Rattle.stab.proofs.Whole.{eqZ-of, eqZ-not, nat-pos, pos-injective}
 use Rattle.stab.proofs.Texts.Nodes.{Follows, follows, writable-at, node-values}
 use Rattle.digits.specs.Over.{spread}
 use Rattle.output.specs.NodeTexts.{columnsWidth, NodesWritable}
@@ -65,9 +65,6 @@ nodes-part nodes members i n h =
     sum = omega arith
 
 -- ---- where sets start
-
-pos-injective : (a b : ℕ) → pos a ≡ pos b → a ≡ b
-pos-injective a b e = cc
 
 pub pos-nat : (z : ℤ) (n : ℕ) → z ≡ pos n → z ≡ pos (nat z)
 unfolding nat

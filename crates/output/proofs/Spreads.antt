@@ -13,7 +13,7 @@ use Rattle.stab.proofs.Bools.{and-left, and-right, and-both, and-first-false, a
 use Rattle.stab.proofs.Texts.Lines.{rowBytes, row-line, join, spaced}
 use Rattle.stab.proofs.Texts.Rows.{all-append}
 use Rattle.digits.specs.Over.{over, spread}
-use Rattle.digits.proofs.Decimals.{count-some, count-most}
+use Rattle.digits.proofs.Decimals.{count-most}
 
 -- ---- one number more
 
@@ -31,11 +31,6 @@ pub spread-more : (t : List ℤ) (i : ℕ) → i < length t → spread (take (su
 spread-more t i h = ap spread (take-suc t i (pos 0) h) ∙ spread-append (take i t) (getD t i (pos 0) ∷ [])
 
 -- ---- lengths
-
-pub decimal-some : (z : ℤ) → 1 ≤ length (decimal z)
-unfolding decimal
-decimal-some (pos v) = count-some 4 v
-decimal-some (negsuc v) = omega arith
 
 pub decimal-most : (z : ℤ) → length (decimal z) ≤ 6
 unfolding decimal minus

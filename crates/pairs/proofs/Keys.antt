@@ -4,7 +4,7 @@ use native.Mathlib.Omega.{arith}
 use native.Mathlib.Numerals.{add-one, sub-one}
 use mathlib.Core.Path.{_≡_, refl, sym, _∙_, ap, ap₂, subst}
 use mathlib.Core.Logic.{⊎-elim}
-use mathlib.Core.Bool.{Bool, true, false, true≢false}
+use mathlib.Core.Bool.{Bool, true, false}
 use mathlib.Core.List.{List}
 use mathlib.Core.Option.{none, some}
 use lib.Dec.{ltb, eqb}
@@ -17,14 +17,14 @@ use Rattle.stab.specs.Check.{atUnless}
 use Rattle.stab.specs.declared.Place.the-variants.{At}
 use Rattle.stab.specs.declared.Refusal.the-variants.{Pair}
 use Rattle.stab.specs.declared.Verdict.the-variants.{Refused}
-use Rattle.stab.proofs.Bools.{and-left, and-right, and-both, or-cases, or-left, or-right, or-false, if-true, if-false, decide, same-test, none-unless, unless-none, some-unless}
-use Rattle.stab.proofs.Whole.{atom, num, _⊕_, _⊖_, lt-of, of-lt, of-not-lt, of-eq, plus-nat, nat-pos, eqZ-true, eqZ-of}
+use Rattle.stab.proofs.Bools.{and-left, and-right, and-both, or-cases, or-left, or-right, or-false, if-true, if-false, decide, same-test, none-unless, unless-none, some-unless, or-first-false}
+use Rattle.stab.proofs.Whole.{atom, num, _⊕_, _⊖_, lt-of, of-lt, of-not-lt, of-eq, plus-nat, nat-pos, eqZ-true, eqZ-of, minus-nat}
 use Rattle.stab.proofs.Scans.{below-suc, none-scan, scan-more, scan-found}
 use Rattle.pairs.specs.Index.{unbiased}
 use Rattle.pairs.specs.Pairs.{AllInRange, Sorted, keyAt, keysBelow}
 use Rattle.pairs.specs.Word.{wordAt}
 use Rattle.pairs.proofs.Words.{word-same, word-none, word-set}
-use Rattle.pairs.proofs.Parts.{minus-nat, within-under, within-nat, biased-parts, unbiased-of}
+use Rattle.pairs.proofs.Parts.{within-under, within-nat, biased-parts, unbiased-of}
 
 -- ---- two pairs, by numbers
 
@@ -147,11 +147,6 @@ key-rises t n s k l p q =
 
 -- ---- the list
 
-or-second : (a b : Bool) → a ≡ false → (a or b) ≡ b
-unfolding _or_
-or-second true b h = absurd (true≢false h)
-or-second false b h = refl
-
 pub listed-at : (t : List ℤ) (n : ℕ) (s i : ℤ) (k : ℕ) → k < n → isPair t s i k ≡ true → listed t n s i ≡ true
 unfolding listed
 listed-at t zero s i k p h = absurd (omega arith)
@@ -174,7 +169,7 @@ listed-stop t k zero s i p h =
     ap (λ (m : ℕ). listed t m s i) e
 listed-stop t k (suc n) s i p h =
     ⊎-elim
-    (λ q. listed-stop t k n s i (omega arith) (λ l u v. h l u (omega arith)) ∙ sym (or-second (isPair t s i n) _ (h n (omega arith) (omega arith))))
+    (λ q. listed-stop t k n s i (omega arith) (λ l u v. h l u (omega arith)) ∙ sym (or-first-false (isPair t s i n) _ (h n (omega arith) (omega arith))))
     (λ e. ap (λ (m : ℕ). listed t m s i) e)
     (below-suc k (suc n) (omega arith))
 
@@ -294,7 +289,7 @@ module _ (t : List ℤ) (n a x w : ℕ) (s : Sorted t n) (q : x + w ≤ 131072) 
       ∙ word-set (λ j. listed t k (pos a) (unbiased (x + j))) (λ j. listed t (suc k) (pos a) (unbiased (x + j))) w d (omega arith)
       (listed-none t k (pos a) (unbiased (x + d)) (λ m u. not-at m d (omega arith) (omega arith) (λ e. omega (arith, key-less t n s m k u p))))
       (listed-at t (suc k) (pos a) (unbiased (x + d)) k (omega arith) (pair-at k d p (omega arith) ∙ eq-eqb (keyAt t k) (a * 131072 + (x + d)) here))
-      (λ j u f. sym (or-second (isPair t (pos a) (unbiased (x + j)) k) _ (not-at k j p u (λ e. f (omega arith)))))
+      (λ j u f. sym (or-first-false (isPair t (pos a) (unbiased (x + j)) k) _ (not-at k j p u (λ e. f (omega arith)))))
 
   pub walk-end : (k : ℕ) → k ≤ n → ((l : ℕ) → k ≤ l → l < n → a * 131072 + x + w ≤ keyAt t l) → wordAt (listed t k (pos a)) x w ≡ wordAt (listed t n (pos a)) x w
   unfolding wordAt

@@ -11,15 +11,8 @@ use borrow.Author.Tests.{leb-true}
 use Rattle.stab.specs.Basic.{_and_, nat, within}
 use Rattle.stab.specs.Meaning.{rangeSize}
 use Rattle.stab.proofs.Bools.{and-left, and-right}
-use Rattle.stab.proofs.Whole.{plus, minus, Exp, atom, num, less, _⊕_, _⊖_, eval, P, N, parts, le-of, eq-of, of-eq, plus-nat, nonneg-minus}
+use Rattle.stab.proofs.Whole.{plus, minus, Exp, atom, num, _⊕_, _⊖_, eval, P, N, parts, le-of, eq-of, of-eq, plus-nat, nonneg-minus, minus-nat}
 use Rattle.pairs.specs.Index.{unbiased}
-
-pub minus-nat : (z : ℤ) → nat (negℤ z) ≡ minus z
-unfolding nat
-minus-nat (pos zero) = sym (nonneg-minus (pos zero) (leb·zero zero))
-minus-nat (pos (suc n)) = sym (nonneg-minus (pos (suc n)) (leb·zero (suc n)))
-minus-nat (negsuc n) =
-    omega (arith, parts (less (atom (negsuc n))), plus-nat (negsuc n), plus-nat (pos (suc n)), nonneg-minus (pos (suc n)) (leb·zero (suc n)))
 
 one-part : (z : ℤ) → (plus z ≡ 0) ⊎ (minus z ≡ 0)
 unfolding nat

@@ -10,7 +10,7 @@ use Rattle.stab.specs.Answer.{verdictNumbers, Packs}
 use Rattle.stab.specs.Program.{printed, tableauOf, modelOf, afterReading, checkProgram, modelProgram}
 use Rattle.stab.proofs.Packed.{check-packs, model-packs}
 use Rattle.outcome.specs.Outcomes.{verdictOf, afterSchema, checkAfter, checkOutcome, modelAfter, modelOutcome}
-use Rattle.program.proofs.LineBounds.{Under, schema-under, proof-under, model-under}
+use Rattle.stab.proofs.Entries.{Stops, stops-schema, stops-proof, stops-model}
 
 -- ---- what is printed
 
@@ -38,7 +38,7 @@ model-prints schema model = ap printed (model-numbers (readSchema 4096 schema) (
 
 -- ---- how large its numbers are
 
-check-small : (s : Reading SchemaText) (p : Reading ProofText) → Under 1028 s → Under 2051 p → Packs (verdictOf (afterSchema (checkAfter p) s))
+check-small : (s : Reading SchemaText) (p : Reading ProofText) → Stops 4100 s → Stops 4100 p → Packs (verdictOf (afterSchema (checkAfter p) s))
 unfolding afterSchema checkAfter
 check-small (read a) (read b) u v = check-packs _
 check-small (read a) (stopped why k) u v = omega arith
@@ -46,9 +46,9 @@ check-small (stopped why k) p u v = omega arith
 
 pub check-outcome-packs : (schema proof : List ℕ) → Packs (verdictOf (checkOutcome schema proof))
 unfolding checkOutcome
-check-outcome-packs schema proof = check-small (readSchema 4096 schema) (readProof 4096 9216 8192 proof) (schema-under schema) (proof-under proof)
+check-outcome-packs schema proof = check-small (readSchema 4096 schema) (readProof 4096 9216 8192 proof) (stops-schema 4096 schema) (stops-proof 4096 9216 8192 proof)
 
-model-small : (s : Reading SchemaText) (m : Reading ModelText) → Under 1028 s → Under 4100 m → Packs (verdictOf (afterSchema (modelAfter m) s))
+model-small : (s : Reading SchemaText) (m : Reading ModelText) → Stops 4100 s → Stops 4100 m → Packs (verdictOf (afterSchema (modelAfter m) s))
 unfolding afterSchema modelAfter
 model-small (read a) (read b) u v = model-packs _
 model-small (read a) (stopped why k) u v = omega arith
@@ -56,4 +56,4 @@ model-small (stopped why k) m u v = omega arith
 
 pub model-outcome-packs : (schema model : List ℕ) → Packs (verdictOf (modelOutcome schema model))
 unfolding modelOutcome
-model-outcome-packs schema model = model-small (readSchema 4096 schema) (readModel 8192 model) (schema-under schema) (model-under model)
+model-outcome-packs schema model = model-small (readSchema 4096 schema) (readModel 8192 model) (stops-schema 4096 schema) (stops-model 8192 model)

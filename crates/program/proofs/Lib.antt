@@ -1,4 +1,3 @@
-pub mod LineBounds
 pub mod Judgements
 pub mod Faults
 pub mod Prints

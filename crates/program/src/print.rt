@@ -4,7 +4,6 @@ use stab::Verdict;
 ghost use mathlib.Core.Path.{_≡_};
 ghost use mathlib.Core.Bool.{true};
 ghost use Prim.Native.Nat.{_+_, _≤_};
-ghost use lib.IntN.{pos};
 ghost use lib.ListN.{length};
 ghost use Rattle.stab.specs.Basic.{allOf};
 ghost use Rattle.stab.specs.Text.{fiveDigits, padded};
@@ -14,14 +13,6 @@ ghost use Rattle.program.specs.Printing.{numberRow, printedRow};
 
 const HEADING: [u8; 24] = *b"answer place nodes links";
 
-// A natural number as a number of a row.
-fn whole(v: usize) -> i32
-    requires { ⌜ v ≤ 99999 ⌝ }
-    ensures { λ r. ⌜ r ≡ pos v ⌝ }
-{
-    v as i32
-}
-
 // The number of a place.
 fn place_number(place: Place) -> i32
     requires { ⌜ placeCode place ≤ 99999 ⌝ }
@@ -29,7 +20,7 @@ fn place_number(place: Place) -> i32
 {
     match place {
         Place::Whole => -1,
-        Place::At(k) => whole(k),
+        Place::At(k) => signed::of(k),
     }
 }
 
@@ -39,10 +30,10 @@ fn numbers(v: Verdict) -> [i32; 4]
     ensures { λ r. ⌜ r ≡ numberRow (verdictNumbers v) ⌝ }
 {
     match v {
-        Verdict::Accepted { nodes, links } => [0, 0, whole(nodes), whole(links)],
+        Verdict::Accepted { nodes, links } => [0, 0, signed::of(nodes), signed::of(links)],
         Verdict::Refused { why, place } => {
             [
-                whole(answer::number(why) as usize),
+                signed::of(answer::number(why) as usize),
                 place_number(place),
                 0,
                 0,

@@ -1,25 +1,25 @@
 -- The lines that stand once in a text, and its rows.
-use Prim.Native.Nat.{ℕ, _+_, _*_, _-_, _<_, _≤_}
+use Prim.Native.Nat.{ℕ, _+_, _-_}
 use native.Mathlib.Omega.{arith}
 use mathlib.Core.Path.{_≡_, refl, sym, _∙_, ap, ap₂}
 use mathlib.Core.Bool.{false}
-use mathlib.Core.List.{List, [], _∷_}
+use mathlib.Core.List.{List}
 use lib.Dec.{eqb}
 use lib.IntN.{ℤ, pos}
-use lib.ListN.{length, take, drop, getD}
+use lib.ListN.{length, drop, getD}
 use Rattle.stab.specs.Text.{Line, lines, schemaHeading, rowHeading, modelHeading, pairHeading}
 use Rattle.stab.specs.Read.{Reading, read, stopped, _andThen_, headingAt, valuesAt, rowsFrom, proofRowsFrom, readSchemaLines, readModelLines, readProofLines}
 use Rattle.stab.specs.declared.Refusal.the-variants.{Line as LineRefused}
 use Rattle.stab.proofs.Texts.Rows.{then-is}
-use Rattle.reading.specs.Awaiting.{Whole, schema, model, proof, schemaWith, modelWith, schemaRows, modelRows, asProof, rest, goesOn, Single, Ready, Moved, headed, RowTaken, Listed}
+use Rattle.reading.specs.Awaiting.{schema, model, schemaWith, modelWith, schemaRows, modelRows, asProof, rest, goesOn, Ready, Moved, headed, RowTaken, Listed}
 use Rattle.reading.specs.declared.awaited.Taken.{Taken}
 use Rattle.reading.specs.declared.awaited.Awaited.{Awaited}
 use Rattle.reading.specs.declared.awaited.Awaited.the-variants.{Row, Pair, Formula, SchemaHeading, SchemaValues, RowHeading, ModelHeading, ModelValue, PairHeading, ProofHeading, Schema, Model, BadLine}
-use Rattle.rowlines.proofs.Headings.{schema-lacks, row-lacks, model-lacks, pair-lacks}
 use Rattle.reading.proofs.Openings.{then-then, then-same}
 use Rattle.reading.proofs.ProofLaws.{proof-ahead-none}
 use Rattle.rowlines.proofs.RowLaws.{ahead-none, then-stops, values-stop, front, rowsSoFar}
 use Rattle.reading.proofs.TakenLaws.{stays, goes, heading-moved, row-moved, listed-moved}
+use Rattle.stab.proofs.Texts.Kinds.{schema-heading-lacks, row-heading-lacks, model-heading-lacks, pair-heading-lacks}
 
 -- ---- the definitions, one line at a time
 
@@ -76,7 +76,7 @@ module _ (text : List ℕ) (at : ℕ) (t u m : List ℤ) where
   pub schema-heading : Ready text at SchemaHeading t u m → (a : Taken) → a ≡ headed schemaHeading text at 1 SchemaValues → Moved text at SchemaHeading t u m (a .next) (a .got) t u m
   unfolding rest
   schema-heading r a x =
-      heading-moved text at SchemaHeading t u m r schemaHeading schema-lacks 1 SchemaValues (r .room) refl
+      heading-moved text at SchemaHeading t u m r schemaHeading schema-heading-lacks 1 SchemaValues (r .room) refl
       (λ ls. valuesAt (eqb 2) 2 ls andThen λ v. schemaRows (v .0) (v .1)) (schema-lines (lines (drop at text))) (λ ls. refl) a x
 
   pub schema-values : Ready text at SchemaValues t u m → (u′ : List ℤ) → length u′ ≡ length u → (a : Taken) → RowTaken text at u 2 0 1 2 RowHeading u′ a
@@ -94,7 +94,7 @@ module _ (text : List ℕ) (at : ℕ) (t u m : List ℤ) where
   pub row-heading : Ready text at RowHeading t u m → (a : Taken) → a ≡ headed rowHeading text at 3 (Row 0) → Moved text at RowHeading t u m (a .next) (a .got) t u m
   unfolding rest schemaRows
   row-heading r a x =
-      heading-moved text at RowHeading t u m r rowHeading row-lacks 3 (Row 0) (omega arith, r .room) refl (λ ls. schemaWith u (rowsFrom 4 1024 4 ls)) refl (λ ls. ap (schemaWith u) (sym (ahead-none (rowsFrom 4 1024 4 ls)))) a x
+      heading-moved text at RowHeading t u m r rowHeading row-heading-lacks 3 (Row 0) (omega arith, r .room) refl (λ ls. schemaWith u (rowsFrom 4 1024 4 ls)) refl (λ ls. ap (schemaWith u) (sym (ahead-none (rowsFrom 4 1024 4 ls)))) a x
 
   pub schema-row : (n : ℕ) → Ready text at (Row n) t u m → (t′ : List ℤ) → length t′ ≡ length t → (a : Taken) → Listed text at t 4 n 1024 (Row (n + 1)) (Schema n) t′ a
       → Moved text at (Row n) t u m (a .next) (a .got) t′ u m
@@ -108,7 +108,7 @@ module _ (text : List ℕ) (at : ℕ) (t u m : List ℤ) where
   pub model-heading : Ready text at ModelHeading t u m → (a : Taken) → a ≡ headed modelHeading text at 1 ModelValue → Moved text at ModelHeading t u m (a .next) (a .got) t u m
   unfolding rest
   model-heading r a x =
-      heading-moved text at ModelHeading t u m r modelHeading model-lacks 1 ModelValue (r .room) refl
+      heading-moved text at ModelHeading t u m r modelHeading model-heading-lacks 1 ModelValue (r .room) refl
       (λ ls. valuesAt (eqb 1) 2 ls andThen λ v. modelRows (v .0) (v .1)) (model-lines (lines (drop at text))) (λ ls. refl) a x
 
   pub model-value : Ready text at ModelValue t u m → (u′ : List ℤ) → length u′ ≡ length u → (a : Taken) → RowTaken text at u 1 0 1 2 PairHeading u′ a
@@ -126,7 +126,7 @@ module _ (text : List ℕ) (at : ℕ) (t u m : List ℤ) where
   pub pair-heading : Ready text at PairHeading t u m → (a : Taken) → a ≡ headed pairHeading text at 3 (Pair 0) → Moved text at PairHeading t u m (a .next) (a .got) t u m
   unfolding rest modelRows
   pair-heading r a x =
-      heading-moved text at PairHeading t u m r pairHeading pair-lacks 3 (Pair 0) (omega arith, r .room) refl (λ ls. modelWith u (rowsFrom 2 4096 4 ls)) refl (λ ls. ap (modelWith u) (sym (ahead-none (rowsFrom 2 4096 4 ls)))) a x
+      heading-moved text at PairHeading t u m r pairHeading pair-heading-lacks 3 (Pair 0) (omega arith, r .room) refl (λ ls. modelWith u (rowsFrom 2 4096 4 ls)) refl (λ ls. ap (modelWith u) (sym (ahead-none (rowsFrom 2 4096 4 ls)))) a x
 
   pub model-pair : (k : ℕ) → Ready text at (Pair k) t u m → (t′ : List ℤ) → length t′ ≡ length t → (a : Taken) → Listed text at t 2 k 4096 (Pair (k + 1)) (Model k) t′ a
       → Moved text at (Pair k) t u m (a .next) (a .got) t′ u m
@@ -140,7 +140,7 @@ module _ (text : List ℕ) (at : ℕ) (t u m : List ℤ) where
   pub proof-heading : Ready text at ProofHeading t u m → (a : Taken) → a ≡ headed rowHeading text at 1 (Formula 0) → Moved text at ProofHeading t u m (a .next) (a .got) t u m
   unfolding rest
   proof-heading r a x =
-      heading-moved text at ProofHeading t u m r rowHeading row-lacks 1 (Formula 0) (omega arith, r .room .0, r .room .1, r .room .2) refl
+      heading-moved text at ProofHeading t u m r rowHeading row-heading-lacks 1 (Formula 0) (omega arith, r .room .0, r .room .1, r .room .2) refl
       (λ ls. asProof (proofRowsFrom 1024 2 ls)) (proof-lines (lines (drop at text))) (λ ls. ap asProof (sym (proof-ahead-none (proofRowsFrom 1024 2 ls)))) a x
 
   -- ---- nothing is awaited

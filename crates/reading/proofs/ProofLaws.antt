@@ -1,20 +1,19 @@
 -- A proof text, part by part.
-use Prim.Native.Nat.{ℕ, zero, suc, _+_, _*_, _-_, _/_, _<_, _≤_}
+use Prim.Native.Nat.{ℕ, suc, _+_, _*_, _-_, _/_, _<_, _≤_}
 use native.Mathlib.Omega.{arith}
-use native.Mathlib.Numerals.{add-one}
-use mathlib.Core.Path.{_≡_, refl, sym, _∙_, ap, ap₂, subst}
-use mathlib.Core.Logic.{_⊎_, inl, inr, ⊎-elim}
+use mathlib.Core.Path.{_≡_, refl, sym, _∙_, ap, ap₂}
+use mathlib.Core.Logic.{_⊎_, ⊎-elim}
 use mathlib.Core.Bool.{Bool, true, false}
 use mathlib.Core.List.{List, [], _∷_, _++_, append-assoc, append-nil}
-use mathlib.Core.Option.{Option, none, some}
+use mathlib.Core.Option.{none, some}
 use lib.Dec.{eqb, leb}
-use lib.IntN.{ℤ, pos}
+use lib.IntN.{ℤ}
 use lib.ListN.{length, take, drop, getD, drop-of-length-le}
 use lib.Seq.{drop-cons, length-take-le}
 use borrow.Author.Tests.{eq-eqb, ne-eqb, le-leb, lt-leb, leb-true}
-use Rattle.stab.specs.Basic.{if_then_else_, _and_}
+use Rattle.stab.specs.Basic.{_and_}
 use Rattle.stab.specs.Text.{Line, lines, sameBytes, nodeHeading, textLimit}
-use Rattle.stab.specs.Read.{Reading, read, stopped, _andThen_, require, values, headingAt, startsWithU, nodesFrom, ProofText, proofRowsFrom, readProofLines, readProof, readText}
+use Rattle.stab.specs.Read.{Reading, read, stopped, _andThen_, require, headingAt, startsWithU, nodesFrom, ProofText, proofRowsFrom, readProofLines, readProof}
 use Rattle.stab.specs.Read.{proofAnswer, proofTable, nodeTable, memberTable, tableOf}
 use Rattle.stab.specs.declared.Refusal.{Refusal}
 use Rattle.stab.specs.declared.Refusal.the-variants.{TextTooLong, TableTooShort, TooMany, Heading}

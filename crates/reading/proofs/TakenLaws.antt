@@ -1,19 +1,18 @@
 -- What a line comes to.
-use Prim.Native.Nat.{ℕ, zero, suc, _+_, _*_, _-_, _<_, _≤_}
+use Prim.Native.Nat.{ℕ, suc, _+_, _*_, _-_, _<_, _≤_}
 use native.Mathlib.Omega.{arith}
 use native.Mathlib.Nat.{add-zero}
-use mathlib.Core.Path.{_≡_, refl, sym, _∙_, ap, ap₂, subst}
+use mathlib.Core.Path.{_≡_, refl, sym, _∙_, ap, subst}
 use mathlib.Core.Logic.{_⊎_, inl, inr, ⊎-elim}
-use mathlib.Core.Bool.{Bool, true, false, true≢false, false≢true}
-use mathlib.Core.List.{List, [], _∷_}
+use mathlib.Core.Bool.{Bool, true, false, true≢false}
+use mathlib.Core.List.{List, []}
 use mathlib.Core.Option.{none}
 use lib.Dec.{eqb, leb}
 use lib.IntN.{ℤ, pos}
 use lib.ListN.{length, take, drop, getD, set}
 use borrow.Author.Tests.{eqb-true, eq-eqb}
-use Rattle.stab.specs.Basic.{if_then_else_}
-use Rattle.stab.specs.Text.{Line, lines, textLimit, nodeHeading}
-use Rattle.stab.specs.Read.{Reading, read, stopped, _andThen_, headingAt, rowsFrom, nodesFrom}
+use Rattle.stab.specs.Text.{Line, lines, nodeHeading}
+use Rattle.stab.specs.Read.{Reading, read, stopped, _andThen_, headingAt, nodesFrom}
 use Rattle.stab.specs.declared.Refusal.{Refusal}
 use Rattle.stab.specs.declared.Refusal.the-variants.{Heading as HeadingRefused, Line as LineRefused, TooMany as TooManyRefused}
 use Rattle.stab.proofs.Bools.{if-true, if-false, decide}
@@ -22,17 +21,18 @@ use Rattle.stab.proofs.Texts.Rows.{then-is}
 use Rattle.numerals.specs.Here.{afterLine, row}
 use Rattle.rowlines.specs.Rows.{isHeading, afterHeading, wanted, RowOf, RowEnded}
 use Rattle.rowlines.specs.Nodes.{NodeRead, nodesAhead}
-use Rattle.reading.specs.Awaiting.{Whole, rest, goesOn, leftIf, left, Room, Ready, Moved, headed, rowBy, RowTaken, Listed, asProof, proofWith}
+use Rattle.reading.specs.Awaiting.{Whole, rest, goesOn, leftIf, Room, Ready, Moved, headed, rowBy, RowTaken, Listed, asProof, proofWith}
 use Rattle.rowlines.specs.declared.rows.Found.{Found}
 use Rattle.rowlines.specs.declared.rows.Found.the-variants.{At, Nothing}
 use Rattle.reading.specs.declared.awaited.Taken.{Taken}
 use Rattle.reading.specs.declared.awaited.Awaited.{Awaited}
-use Rattle.reading.specs.declared.awaited.Awaited.the-variants.{Row, Pair, Formula, Node, SchemaHeading, SchemaValues, RowHeading, ModelHeading, ModelValue, PairHeading, ProofHeading, Schema, Model, Proof, NoHeading, BadLine, TooMany}
+use Rattle.reading.specs.declared.awaited.Awaited.the-variants.{Formula, Node, Proof, NoHeading, BadLine, TooMany}
 use Rattle.rowlines.proofs.RowLaws.{then-stops, rowsSoFar, rows-done, rows-stop, rows-full, rows-next}
 use Rattle.reading.proofs.ProofLaws.{withNodes, proofSoFar, formulas-stop, formulas-full, formulas-next, formulas-missing, formulas-heading}
 use Rattle.rowlines.proofs.NodeLaws.{nodesSoFar, nodes-ahead-none, nodes-done, nodes-stop, nodes-too-many, members-too-many, nodes-next}
-use Rattle.rowlines.proofs.Headings.{heading-stops, heading-passed, heading-reads, heading-inside, node-lacks}
+use Rattle.rowlines.proofs.Headings.{heading-stops, heading-passed, heading-reads, heading-inside}
 use Rattle.reading.proofs.Openings.{then-then}
+use Rattle.stab.proofs.Texts.ProofRows.{node-heading-lacks}
 
 -- ---- a line that ends the reading, and one after which it goes on
 
@@ -163,7 +163,7 @@ module _ (text : List ℕ) (at n : ℕ) (t u m : List ℤ) (r : Ready text at (F
       → Moved text at (Formula n) t u m (a .next) (a .got) t u m
   unfolding asProof
   formula-heading l e a x =
-      heading-moved text at (Formula n) t u m r nodeHeading node-lacks (2 + n) (Node n 0 0)
+      heading-moved text at (Formula n) t u m r nodeHeading node-heading-lacks (2 + n) (Node n 0 0)
       (r .room .0, omega arith, omega arith, r .room .1, r .room .2, r .room .3) refl
       (λ ls. asProof (nodesFrom 1024 0 (3 + n) ls andThen withNodes (take (4 * n) t)))
       (formulas-before ∙ ap asProof (formulas-heading text t n at l e) ∙ then-then (headingAt nodeHeading (2 + n) (lines (drop at text))) _ _) first a x

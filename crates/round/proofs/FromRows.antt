@@ -4,7 +4,7 @@ use native.Mathlib.Omega.{arith}
 use native.Mathlib.Nat.{mul-div-cancel-left}
 use mathlib.Core.Path.{_≡_, refl, sym, _∙_, ap, subst}
 use mathlib.Core.Bool.{Bool, true, false}
-use mathlib.Core.List.{List, []}
+use mathlib.Core.List.{List}
 use lib.Dec.{leb}
 use lib.IntN.{ℤ, pos}
 use lib.ListN.{length, take, replicate, length-append}
@@ -12,7 +12,7 @@ use lib.Seq.{take-at, length-take-le}
 use borrow.Author.Tests.{leb-true, le-leb}
 use Rattle.stab.specs.Basic.{_and_}
 use Rattle.stab.specs.Text.{Line, lines, fiveDigits, textLimit, padded}
-use Rattle.stab.specs.Read.{Reading, read, stopped, require, readText, readSchemaLines, readProofLines, readModelLines, readSchema, readProof, readModel, schemaAnswer, proofAnswer, modelAnswer, schemaTable, proofTable, nodeTable, memberTable, pairTable, tableOf}
+use Rattle.stab.specs.Read.{Reading, stopped, require, readText, readSchemaLines, readProofLines, readModelLines, readSchema, readProof, readModel, schemaAnswer, proofAnswer, modelAnswer, schemaTable, proofTable, nodeTable, memberTable, pairTable, tableOf}
 use Rattle.stab.specs.Check.{holds}
 use Rattle.stab.specs.Write.{Writing, wrote, refused, rowsWritable, setsWritable, schemaText, proofText, modelText, writeSchema, writeProof, writeModel, written, output}
 use Rattle.stab.specs.declared.Place.{Place}

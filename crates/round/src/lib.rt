@@ -1,4 +1,5 @@
 // Ways there and back: a text is read and written again, rows are written and read again.
+use rowlines::rows;
 use stab::ModelRead;
 use stab::ProofRead;
 use stab::SchemaRead;
@@ -6,8 +7,7 @@ use stab::Written;
 ghost use mathlib.Core.Path.{_≡_};
 ghost use Prim.Native.Nat.{_*_};
 ghost use lib.Dec.{leb};
-ghost use lib.IntN.{pos};
-ghost use lib.ListN.{length, take, replicate};
+ghost use lib.ListN.{length, take};
 ghost use Rattle.stab.specs.Basic.{_and_};
 ghost use Rattle.stab.specs.Read.{readSchema, schemaTable, readProof, proofTable, nodeTable, memberTable, readModel, pairTable};
 ghost use Rattle.stab.specs.Write.{writeSchema, writeProof, writeModel, output};
@@ -75,17 +75,6 @@ pub fn model_again(text: &[u8], pairs: &mut [i32], out: &mut [u8]) -> Written
     }
 }
 
-// All numbers 0.
-fn clear(table: &mut [i32])
-    ensures { λ r. ⌜ now (table .exit) ≡ replicate (length (now (table .entry))) (pos 0) ⌝ }
-{
-    let mut i = 0;
-    while i < table.len() {
-        table[i] = 0;
-        i += 1;
-    }
-}
-
 // A schema's rows are written and, where they can be, read again from the text: the same rows.
 pub fn schema_rows_again(
     table: &[i32],
@@ -102,7 +91,7 @@ pub fn schema_rows_again(
     match writing::write_schema(table, rows, root, least, out) {
         Written::Text { bytes } => text::read::read_schema(&out[..bytes], back),
         Written::Refused { why, place } => {
-            clear(back);
+            rows::clear(back, 0);
             SchemaRead::Refused { why, place }
         }
     }
@@ -132,9 +121,9 @@ pub fn proof_rows_again(
             text::read::read_proof(&out[..bytes], back_table, back_nodes, back_members)
         }
         Written::Refused { why, place } => {
-            clear(back_table);
-            clear(back_nodes);
-            clear(back_members);
+            rows::clear(back_table, 0);
+            rows::clear(back_nodes, 0);
+            rows::clear(back_members, 0);
             ProofRead::Refused { why, place }
         }
     }
@@ -155,7 +144,7 @@ pub fn model_rows_again(
     match writing::write_model(n, pairs, pair_rows, out) {
         Written::Text { bytes } => text::read::read_model(&out[..bytes], back),
         Written::Refused { why, place } => {
-            clear(back);
+            rows::clear(back, 0);
             ModelRead::Refused { why, place }
         }
     }

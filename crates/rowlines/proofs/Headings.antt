@@ -3,25 +3,24 @@ use Prim.Native.Nat.{ℕ, zero, suc, _+_, _-_, _<_, _≤_}
 use native.Mathlib.Omega.{arith}
 use native.Mathlib.Nat.{add-assoc}
 use native.Mathlib.Numerals.{add-one}
-use mathlib.Core.Path.{_≡_, refl, sym, _∙_, ap, ap₂, subst}
-use mathlib.Core.Logic.{_⊎_, inl, inr, ⊎-elim}
+use mathlib.Core.Path.{_≡_, refl, sym, _∙_, ap, ap₂}
+use mathlib.Core.Logic.{_⊎_, ⊎-elim}
 use mathlib.Core.Bool.{Bool, true, false, not, true≢false, false≢true}
 use mathlib.Core.List.{List, [], _∷_}
 use lib.Dec.{eqb}
 use lib.ListN.{length, getD, drop, length-drop}
 use lib.Seq.{drop-cons, drop-length, drop-drop}
 use borrow.Author.Tests.{eqb-true, eq-eqb, ne-eqb}
-use Rattle.stab.specs.Basic.{if_then_else_, _and_}
-use Rattle.stab.specs.Text.{Line, lines, sameBytes, bytes, schemaHeading, rowHeading, nodeHeading, modelHeading, pairHeading}
-use Rattle.stab.specs.Read.{Reading, read, stopped, require, headingAt}
+use Rattle.stab.specs.Basic.{_and_}
+use Rattle.stab.specs.Text.{Line, lines, sameBytes}
+use Rattle.stab.specs.Read.{read, stopped, require, headingAt}
 use Rattle.stab.specs.declared.Refusal.the-variants.{Heading}
 use Rattle.stab.proofs.Bools.{and-left, and-right, and-first-false, and-second-false, decide, if-true, if-false, false-of-not}
 use Rattle.stab.proofs.Texts.Lines.{lacks}
 use Rattle.numerals.specs.Here.{firstLine, afterLine}
 use Rattle.rowlines.specs.Rows.{isHeading, afterHeading}
 use Rattle.numerals.proofs.Runs.{at-place}
-use Rattle.numerals.proofs.Fields.{byte-of-drop}
-use Rattle.rowlines.proofs.Lines.{withByte, line-end, line-byte, after-end, after-byte, lines-first, lines-nil}
+use Rattle.rowlines.proofs.Lines.{line-end, line-byte, after-end, after-byte, lines-first, lines-nil}
 
 -- ---- byte by byte
 
@@ -160,23 +159,3 @@ module _ (text : List ℕ) (at : ℕ) (h : List ℕ) (k : ℕ) where
     heading-inside = omega (arith, heading-within h (drop at text) none e, length-drop at text)
 
 -- ---- no heading has a byte 10
-
-pub schema-lacks : lacks 10 schemaHeading ≡ true
-unfolding schemaHeading bytes lacks _and_
-schema-lacks = refl
-
-pub row-lacks : lacks 10 rowHeading ≡ true
-unfolding rowHeading bytes lacks _and_
-row-lacks = refl
-
-pub node-lacks : lacks 10 nodeHeading ≡ true
-unfolding nodeHeading bytes lacks _and_
-node-lacks = refl
-
-pub model-lacks : lacks 10 modelHeading ≡ true
-unfolding modelHeading bytes lacks _and_
-model-lacks = refl
-
-pub pair-lacks : lacks 10 pairHeading ≡ true
-unfolding pairHeading bytes lacks _and_
-pair-lacks = refl

@@ -1,18 +1,18 @@
 -- The first line of a text: as the definitions have it, and by its first field.
-use Prim.Native.Nat.{ℕ, zero, suc, _+_, _-_, _<_, _≤_}
+use Prim.Native.Nat.{ℕ, _+_, _-_, _≤_}
 use native.Mathlib.Omega.{arith}
-use mathlib.Core.Path.{_≡_, refl, sym, _∙_, ap, ap₂, subst}
-use mathlib.Core.Logic.{_⊎_, inl, inr, ⊎-elim}
-use mathlib.Core.Bool.{Bool, true, false, not, true≢false, false≢true}
+use mathlib.Core.Path.{_≡_, refl, sym, _∙_, ap, ap₂}
+use mathlib.Core.Logic.{_⊎_, ⊎-elim}
+use mathlib.Core.Bool.{true, false, true≢false}
 use mathlib.Core.List.{List, [], _∷_, _++_}
 use mathlib.Core.Option.{Option, none, some}
 use lib.Dec.{eqb}
 use lib.IntN.{ℤ}
-use lib.ListN.{length, getD, drop}
-use borrow.Author.Tests.{eqb-true, eqb-false, eq-eqb, ne-eqb}
-use Rattle.stab.specs.Basic.{if_then_else_, _and_, _or_}
-use Rattle.stab.specs.Text.{Line, newline, space, lines, inFront, sameBytes, fields, inFrontOf, numbersIn, numbers, numberOf}
-use Rattle.stab.proofs.Bools.{and-left, and-right, and-both, and-first-false, and-second-false, or-left, or-right, if-true, if-false, decide, not-of-false, false-of-not}
+use lib.ListN.{length, drop}
+use borrow.Author.Tests.{eq-eqb, ne-eqb}
+use Rattle.stab.specs.Basic.{_and_, _or_}
+use Rattle.stab.specs.Text.{Line, newline, lines, inFront, inFrontOf, numbersIn, numbers, numberOf}
+use Rattle.stab.proofs.Bools.{and-both, if-true, if-false, decide, not-of-false}
 use Rattle.stab.proofs.Texts.Lines.{lacks, fields-last, fields-space}
 use Rattle.numerals.specs.Here.{firstLine, afterLine, row, endsField, field, fieldEnd, pastField, numberHere}
 use Rattle.numerals.proofs.Fields.{field-none, field-more, end-here, end-later, ends-cases, ends-nonzero, ends-space, ends-line}

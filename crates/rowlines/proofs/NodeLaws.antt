@@ -1,10 +1,10 @@
 -- Node rows of a text, as the definitions have them and as they are stored.
-use Prim.Native.Nat.{ℕ, zero, suc, _+_, _*_, _-_, _<_, _≤_}
+use Prim.Native.Nat.{ℕ, suc, _+_, _*_, _-_, _<_, _≤_}
 use native.Mathlib.Omega.{arith}
 use native.Mathlib.Nat.{add-zero}
 use native.Mathlib.Numerals.{add-one}
-use mathlib.Core.Path.{_≡_, refl, sym, _∙_, ap, ap₂, subst}
-use mathlib.Core.Bool.{Bool, true, false}
+use mathlib.Core.Path.{_≡_, refl, sym, _∙_, ap, ap₂}
+use mathlib.Core.Bool.{Bool, false}
 use mathlib.Core.List.{List, [], _∷_, _++_, append-assoc, append-nil}
 use mathlib.Core.Option.{Option, none, some}
 use lib.Dec.{leb}
@@ -14,12 +14,12 @@ use lib.Seq.{sets, take-all, take-at, drop-at, drop-cons, length-take-le}
 use borrow.Author.Tests.{le-leb, lt-leb}
 use Rattle.stab.specs.Basic.{_and_}
 use Rattle.stab.specs.Text.{Line, lines}
-use Rattle.stab.specs.Read.{Reading, read, stopped, _andThen_, require, values, nodeNumbers, nodesFrom}
+use Rattle.stab.specs.Read.{Reading, read, stopped, _andThen_, require, nodeNumbers, nodesFrom}
 use Rattle.stab.specs.declared.Refusal.the-variants.{TooMany}
 use Rattle.stab.specs.declared.Refusal.the-variants.{Line as BadLine}
 use Rattle.stab.proofs.Bools.{and-both, and-first-false, and-second-false}
 use Rattle.stab.proofs.Texts.Rows.{then-is}
-use Rattle.numerals.specs.Here.{afterLine, row, firstLine}
+use Rattle.numerals.specs.Here.{afterLine, row}
 use Rattle.rowlines.specs.Rows.{rowFront, wanted, RowEnded, RowOpen}
 use Rattle.rowlines.specs.Nodes.{NodeRead, SetOf, NodeOf, nodesAhead}
 use Rattle.rowlines.specs.declared.nodes.NodeFound.{NodeFound}

@@ -1,9 +1,9 @@
 -- Lent tables: 0 from a place on, and 0 past what was read.
-use Prim.Native.Nat.{ℕ, zero, suc, _+_, _-_, _<_, _≤_}
+use Prim.Native.Nat.{ℕ, suc, _+_, _-_, _<_, _≤_}
 use native.Mathlib.Omega.{arith}
 use native.Mathlib.Numerals.{add-one}
-use mathlib.Core.Path.{_≡_, refl, sym, _∙_, ap, ap₂}
-use mathlib.Core.List.{List, [], _∷_, _++_, append-nil}
+use mathlib.Core.Path.{_≡_, refl, _∙_, ap, ap₂}
+use mathlib.Core.List.{List, _++_, append-nil}
 use lib.IntN.{ℤ, pos}
 use lib.ListN.{length, take, set, replicate, length-set}
 use lib.Seq.{take-suc-set, append-snoc, take-all, length-take-le}
@@ -31,3 +31,7 @@ unfolding cleared padded
 cleared-padded t i n l h =
     let a : length t - i ≡ n - length (take i t) = omega (arith, length-take-le i t l) in
     ap (λ (m : ℕ). take i t ++ replicate m (pos 0)) a
+
+pub cleared-all : (t : List ℤ) → cleared t 0 ≡ replicate (length t) (pos 0)
+unfolding cleared
+cleared-all t = let all : length t - 0 ≡ length t = omega arith in ap (λ (n : ℕ). replicate n (pos 0)) all

@@ -1,16 +1,15 @@
 -- What the functions on lines give.
-use Prim.Native.Nat.{ℕ, zero, suc, _+_, _*_, _-_, _<_, _≤_}
+use Prim.Native.Nat.{ℕ, suc, _+_, _-_, _<_, _≤_}
 use mathlib.Core.Path.{_≡_}
-use mathlib.Core.Logic.{_⊎_}
-use mathlib.Core.Bool.{Bool, true, false}
-use mathlib.Core.List.{List, [], _∷_, _++_}
+use mathlib.Core.Bool.{Bool}
+use mathlib.Core.List.{List, _++_}
 use mathlib.Core.Option.{Option, none, some}
 use lib.Dec.{eqb}
 use lib.IntN.{ℤ, pos}
-use lib.ListN.{length, take, drop, getD, replicate}
+use lib.ListN.{length, take, drop, replicate}
 use lib.Seq.{sets}
 use Rattle.stab.specs.Basic.{if_then_else_, _and_}
-use Rattle.stab.specs.Text.{Line, lines, sameBytes, someIf}
+use Rattle.stab.specs.Text.{sameBytes, someIf}
 use Rattle.stab.specs.Read.{Reading, read, _andThen_, ProofText}
 use Rattle.numerals.specs.Here.{firstLine, afterLine, row}
 use Rattle.rowlines.specs.declared.rows.Part.{Part}

@@ -3,7 +3,7 @@ use Prim.Native.Nat.{ℕ, zero, suc, _+_, _*_, _-_, _<_, _≤_}
 use native.Mathlib.Omega.{arith}
 use native.Mathlib.Numerals.{add-one}
 use mathlib.Core.Path.{_≡_, refl, sym, _∙_, ap, ap₂, subst}
-use mathlib.Core.Bool.{Bool, true, false, not, true≢false}
+use mathlib.Core.Bool.{Bool, true, false, true≢false}
 use mathlib.Core.List.{List, [], _∷_}
 use lib.Dec.{eqb, leb}
 use lib.IntN.{ℤ, pos, negℤ, _+ℤ_}
@@ -13,11 +13,11 @@ use borrow.Author.Tests.{le-ltb, le-leb, leb-true, eq-eqb, ne-eqb}
 use Rattle.stab.specs.Basic.{_and_, _implies_, eqZ, nat, below, allOf, ascending}
 use Rattle.stab.specs.Node.{nodeAt, setOf, setStart, setEnd, setFollows}
 use Rattle.stab.proofs.Bools.{and-left, and-right, and-both, and-first-false, and-second-false, same-test}
-use Rattle.stab.proofs.Whole.{eqZ-true, eqZ-of, eqZ-not, nat-pos}
+use Rattle.stab.proofs.Whole.{eqZ-true, eqZ-of, eqZ-not, nat-pos, nat-of, at-least-0, below-0}
 use Rattle.stab.proofs.Trees.{below-of, below-pos}
 use Rattle.branch.specs.Sets.{outerBy, risesAt, memberFits, listFits, placeFits, setRight}
 use Rattle.branch.proofs.Ascending.{part-at, ascending-at}
-use Rattle.branch.proofs.Parts.{at-least-0, below-0, is-natural, natural-of}
+use Rattle.branch.proofs.Parts.{is-natural}
 
 -- ---- outer rows
 
@@ -175,7 +175,7 @@ module _ (nodes : List ℤ) (m j from : ℕ) (starts : setStart nodes j ≡ pos 
 
   pub place-part : (members : List ℤ) → placeFits nodes m j ≡ true → setOf members (nodeAt nodes j) ≡ take (nat (nodeAt nodes j .size)) (drop from members)
   unfolding setOf
-  place-part members h = ap (λ (a : ℕ). take (nat (nodeAt nodes j .size)) (drop a members)) (natural-of (nodeAt nodes j .start) from (place-start h))
+  place-part members h = ap (λ (a : ℕ). take (nat (nodeAt nodes j .size)) (drop a members)) (nat-of (nodeAt nodes j .start) from (place-start h))
 
 -- ---- a set, in the order of its tests
 

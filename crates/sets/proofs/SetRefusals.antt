@@ -10,7 +10,7 @@ use lib.Dec.{eqb}
 use lib.IntN.{ℤ, pos, _+ℤ_}
 use lib.Signed.{leZ}
 use lib.ListN.{getD, length}
-use Rattle.stab.specs.Basic.{_and_, _implies_, eqZ, nat, below, allOf, ascending, has, scan}
+use Rattle.stab.specs.Basic.{_and_, _implies_, eqZ, nat, below, allOf, ascending, scan}
 use Rattle.stab.specs.Formula.{joined, tree, loose, isOuter}
 use Rattle.stab.specs.Node.{Tableau, rows, rowCount, isRow, formula, isOuterRow, node, nodeAt, set, setOf, setEnd, setStart, setFollows, setFits}
 use Rattle.stab.specs.Check.{setRefusal, atUnless}
@@ -18,7 +18,7 @@ use Rattle.stab.specs.declared.Place.the-variants.{At}
 use Rattle.stab.specs.declared.Refusal.the-variants.{Set}
 use Rattle.stab.specs.declared.Verdict.the-variants.{Refused}
 use Rattle.stab.proofs.Bools.{and-left, and-right, and-first-false, decide, unless-none, none-unless, some-unless}
-use Rattle.stab.proofs.Scans.{none-scan, has-mem, all-use}
+use Rattle.stab.proofs.Scans.{none-scan}
 use Rattle.stab.proofs.Trees.{below-nat}
 use Rattle.stab.proofs.Whole.{atom, num, _⊕_, le-of, of-le, eqZ-true, nat-pos, plus-nat, nonneg-minus}
 use Rattle.formula.specs.Facts.{bit, AllKnown}
@@ -148,10 +148,6 @@ module _ (T : Tableau) where
 pub outer-below : (T : Tableau) (z : ℤ) → isOuterRow T z ≡ true → below (rowCount T) z ≡ true
 unfolding isOuterRow isRow
 outer-below T z h = and-left _ _ h
-
--- a row that stands in the set is an outer row
-pub has-outer : (T : Tableau) (j : ℕ) → SetKnown T j → (z : ℤ) → has z (set T j) ≡ true → isOuterRow T z ≡ true
-has-outer T j known z h = all-use (isOuterRow T) z (set T j) (known .outer) (has-mem z (set T j) h)
 
 module _ (T : Tableau) (j : ℕ) (known : SetKnown T j) (held : T .memberCount ≤ length (T .members)) where
   -- the set lies within the table, as what reads it requires

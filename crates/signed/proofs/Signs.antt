@@ -12,7 +12,7 @@ use mir.Val.{Fits, SFits, ofZ, toZ, hbits}
 use mir.Facts.{toZ-ofZ}
 use borrow.Author.Tests.{eqb-true, eqb-false, ltb-true, le-ltb}
 use Rattle.stab.specs.Basic.{eqZ, nat}
-use Rattle.stab.proofs.Whole.{eqZ-true, eqZ-of, eqZ-not}
+use Rattle.stab.proofs.Whole.{eqZ-of, eqZ-not}
 
 -- a signed number is kept as bits, and read back from them
 pub read-back : (z : ℤ) → mag z < 2 ^ hbits w32 → toZ w32 (ofZ w32 z) ≡ z
@@ -77,3 +77,10 @@ bits-equal a b f g = go (eqb (ofZ w32 a) (ofZ w32 b)) refl
     go : (t : Bool) → eqb (ofZ w32 a) (ofZ w32 b) ≡ t → eqb (ofZ w32 a) (ofZ w32 b) ≡ eqZ a b
     go true e = e ∙ sym (eqZ-of a b (back (eqb-true (ofZ w32 a) (ofZ w32 b) e)))
     go false e = e ∙ sym (eqZ-not a b (λ p. eqb-false (ofZ w32 a) (ofZ w32 b) e (ap (ofZ w32) p)))
+
+-- a number of 32 bits has a negative part of 32 bits
+pub under-small : (z : ℤ) → SFits w32 z → nat (negℤ z) < 2 ^ 32
+unfolding nat
+under-small (pos zero) f = omega arith
+under-small (pos (suc n)) f = omega arith
+under-small (negsuc n) f = omega (arith, f .sfits)

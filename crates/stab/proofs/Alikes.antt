@@ -7,26 +7,26 @@ use Rattle.stab.specs.Alike.{eqBool, eqOp, eqBase, agree}
 use Rattle.stab.proofs.Bools.{and-left, and-right, and-both}
 use Rattle.stab.proofs.Whole.{eqZ-true, eqZ-refl}
 
-eqBool-true : (v w : Bool) → eqBool v w ≡ true → v ≡ w
+pub eqBool-true : (v w : Bool) → eqBool v w ≡ true → v ≡ w
 unfolding eqBool
 eqBool-true true true h = refl
 eqBool-true true false h = absurd (false≢true h)
 eqBool-true false true h = absurd (false≢true h)
 eqBool-true false false h = refl
 
-eqBool-refl : (v : Bool) → eqBool v v ≡ true
+pub eqBool-refl : (v : Bool) → eqBool v v ≡ true
 unfolding eqBool
 eqBool-refl true = refl
 eqBool-refl false = refl
 
-eqOp-true : (o p : Op) → eqOp o p ≡ true → o ≡ p
+pub eqOp-true : (o p : Op) → eqOp o p ≡ true → o ≡ p
 unfolding eqOp
 eqOp-true conj conj h = refl
 eqOp-true conj disj h = absurd (false≢true h)
 eqOp-true disj conj h = absurd (false≢true h)
 eqOp-true disj disj h = refl
 
-eqOp-refl : (o : Op) → eqOp o o ≡ true
+pub eqOp-refl : (o : Op) → eqOp o o ≡ true
 unfolding eqOp
 eqOp-refl conj = refl
 eqOp-refl disj = refl
@@ -43,7 +43,7 @@ eqBase-true index nothing h = absurd (false≢true h)
 eqBase-true index parameter h = absurd (false≢true h)
 eqBase-true index index h = refl
 
-eqBase-refl : (x : Base) → eqBase x x ≡ true
+pub eqBase-refl : (x : Base) → eqBase x x ≡ true
 unfolding eqBase
 eqBase-refl nothing = refl
 eqBase-refl parameter = refl

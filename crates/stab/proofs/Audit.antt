@@ -1,17 +1,17 @@
 -- For an auditor: the meaning that `value` computes is the paper's.
 use Prim.Native.Nat.{ℕ, zero, suc, _+_, _<_, _≤_}
 use native.Mathlib.Omega.{arith}
-use mathlib.Core.Path.{_≡_, refl, sym, _∙_, ap, subst}
-use mathlib.Core.Logic.{_⊎_, inl, inr, ⊎-elim, _↔_}
+use mathlib.Core.Path.{_≡_, refl, sym, _∙_, ap}
+use mathlib.Core.Logic.{_⊎_, ⊎-elim, _↔_}
 use mathlib.Core.Bool.{Bool, true, false, false≢true}
 use lib.IntN.{ℤ, pos, _+ℤ_, _-ℤ_}
-use lib.Signed.{leZ, ltZ, _≤ℤ_}
+use lib.Signed.{leZ, _≤ℤ_}
 use Rattle.stab.specs.Basic.{_and_, _or_, nat}
-use Rattle.stab.specs.Formula.{Row, Op, conj, disj, Formula, iter, tree, isBody, wellFormed}
+use Rattle.stab.specs.Formula.{Row, conj, disj, Formula, iter, tree, isBody, wellFormed}
 use Rattle.stab.specs.Meaning.{Assignment, op, empty, over, rangeSize, value}
 use Rattle.stab.specs.Alike.{lower, instance}
 use Rattle.stab.proofs.Bools.{and-left, and-right, and-both, or-cases, or-left, or-right}
-use Rattle.stab.proofs.Whole.{atom, num, _⊕_, _⊖_, le-of, of-le, lt-of, of-lt, eq-of, of-eq, leZ-of, of-leZ, nat-pos, nat-le}
+use Rattle.stab.proofs.Whole.{atom, num, _⊕_, _⊖_, le-of, of-le, eq-of, of-eq, leZ-of, of-leZ, nat-pos, nat-le}
 use Rattle.stab.proofs.Meanings.{lower-value, instance-value}
 use Rattle.stab.proofs.Decoded as D
 

@@ -1,6 +1,5 @@
 -- Laws of the tests that the definitions are made of.
-use Prim.Native.Nat.{ℕ, zero, suc, _<_, _≤_}
-use mathlib.Core.Path.{_≡_, refl, sym, _∙_, ap, subst}
+use mathlib.Core.Path.{_≡_, refl, sym, _∙_}
 use mathlib.Core.Logic.{_⊎_, inl, inr}
 use mathlib.Core.Bool.{Bool, true, false, not, true≢false, false≢true}
 use mathlib.Core.Option.{Option, none, some}
@@ -145,3 +144,21 @@ pub otherwise-some : {A : Type 0} (x y : Option A) (a : A) → x ≡ some a → 
 unfolding _otherwise_
 otherwise-some none y a h = absurd (mathlib.Core.Option.Option·none-ne-some a h)
 otherwise-some (some b) y a h = h
+
+-- ---- a test of which one part is known
+pub and-first-true : (a b : Bool) → a ≡ true → (a and b) ≡ b
+unfolding _and_
+and-first-true true b h = refl
+and-first-true false b h = absurd (false≢true h)
+
+pub or-first-false : (a b : Bool) → a ≡ false → (a or b) ≡ b
+unfolding _or_
+or-first-false true b h = absurd (true≢false h)
+or-first-false false b h = refl
+
+-- ---- what a function answered, where the code asks whether it said no
+pub asked-false : {r t : Bool} → r ≡ t → not r ≡ true → t ≡ false
+asked-false {r} {t} e h = sym e ∙ false-of-not r h
+
+pub asked-true : {r t : Bool} → r ≡ t → not r ≡ false → t ≡ true
+asked-true {r} {t} e h = sym e ∙ true-of-not r h

@@ -1,14 +1,13 @@
 -- A node's bound is made of its parent's; children stand where the count of children says.
-use Prim.Native.Nat.{ℕ, zero, suc, _+_, _<_, _≤_}
+use Prim.Native.Nat.{ℕ, zero, suc, _<_}
 use native.Mathlib.Omega.{arith}
-use mathlib.Core.Path.{_≡_, refl, sym, _∙_, ap, subst}
-use mathlib.Core.Logic.{_⊎_, inl, inr, ⊎-elim}
-use mathlib.Core.Bool.{Bool, true, false, false≢true, true≢false}
+use mathlib.Core.Path.{_≡_, refl, sym, _∙_, ap}
+use mathlib.Core.Logic.{_⊎_, ⊎-elim}
+use mathlib.Core.Bool.{Bool, true, false}
 use mathlib.Core.List.{List}
-use lib.IntN.{ℤ, pos}
-use Rattle.stab.specs.Basic.{if_then_else_, eqZ, nat, below, count}
-use Rattle.stab.specs.Node.{nodeAt, Bound, childBound, firstBound, boundIf, boundN, boundOf, rank, names}
-use Rattle.stab.proofs.Bools.{decide, if-true, if-false}
+use lib.IntN.{ℤ}
+use Rattle.stab.specs.Basic.{if_then_else_, nat, below, count}
+use Rattle.stab.specs.Node.{nodeAt, Bound, childBound, firstBound, boundIf, boundN, boundOf, rank}
 use Rattle.stab.proofs.Trees.{below-nat}
 
 -- ---- bounds

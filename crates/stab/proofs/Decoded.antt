@@ -1,11 +1,11 @@
 -- The formula of a well-formed row, kind by kind.
-use Prim.Native.Nat.{ℕ, zero, suc, _<_, _≤_}
+use Prim.Native.Nat.{ℕ, zero, suc, _<_}
 use native.Mathlib.Omega.{arith}
 use mathlib.Core.Path.{_≡_, refl, sym, _∙_, ap, ap₂, subst}
-use mathlib.Core.Bool.{Bool, true, false, false≢true, not}
+use mathlib.Core.Bool.{Bool, true, false, false≢true}
 use lib.IntN.{ℤ, pos}
 use Rattle.stab.specs.Basic.{if_then_else_, eqZ, _and_, nat, below}
-use Rattle.stab.specs.Formula.{Row, Op, conj, disj, Kind, constant, literal, junction, iteration, unknown, kindOf, baseOf, Formula, const, lit, join, iter, decode, tree, wellFormedAs, wellFormed, offset, mixes, isBody}
+use Rattle.stab.specs.Formula.{Row, Op, conj, disj, Kind, constant, literal, junction, iteration, unknown, kindOf, baseOf, Formula, const, lit, join, iter, decode, tree, wellFormedAs, wellFormed, offset, isBody}
 use Rattle.stab.proofs.Bools.{and-left, and-right}
 use Rattle.stab.proofs.Trees.{tree-is, part-of, below-nat}
 use Rattle.stab.proofs.Meanings.{Proper}
@@ -41,12 +41,12 @@ module _ {z : ℤ} where
 -- ---- a row's formula
 
 module _ (rows : ℕ → Row) (r : ℕ) where
-  decoded : (k : Kind) → kindOf (rows r .kind) ≡ k → tree rows r ≡ decode r (rows r) k (tree rows)
+  pub decoded : (k : Kind) → kindOf (rows r .kind) ≡ k → tree rows r ≡ decode r (rows r) k (tree rows)
   decoded k e = tree-is rows r ∙ ap (λ (k′ : Kind). decode r (rows r) k′ (tree rows)) e
 
-  formed : (k : Kind) → kindOf (rows r .kind) ≡ k → wellFormed rows r ≡ true → wellFormedAs rows r (rows r) k ≡ true
+  pub formed-as : (k : Kind) → kindOf (rows r .kind) ≡ k → wellFormed rows r ≡ true → wellFormedAs rows r (rows r) k ≡ true
   unfolding wellFormed
-  formed k e h = subst (λ (k′ : Kind). wellFormedAs rows r (rows r) k′ ≡ true) e h
+  formed-as k e h = subst (λ (k′ : Kind). wellFormedAs rows r (rows r) k′ ≡ true) e h
 
   pub tree-constant : (v : Bool) → kindOf (rows r .kind) ≡ constant v → tree rows r ≡ const v
   unfolding decode
@@ -56,37 +56,46 @@ module _ (rows : ℕ → Row) (r : ℕ) where
   unfolding decode
   tree-literal v e = decoded (literal v) e
 
+  -- the parts are smaller rows, whatever else the row is
+  pub junction-tree : (o : Op) → kindOf (rows r .kind) ≡ junction o → below r (rows r .a) ≡ true → below r (rows r .b) ≡ true
+      → tree rows r ≡ join o (tree rows (nat (rows r .a))) (tree rows (nat (rows r .b)))
+  unfolding decode
+  junction-tree o e p q =
+      decoded (junction o) e
+      ∙ ap₂ (join o) (part-of r (tree rows) (rows r .a) p) (part-of r (tree rows) (rows r .b) q)
+
+  pub iteration-tree : (o : Op) → kindOf (rows r .kind) ≡ iteration o → below r (rows r .a) ≡ true
+      → tree rows r ≡ iter o (tree rows (nat (rows r .a))) (rows r .b) (rows r .c)
+  unfolding decode
+  iteration-tree o e p =
+      decoded (iteration o) e
+      ∙ ap (λ (f : Formula). iter o f (rows r .b) (rows r .c)) (part-of r (tree rows) (rows r .a) p)
+
   module _ (o : Op) (e : kindOf (rows r .kind) ≡ junction o) (h : wellFormed rows r ≡ true) where
     pub left-below : below r (rows r .a) ≡ true
     unfolding wellFormedAs
-    left-below = and-left _ _ (formed (junction o) e h)
+    left-below = and-left _ _ (formed-as (junction o) e h)
 
     pub right-below : below r (rows r .b) ≡ true
     unfolding wellFormedAs
-    right-below = and-left _ _ (and-right (below r (rows r .a)) _ (formed (junction o) e h))
+    right-below = and-left _ _ (and-right (below r (rows r .a)) _ (formed-as (junction o) e h))
 
     pub tree-junction : tree rows r ≡ join o (tree rows (nat (rows r .a))) (tree rows (nat (rows r .b)))
-    unfolding decode
-    tree-junction =
-        decoded (junction o) e
-        ∙ ap₂ (join o) (part-of r (tree rows) (rows r .a) left-below) (part-of r (tree rows) (rows r .b) right-below)
+    tree-junction = junction-tree o e left-below right-below
 
   module _ (o : Op) (e : kindOf (rows r .kind) ≡ iteration o) (h : wellFormed rows r ≡ true) where
     pub body-below : below r (rows r .a) ≡ true
     unfolding wellFormedAs
-    body-below = and-left _ _ (formed (iteration o) e h)
+    body-below = and-left _ _ (formed-as (iteration o) e h)
 
     pub body-is : isBody (tree rows (nat (rows r .a))) ≡ true
     unfolding wellFormedAs
     body-is =
         and-right (offset (rows r .c)) _
-        (and-right (offset (rows r .b)) _ (and-right (below r (rows r .a)) _ (formed (iteration o) e h)))
+        (and-right (offset (rows r .b)) _ (and-right (below r (rows r .a)) _ (formed-as (iteration o) e h)))
 
     pub tree-iteration : tree rows r ≡ iter o (tree rows (nat (rows r .a))) (rows r .b) (rows r .c)
-    unfolding decode
-    tree-iteration =
-        decoded (iteration o) e
-        ∙ ap (λ (f : Formula). iter o f (rows r .b) (rows r .c)) (part-of r (tree rows) (rows r .a) body-below)
+    tree-iteration = iteration-tree o e body-below
 
 -- ---- the iterations of well-formed rows have bodies
 

@@ -1,7 +1,7 @@
 -- What the text entries give fits into the numbers that they give: the counts of what is read, the places of refusals, the bytes of a text.
-use Prim.Native.Nat.{ℕ, suc, _+_, _-_, _/_, _≤_, _<_}
+use Prim.Native.Nat.{ℕ, suc, _+_, _-_, _≤_}
 use native.Mathlib.Omega.{arith}
-use mathlib.Core.Path.{_≡_, refl, sym, _∙_, ap, subst}
+use mathlib.Core.Path.{_≡_, refl}
 use mathlib.Core.Bool.{Bool, true, false}
 use mathlib.Core.List.{List, [], _∷_}
 use mathlib.Core.Option.{Option, none, some}
@@ -16,7 +16,6 @@ use Rattle.stab.specs.Write.{writingOf, writing, outputRefusal, written}
 use Rattle.stab.specs.Answer.{Packs}
 use Rattle.stab.specs.Entry.{WrittenFits}
 use Rattle.stab.specs.declared.Refusal.{Refusal}
-use Rattle.stab.specs.declared.Place.the-variants.{At}
 use Rattle.stab.specs.declared.Verdict.the-variants.{Refused}
 use Rattle.stab.specs.declared.SchemaRead.{SchemaRead}
 use Rattle.stab.specs.declared.SchemaRead.the-variants.{Schema, Refused as SchemaRefused}
@@ -29,7 +28,7 @@ use Rattle.stab.proofs.Texts.{schema-counts, proof-counts, model-counts
 
 -- ---- a refusal in reading is at line b or above it
 
-abbrev Stops : {A : Type 0} → ℕ → Reading A → Type 0
+abbrev pub Stops : {A : Type 0} → ℕ → Reading A → Type 0
 Stops b (read a) = Unit {0}
 Stops b (stopped why k) = k ≤ b
 
@@ -99,7 +98,7 @@ stops-text : {A : Type 0} (b : ℕ) (full : Bool) (reader : List Line → Readin
 unfolding readText
 stops-text b full reader text h = stops-require b _ _ 0 _ (omega arith) (λ e. stops-require b full _ 0 _ (omega arith) (λ g. h))
 
-stops-schema : (n : ℕ) (text : List ℕ) → Stops 4100 (readSchema n text)
+pub stops-schema : (n : ℕ) (text : List ℕ) → Stops 4100 (readSchema n text)
 unfolding readSchema readSchemaLines
 stops-schema n text =
     stops-text 4100 _ readSchemaLines text
@@ -108,13 +107,13 @@ stops-schema n text =
     (λ v. stops-then 4100 _ _ (stops-heading 4100 _ 3 (v .1) (omega arith))
     (λ c. stops-then 4100 _ _ (stops-rows 4100 4 1024 4 c (omega arith)) (λ t. tt)))))
 
-stops-proof : (a b d : ℕ) (text : List ℕ) → Stops 4100 (readProof a b d text)
+pub stops-proof : (a b d : ℕ) (text : List ℕ) → Stops 4100 (readProof a b d text)
 unfolding readProof readProofLines
 stops-proof a b d text =
     stops-text 4100 _ readProofLines text
     (stops-then 4100 _ _ (stops-heading 4100 _ 1 (lines text) (omega arith)) (λ c. stops-proof-rows 4100 1024 2 c (omega arith)))
 
-stops-model : (n : ℕ) (text : List ℕ) → Stops 4100 (readModel n text)
+pub stops-model : (n : ℕ) (text : List ℕ) → Stops 4100 (readModel n text)
 unfolding readModel readModelLines
 stops-model n text =
     stops-text 4100 _ readModelLines text

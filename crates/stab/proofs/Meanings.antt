@@ -1,26 +1,19 @@
 -- The meaning of formulas is what the paper says: iterations, lowering, instances.
-use Prim.Native.Nat.{ℕ, zero, suc, _+_, _<_, _≤_}
+use Prim.Native.Nat.{ℕ, zero, suc, _+_}
 use native.Mathlib.Omega.{arith}
-use mathlib.Core.Path.{_≡_, refl, sym, _∙_, ap, ap₂, subst}
-use mathlib.Core.Logic.{_⊎_, inl, inr, ⊎-elim, _↔_}
-use mathlib.Core.Bool.{Bool, true, false, not, true≢false, false≢true}
+use mathlib.Core.Path.{_≡_, refl, _∙_, ap, ap₂}
+use mathlib.Core.Bool.{Bool, true, false, not, false≢true}
 use borrow.Author.Tests.{leb-true}
-use lib.IntN.{ℤ, pos, negsuc, negℤ, _+ℤ_, _-ℤ_}
-use lib.Signed.{leZ, ltZ, _≤ℤ_, _<ℤ_}
-use Rattle.stab.specs.Basic.{_and_, _or_, nat}
-use Rattle.stab.specs.Formula.{Op, conj, disj, Base, nothing, parameter, index, Formula, const, lit, join, iter, onIndex, fixed, isBody}
-use Rattle.stab.specs.Meaning.{Assignment, base, signed, op, empty, over, rangeSize, value, truth}
+use lib.IntN.{ℤ, pos, negsuc, _+ℤ_, _-ℤ_}
+use lib.Signed.{leZ, ltZ}
+use Rattle.stab.specs.Basic.{_or_, nat}
+use Rattle.stab.specs.Formula.{Op, nothing, parameter, index, Formula, const, lit, join, iter, onIndex, fixed, isBody}
+use Rattle.stab.specs.Meaning.{Assignment, base, signed, op, empty, over, rangeSize, value}
 use Rattle.stab.specs.Alike.{lowerBase, lower, instanceLit, instance}
-use Rattle.stab.proofs.Bools.{and-left, and-right, and-both, or-cases, or-left, or-right, or-false-left, or-false-right, false-of-not, true-of-not, not-of-true}
-use Rattle.stab.proofs.Whole.{Exp, atom, num, _⊕_, _⊖_, P, N, le-of, of-le, lt-of, of-lt, eq-of, of-eq, not-lt-of, of-leZ, leZ-of, plus, plus-nat, nonneg-minus, nat-pos}
-use Rattle.stab.proofs.Scans.{below-suc}
+use Rattle.stab.proofs.Bools.{or-false-left, or-false-right, false-of-not}
+use Rattle.stab.proofs.Whole.{atom, num, _⊕_, _⊖_, le-of, of-le, of-lt, eq-of, of-eq, nat-pos, nat-of}
 
 -- ---- ranges
-
--- a natural number that is a difference is its natural part
-pub nat-of : (z : ℤ) (n : ℕ) → z ≡ pos n → nat z ≡ n
-unfolding nat
-nat-of z n e = ap nat e
 
 nat-none : (z : ℤ) → leZ z (pos 0) ≡ true → nat z ≡ 0
 unfolding nat

@@ -1,13 +1,12 @@
 -- The one number that provers get: its parts do not run into one another, and its answer is 0 exactly for an acceptance.
-use Prim.Native.Nat.{ℕ, zero, suc, _+_, _*_, _/_, _≤_, _<_}
+use Prim.Native.Nat.{ℕ, _/_, _≤_}
 use native.Mathlib.Omega.{arith}
-use mathlib.Core.Path.{_≡_, refl, sym, _∙_, ap, subst}
+use mathlib.Core.Path.{_≡_, refl, sym, subst}
 use mathlib.Core.Option.{Option, none, some}
 use Rattle.stab.specs.Node.{Tableau}
 use Rattle.stab.specs.Check.{refusal, check, verdict, linkCount}
 use Rattle.stab.specs.Model.{Model, modelRefusal, checkModel}
-use Rattle.stab.specs.Keeps.{Keeps}
-use Rattle.stab.specs.Answer.{refusalNumber, placeCode, packed, Packs}
+use Rattle.stab.specs.Answer.{refusalNumber, packed, Packs}
 use Rattle.stab.specs.declared.Place.{Place}
 use Rattle.stab.specs.declared.Place.the-variants.{Whole, At}
 use Rattle.stab.specs.declared.Refusal.{Refusal}

@@ -4,7 +4,7 @@ use native.Mathlib.Omega.{arith}
 use native.Mathlib.Numerals.{add-one}
 use mathlib.Core.Path.{_≡_, refl, sym, _∙_, ap, subst}
 use mathlib.Core.Logic.{_⊎_, inl, inr, ⊎-elim}
-use mathlib.Core.Bool.{Bool, true, false, true≢false, false≢true}
+use mathlib.Core.Bool.{Bool, true, false, false≢true}
 use mathlib.Core.List.{List, [], _∷_, List·Memᴰ, List·Memᴰ·head, List·Memᴰ·tail, List·Memᴰ·cases-cons, List·Memᴰ·not-nil}
 use mathlib.Core.Option.{Option, none, some}
 use lib.IntN.{ℤ}
@@ -13,19 +13,15 @@ use Rattle.stab.specs.Basic.{_otherwise_}
 use Rattle.stab.proofs.Bools.{otherwise-first, otherwise-second, otherwise-none, otherwise-some, and-left, and-right, and-both, or-cases, or-left, or-right}
 use Rattle.stab.proofs.Whole.{eqZ-true, eqZ-of}
 
-split-lt : (k n : ℕ) → k < suc n → (k < n) ⊎ (k ≡ n)
-split-lt zero zero h = inr refl
-split-lt zero (suc n) h = inl (omega arith)
-split-lt (suc k) zero h = absurd (omega arith)
-split-lt (suc k) (suc n) h = go (split-lt k n (omega arith))
+pub below-suc : (k n : ℕ) → k < suc n → (k < n) ⊎ (k ≡ n)
+below-suc zero zero h = inr refl
+below-suc zero (suc n) h = inl (omega arith)
+below-suc (suc k) zero h = absurd (omega arith)
+below-suc (suc k) (suc n) h = go (below-suc k n (omega arith))
   where
     go : (k < n) ⊎ (k ≡ n) → (suc k < suc n) ⊎ (suc k ≡ suc n)
     go (inl p) = inl (omega arith)
     go (inr p) = inr (ap suc p)
-
--- a number below the next one is below or equal
-pub below-suc : (k n : ℕ) → k < suc n → (k < n) ⊎ (k ≡ n)
-below-suc = split-lt
 
 -- nothing is found where nothing is found at any number passed, and the other way
 pub scan-none : {A : Type 0} (f : ℕ → Option A) (n : ℕ) → ((k : ℕ) → k < n → f k ≡ none) → scan f n ≡ none
@@ -40,7 +36,7 @@ none-scan f (suc n) h k p =
     ⊎-elim
     (λ q. none-scan f n (otherwise-first (scan f n) (f n) h) k q)
     (λ q. subst (λ (m : ℕ). f m ≡ none) (sym q) (otherwise-second (scan f n) (f n) h))
-    (split-lt k n p)
+    (below-suc k n p)
 
 -- the loop's step: nothing was found below i, nor at i
 pub scan-more : {A : Type 0} (f : ℕ → Option A) (i : ℕ) → scan f i ≡ none → f i ≡ none → scan f (i + 1) ≡ none
@@ -55,7 +51,7 @@ scan-found f (suc n) i a p h k =
     ⊎-elim
     (λ q. otherwise-some (scan f n) (f n) a (scan-found f n i a q h k))
     (λ q. otherwise-none (scan f n) (f n) (subst (λ (m : ℕ). scan f m ≡ none) q h) ∙ subst (λ (m : ℕ). f m ≡ some a) q k)
-    (split-lt i n p)
+    (below-suc i n p)
 
 -- ---- counting
 

@@ -3,27 +3,27 @@ use Prim.Native.Nat.{ℕ, zero, suc, _+_, _<_, _≤_}
 use native.Mathlib.Omega.{arith}
 use mathlib.Core.Path.{_≡_, refl, sym, _∙_, ap, ap₂, subst}
 use mathlib.Core.Logic.{⊎-elim}
-use mathlib.Core.Bool.{Bool, true, false, true≢false}
-use mathlib.Core.List.{List, _∷_, []}
+use mathlib.Core.Bool.{true, false, true≢false}
+use mathlib.Core.List.{List}
 use lib.Dec.{ltb}
-use lib.IntN.{ℤ, pos, negsuc}
+use lib.IntN.{ℤ, pos}
 use lib.Signed.{leZ, _≤ℤ_}
 use borrow.Author.Tests.{lt-ltb}
 use Rattle.stab.specs.Basic.{_and_, nat, below}
-use Rattle.stab.specs.Formula.{Row, rowAt, joined, tree}
+use Rattle.stab.specs.Formula.{rowAt, joined, tree}
 use Rattle.stab.specs.Meaning.{Assignment, truth}
-use Rattle.stab.specs.Node.{Tableau, Bound, rows, formula, node, nodeAt, set, bound, boundOf, firstBound, Satisfies, SatisfiesIf}
+use Rattle.stab.specs.Node.{Tableau, Bound, rows, formula, node, bound, firstBound, Satisfies, SatisfiesIf}
 use Rattle.stab.specs.Check.{check}
 use Rattle.stab.specs.Model.{Model, schemaRow, assignment, satisfied, checkModel}
-use Rattle.stab.specs.Keeps.{Keeps, KeepsModel}
-use Rattle.stab.specs.Refuted.{Refuted, SameSchema, Irrefutable}
+use Rattle.stab.specs.Keeps.{Keeps}
+use Rattle.stab.specs.Refuted.{Refuted, Irrefutable}
 use Rattle.stab.specs.declared.Verdict.the-variants.{Accepted}
 use Rattle.stab.proofs.Bools.{decide, if-true}
 use Rattle.stab.proofs.Whole.{atom, num, of-le, le-of, leZ-of, of-leZ, nat-pos, nonneg-minus, plus-nat}
 use Rattle.stab.proofs.Trees.{tree-agrees, below-nat}
 use Rattle.stab.proofs.Bounds.{bound-first}
 use Rattle.stab.proofs.Tests.{below-tests}
-use Rattle.stab.proofs.Exactness.{accepts-exactly, keeps-model-of, model-accepts-exactly, model-counts}
+use Rattle.stab.proofs.Exactness.{accepts-exactly, model-accepts-exactly, model-counts}
 use Steps.{Holds, refuted, mem-one}
 mod Steps
 

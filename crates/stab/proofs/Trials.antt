@@ -3,11 +3,10 @@ use Prim.Native.Nat.{ℕ}
 use Prim.Native.String.{String}
 use mathlib.Core.Path.{_≡_, refl}
 use mathlib.Core.List.{List, [], _∷_, _++_}
-use lib.IntN.{ℤ, pos, negsuc}
-use lib.ListN.{length, replicate}
-use Rattle.stab.specs.Text.{bytes, lines}
-use Rattle.stab.specs.Read.{readSchema, schemaTable, readProof, nodeTable, memberTable}
-use Rattle.stab.specs.Write.{writeSchema, writeProof, writeModel, output}
+use lib.IntN.{pos, negsuc}
+use lib.ListN.{replicate}
+use Rattle.stab.specs.Text.{bytes}
+use Rattle.stab.specs.Write.{writeModel, output}
 use Rattle.stab.specs.LineNumber.{lineOf}
 use Rattle.stab.specs.Answer.{packed}
 use Rattle.stab.specs.Program.{checkProgram, modelProgram}

@@ -5,7 +5,7 @@ use Prim.Native.Nat.{ℕ, zero, suc, _+_, _≤_, _<_}
 use native.Mathlib.Omega.{arith}
 use mathlib.Core.Path.{_≡_, refl, sym, _∙_, ap, subst}
 use mathlib.Core.Bool.{Bool, true, false, not, false≢true, true≢false}
-use lib.Dec.{T, leb, ltb, eqb, leb→le, ltb→lt, eqb→eq}
+use lib.Dec.{T, ltb}
 use lib.IntN.{ℤ, pos, negsuc, negℤ, subℕ, _+ℤ_, _-ℤ_}
 use lib.Signed.{leZ, ltZ, _≤ℤ_, _<ℤ_}
 use borrow.Author.Tests.{le-leb, lt-leb, leb-true, leb-false, lt-ltb, le-ltb, ltb-true, ltb-false, eq-eqb, eqb-true}
@@ -255,3 +255,29 @@ pub nat-le : (z : ℤ) (n : ℕ) → n ≤ nat z → 1 ≤ n → leZ (pos n) z �
 unfolding nat
 nat-le (pos m) n h l = le-leb n m h
 nat-le (negsuc m) n h l = absurd (omega arith)
+
+-- ---- the natural parts of a number
+pub nat-of : (z : ℤ) (n : ℕ) → z ≡ pos n → nat z ≡ n
+unfolding nat
+nat-of z n e = ap nat e
+
+pub pos-injective : (a b : ℕ) → pos a ≡ pos b → a ≡ b
+pos-injective a b e = cc
+
+pub minus-nat : (z : ℤ) → nat (negℤ z) ≡ minus z
+unfolding nat
+minus-nat (pos zero) = sym (nonneg-minus (pos 0) refl)
+minus-nat (pos (suc n)) = sym (nonneg-minus (pos (suc n)) (le-of (num 0) (num (suc n)) (omega arith)))
+minus-nat (negsuc n) =
+    omega (arith, parts (less (atom (negsuc n))), nonneg-minus (pos (suc n)) (le-of (num 0) (num (suc n)) (omega arith)), plus-nat (negsuc n), plus-nat (pos (suc n)))
+
+pub at-least-0 : (z : ℤ) → nat (negℤ z) ≤ 0 → leZ (pos 0) z ≡ true
+unfolding nat
+at-least-0 (pos n) h = le-leb 0 n (omega arith)
+at-least-0 (negsuc n) h = absurd (omega arith)
+
+pub below-0 : (z : ℤ) → 0 < nat (negℤ z) → leZ (pos 0) z ≡ false
+unfolding nat
+below-0 (pos zero) h = absurd (omega arith)
+below-0 (pos (suc n)) h = absurd (omega arith)
+below-0 (negsuc n) h = refl

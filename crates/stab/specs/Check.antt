@@ -1,16 +1,15 @@
 -- 01, "Turning records away": checking tables. The order of refusals is the order of the lines below.
-use Prim.Native.Nat.{ℕ, zero, suc, _+_, _*_}
-use mathlib.Core.Bool.{Bool, true, false}
+use Prim.Native.Nat.{ℕ, suc, _*_}
+use mathlib.Core.Bool.{Bool}
 use mathlib.Core.List.{List}
 use mathlib.Core.Option.{Option, none, some}
 use lib.Dec.{leb, eqb, ltb}
 use lib.IntN.{ℤ, pos}
 use lib.ListN.{length}
-use Rattle.stab.specs.Basic.{if_then_else_, _and_, _or_, _implies_, eqZ, within, nat, below, count, _otherwise_, scan, unless}
+use Rattle.stab.specs.Basic.{_and_, _or_, _implies_, eqZ, within, nat, below, count, _otherwise_, scan, unless}
 use Rattle.stab.specs.Formula.{Row, tree, isOuter, wellFormed, smallEnough}
-use Rattle.stab.specs.Node.{Tableau, rows, rowCount, formula, node, setEnd, setFits, parentFits, nodeAt}
+use Rattle.stab.specs.Node.{Tableau, rows, rowCount, setEnd, setFits, parentFits, nodeAt}
 use Rattle.stab.specs.Rule.{ofRule, drawn, fieldsFit, targetFits, boundFits, partnersFit, loweredFits, childrenFit}
-use Rattle.stab.specs.declared.Place.{Place}
 use Rattle.stab.specs.declared.Place.the-variants.{Whole, At}
 use Rattle.stab.specs.declared.Refusal.{Refusal}
 use Rattle.stab.specs.declared.Refusal.the-variants.{TableTooShort, TooMany, Root, IllFormed, TooLarge, Set, Parent, Drawn, Step, Target, Bound, Partner, Lowered, Children}

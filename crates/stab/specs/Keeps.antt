@@ -2,13 +2,13 @@
 use Prim.Native.Nat.{ℕ, zero, suc, _+_, _*_, _≤_, _<_}
 use mathlib.Core.Path.{_≡_}
 use mathlib.Core.Logic.{_≢_, _⊎_}
-use mathlib.Core.Bool.{Bool, true, false}
+use mathlib.Core.Bool.{true, false}
 use mathlib.Core.List.{List, [], _∷_, List·Memᴰ}
 use lib.IntN.{ℤ, pos, negℤ, _+ℤ_, _-ℤ_}
 use lib.Signed.{_≤ℤ_, _<ℤ_}
 use lib.ListN.{length}
 use Rattle.stab.specs.Basic.{nat}
-use Rattle.stab.specs.Formula.{Row, Kind, constant, literal, junction, iteration, unknown, kindOf, Base, index, Formula, const, lit, join, iter, tree, size, depth}
+use Rattle.stab.specs.Formula.{Row, Kind, constant, literal, junction, iteration, unknown, kindOf, index, Formula, const, lit, join, iter, tree, size, depth}
 use Rattle.stab.specs.Alike.{lower, instance}
 use Rattle.stab.specs.Node.{Tableau, Bound, rows, rowCount, row, formula, node, nodeAt, set, setStart, setEnd, bound, rank, childCount}
 use Rattle.stab.specs.Rule.{unused, rule, given, indexAt}

@@ -1,6 +1,5 @@
 -- 01, "Model, texts, lines": a line asked for by its number, and the numbers of lines.
 use Prim.Native.Nat.{ℕ, zero, suc, _+_, _-_}
-use mathlib.Core.Bool.{Bool, true, false}
 use mathlib.Core.List.{List, [], _∷_}
 use lib.ListN.{length, take, drop}
 use Rattle.stab.specs.Basic.{if_then_else_}

@@ -1,13 +1,13 @@
 -- 01, "Turning records away": writing. The text of some rows, or the refusal; and what the lent output then holds.
 use Prim.Native.Nat.{ℕ, zero, suc, _+_, _*_}
-use mathlib.Core.Bool.{Bool, true, false}
+use mathlib.Core.Bool.{Bool, true}
 use mathlib.Core.List.{List, [], _∷_, _++_}
 use mathlib.Core.Option.{Option, none, some}
 use lib.Dec.{leb}
 use lib.IntN.{ℤ, pos}
 use lib.ListN.{length, take, drop}
-use Rattle.stab.specs.Basic.{if_then_else_, _and_, eqZ, nat, allOf, _otherwise_, unless}
-use Rattle.stab.specs.Node.{Node, nodeAt, setOf, setStart, setFollows}
+use Rattle.stab.specs.Basic.{_and_, eqZ, allOf, _otherwise_, unless}
+use Rattle.stab.specs.Node.{nodeAt, setOf, setStart, setFollows}
 use Rattle.stab.specs.Text.{fiveDigits, rowLine, headingLine, schemaHeading, rowHeading, nodeHeading, modelHeading, pairHeading, textLimit, padded}
 use Rattle.stab.specs.Check.{holds}
 use Rattle.stab.specs.declared.Place.the-variants.{Whole}

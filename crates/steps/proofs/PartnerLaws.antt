@@ -6,12 +6,12 @@ use mathlib.Core.Logic.{⊎-elim}
 use mathlib.Core.Bool.{true, false}
 use lib.Dec.{eqb}
 use lib.IntN.{ℤ, pos, negℤ, _+ℤ_}
-use Rattle.stab.specs.Basic.{_and_, _or_, _implies_, eqZ, nat}
+use Rattle.stab.specs.Basic.{_or_, _implies_, eqZ, nat}
 use Rattle.stab.specs.Node.{Tableau, Node, node, row}
 use Rattle.stab.specs.Rule.{ofRule, shortened, isInstance, partnersFit}
 use Rattle.stab.proofs.Bools.{or-cases}
-use Rattle.stab.proofs.Whole.{atom, num, _⊕_, eq-of, of-eq, eqZ-true, plus-nat}
-use Rattle.leaves.proofs.Compares.{minus-nat, test-same}
+use Rattle.stab.proofs.Whole.{atom, num, _⊕_, eq-of, of-eq, eqZ-true, plus-nat, minus-nat}
+use Rattle.leaves.proofs.Compares.{test-same}
 use Rattle.fields.proofs.Answers.{first-fails, second-decides, implies-made, implies-spared}
 
 -- w = o + 1

@@ -1,5 +1,5 @@
 -- What the earlier passes leave for the judgement of a single node.
-use Prim.Native.Nat.{ℕ, zero, suc, _+_, _*_, _<_, _≤_}
+use Prim.Native.Nat.{ℕ, zero, suc, _+_, _<_, _≤_}
 use native.Mathlib.Omega.{arith}
 use native.Mathlib.Numerals.{add-one}
 use mathlib.Core.Path.{_≡_, refl, sym, _∙_, ap}
@@ -9,22 +9,21 @@ use mathlib.Core.List.{List}
 use lib.Dec.{leb}
 use lib.IntN.{ℤ, pos, negℤ}
 use lib.Signed.{leZ}
-use lib.ListN.{getD, length}
 use borrow.Author.Tests.{leb-true, leb-false}
-use Rattle.stab.specs.Basic.{_and_, _or_, _implies_, eqZ, nat, below, allOf, ascending}
-use Rattle.stab.specs.Node.{Tableau, node, nodeAt, set, setOf, setStart, setEnd, setFollows, setFits, parentFits, rowCount, isOuterRow, isAncestor, aboveN, aboveIf}
-use Rattle.stab.specs.Rule.{ofRule, fieldsFit, targetFits}
+use Rattle.stab.specs.Basic.{_and_, _or_, _implies_, nat, below, allOf, ascending}
+use Rattle.stab.specs.Node.{Tableau, node, nodeAt, set, setStart, setEnd, setFollows, setFits, parentFits, rowCount, isOuterRow, isAncestor, aboveN, aboveIf}
+use Rattle.stab.specs.Rule.{ofRule, targetFits}
 use Rattle.stab.proofs.Bools.{and-left, and-right, and-both, or-false, implies-use, decide}
-use Rattle.stab.proofs.Trees.{below-nat, below-pos}
-use Rattle.stab.proofs.Whole.{eqZ-not}
-use Rattle.branch.specs.Lent.{SetHeld, SetOfRows, ChildKnown, FieldsKnown}
+use Rattle.stab.proofs.Trees.{below-pos}
+use Rattle.stab.proofs.Whole.{eqZ-not, nat-of, below-0}
+use Rattle.branch.specs.Lent.{SetHeld, SetOfRows, ChildKnown}
 use Rattle.branch.specs.Parents.{upFits, AllUpFit}
 use Rattle.steps.specs.Ready.{Ready}
 use Rattle.branch.specs.Sets.{placeFits}
 use Rattle.branch.proofs.AboveLaws.{above-none}
 use Rattle.drawn.proofs.HeldLaws.{set-length}
-use Rattle.branch.proofs.ParentLaws.{later-up, parent-less}
-use Rattle.branch.proofs.Parts.{natural-of, is-natural, below-0}
+use Rattle.branch.proofs.ParentLaws.{parent-less}
+use Rattle.branch.proofs.Parts.{is-natural}
 use Rattle.sets.proofs.SetLaws.{at-all, place-start, place-next, place-within}
 use Rattle.sets.proofs.SetRefusals.{outer-below}
 
@@ -57,7 +56,7 @@ module _ (T : Tableau) (facts work : List ℕ) (ready : Ready T facts work) wher
         within =
             omega (
               arith,
-              natural-of (nodeAt (T .nodes) j .start) (r .0) (place-start (T .nodes) (T .memberCount) j (r .0) (r .1) (placed j p)),
+              nat-of (nodeAt (T .nodes) j .start) (r .0) (place-start (T .nodes) (T .memberCount) j (r .0) (r .1) (placed j p)),
               place-within (T .nodes) (T .memberCount) j (r .0) (r .1) (placed j p),
               ready .membersHeld,
             );

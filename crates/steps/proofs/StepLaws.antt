@@ -1,13 +1,11 @@
 -- A node's tests in the paper's order: what is found where one fails, and where none does.
-use Prim.Native.Nat.{ℕ, zero, suc, _<_}
+use Prim.Native.Nat.{ℕ, zero, suc}
 use native.Mathlib.Omega.{arith}
-use mathlib.Core.Path.{_≡_, refl, sym, _∙_, ap}
+use mathlib.Core.Path.{_≡_, refl, sym, _∙_}
 use mathlib.Core.Bool.{Bool, true, false}
 use mathlib.Core.Option.{Option, none, some}
-use lib.Dec.{eqb}
-use lib.ListN.{getD}
-use Rattle.stab.specs.Basic.{_otherwise_, unless, allOf, nat}
-use Rattle.stab.specs.Node.{Tableau, node, set, rank, childCount}
+use Rattle.stab.specs.Basic.{_otherwise_, allOf, nat}
+use Rattle.stab.specs.Node.{Tableau, node, set, rank}
 use Rattle.stab.specs.Rule as R
 use Rattle.stab.specs.Rule.{drawn, drawnFrom, fieldsFit, targetFits, boundFits, partnersFit, loweredFits, childrenFit}
 use Rattle.stab.specs.Check.{finding, atUnless, stepRefusal, nodeRefusal}

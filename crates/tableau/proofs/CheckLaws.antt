@@ -1,9 +1,8 @@
 -- Laws of the check's passes, one after the other.
 use Prim.Native.Nat.{ℕ, _≤_, _<_}
-use mathlib.Core.Path.{_≡_, refl, sym, _∙_, ap}
-use mathlib.Core.Bool.{Bool, true, false, not, false≢true}
-use mathlib.Core.Option.{Option, none, some, Option·some-ne-none}
-use borrow.Author.Tests.{not-true, not-false, lt-ltb, le-ltb}
+use mathlib.Core.Path.{_≡_, sym, _∙_, ap}
+use mathlib.Core.Bool.{Bool, true, false}
+use mathlib.Core.Option.{Option, none, Option·some-ne-none}
 use lib.Dec.{ltb}
 use lib.IntN.{pos}
 use Rattle.stab.specs.Basic.{_and_, within, below, _otherwise_, scan}
@@ -24,18 +23,6 @@ use Rattle.stab.proofs.Exactness.{keeps-of}
 use Rattle.tableau.specs.Passes.{rowsRefusal, nodesRefusal}
 
 -- ---- `if !r`: r is the answer to t
-
-pub asked-false : {r t : Bool} → r ≡ t → not r ≡ true → t ≡ false
-asked-false {r} {t} e h = sym e ∙ not-true r h
-
-pub asked-true : {r t : Bool} → r ≡ t → not r ≡ false → t ≡ true
-asked-true {r} {t} e h = sym e ∙ not-false r h
-
--- a conjunction whose first part passes is the rest of it
-pub and-next : (a b : Bool) → a ≡ true → (a and b) ≡ b
-unfolding _and_
-and-next true b h = refl
-and-next false b h = absurd (false≢true h)
 
 -- ---- findings
 

@@ -1,5 +1,4 @@
 -- The check's refusals in groups, in the paper's order.
-use Prim.Native.Nat.{ℕ}
 use mathlib.Core.Option.{Option}
 use lib.Dec.{ltb}
 use Rattle.stab.specs.Basic.{_otherwise_, scan}

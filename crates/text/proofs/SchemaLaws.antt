@@ -1,15 +1,13 @@
 -- Schema and model texts: what their readers answer.
-use Prim.Native.Nat.{ℕ, zero, suc, _+_, _*_, _-_, _/_, _<_, _≤_}
+use Prim.Native.Nat.{ℕ, _*_, _-_, _/_, _<_, _≤_}
 use native.Mathlib.Omega.{arith}
-use mathlib.Core.Path.{_≡_, refl, sym, _∙_, ap, ap₂, subst}
-use mathlib.Core.Bool.{Bool, true, false}
-use mathlib.Core.List.{List, [], _∷_, _++_}
-use lib.Dec.{eqb, leb}
-use lib.IntN.{ℤ, pos}
-use lib.ListN.{length, take, drop, getD}
+use mathlib.Core.Path.{_≡_, sym, _∙_, ap}
+use mathlib.Core.List.{List}
+use lib.IntN.{ℤ}
+use lib.ListN.{length, take}
 use lib.Seq.{length-take-le}
 use Rattle.stab.specs.Text.{lines, textLimit}
-use Rattle.stab.specs.Read.{Reading, read, stopped}
+use Rattle.stab.specs.Read.{Reading, stopped}
 use Rattle.stab.specs.Read.{SchemaText, readSchemaLines, readSchema, schemaAnswer, schemaTable, ModelText, readModelLines, readModel, modelAnswer, pairTable, tableOf}
 use borrow.Author.Tests.{le-leb, lt-leb}
 use Rattle.stab.specs.declared.Refusal.{Refusal}

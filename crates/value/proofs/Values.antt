@@ -9,15 +9,16 @@ use mathlib.Core.Bool.{Bool, true, false, not, Bool·beq, true≢false, false≢
 use lib.Dec.{eqb}
 use lib.IntN.{ℤ, pos, negsuc, _+ℤ_, _-ℤ_, +ℤ-idl}
 use Rattle.stab.specs.Basic.{if_then_else_, _and_, _or_, eqZ, nat, below, within}
-use Rattle.stab.specs.Formula.{Row, Op, conj, disj, Kind, constant, literal, junction, iteration, unknown, kindOf, nothing, parameter, index, baseOf, Formula, part, decode, tree, offset, isBody, mixes, wellFormedAs, wellFormed}
+use Rattle.stab.specs.Formula.{Row, Op, conj, disj, Kind, constant, literal, junction, iteration, unknown, kindOf, nothing, parameter, index, baseOf, Formula, decode, tree, offset, isBody, mixes, wellFormedAs, wellFormed}
 use Rattle.stab.specs.Meaning.{Assignment, base, signed, op, empty, over, rangeSize, value}
 use Rattle.stab.proofs.Bools.{and-left, and-right, if-true, if-false}
-use Rattle.stab.proofs.Whole.{atom, num, _⊕_, _⊖_, eq-of, of-eq, plus-nat, eqZ-not}
+use Rattle.stab.proofs.Whole.{atom, num, _⊕_, _⊖_, eq-of, of-eq, plus-nat, eqZ-not, minus-nat}
+use Rattle.stab.proofs.Decoded.{formed-as}
 use Rattle.stab.proofs.Trees.{part-of, tree-is}
 use Rattle.formula.proofs.RowLaws.{unknown-kind}
 use Rattle.pairs.specs.Index.{unbiased, ReachedRange}
 use Rattle.pairs.specs.Reading.{Readable, opOf, symbolValue}
-use Rattle.pairs.proofs.Parts.{minus-nat, within-under, within-nat, unbiased-zero, unbiased-more, size-is}
+use Rattle.pairs.proofs.Parts.{within-under, within-nat, unbiased-zero, unbiased-more, size-is}
 
 -- ---- kinds by their numbers
 
@@ -83,10 +84,6 @@ module _ (rows : ℕ → Row) (r : ℕ) (formed : wellFormed rows r ≡ true) wh
   kind-below : nat (rows r .kind) < 8
   kind-below = kind-small (rows r .kind) known
 
-  formed-as : (k : Kind) → kindOf (rows r .kind) ≡ k → wellFormedAs rows r (rows r) k ≡ true
-  unfolding wellFormed
-  formed-as k e = sym (ap (wellFormedAs rows r (rows r)) e) ∙ formed
-
   value-as : (k : Kind) (σ : Assignment) (n : ℕ) (i : ℤ) → kindOf (rows r .kind) ≡ k → value σ n (tree rows r) i ≡ value σ n (decode r (rows r) k (tree rows)) i
   value-as k σ n i e =
       ap (λ (f : Formula). value σ n f i) (tree-is rows r ∙ ap (λ (j : Kind). decode r (rows r) j (tree rows)) e)
@@ -104,7 +101,7 @@ module _ (rows : ℕ → Row) (r : ℕ) (formed : wellFormed rows r ≡ true) wh
 
     literal-formed : 2 ≤ m → m < 4 → (within (pos 0) (pos 255) (rows r .a) and within (pos 0) (pos 2) (rows r .b) and offset (rows r .c)) ≡ true
     unfolding wellFormedAs
-    literal-formed l h = formed-as (literal (eqb m 2)) (is-literal l h)
+    literal-formed l h = formed-as rows r (literal (eqb m 2)) (is-literal l h) formed
 
     pub literal-symbol : 2 ≤ m → m < 4 → within (pos 0) (pos 255) (rows r .a) ≡ true
     literal-symbol l h = and-left (within (pos 0) (pos 255) (rows r .a)) _ (literal-formed l h)
@@ -130,7 +127,7 @@ module _ (rows : ℕ → Row) (r : ℕ) (formed : wellFormed rows r ≡ true) wh
 
     junction-formed : 4 ≤ m → m < 6 → (below r (rows r .a) and below r (rows r .b) and eqZ (rows r .c) (pos 0) and not (mixes (tree rows r))) ≡ true
     unfolding wellFormedAs
-    junction-formed l h = formed-as (junction (opOf (eqb m 5))) (is-junction l h)
+    junction-formed l h = formed-as rows r (junction (opOf (eqb m 5))) (is-junction l h) formed
 
     pub junction-left : 4 ≤ m → m < 6 → below r (rows r .a) ≡ true
     junction-left l h = and-left (below r (rows r .a)) _ (junction-formed l h)
@@ -153,7 +150,7 @@ module _ (rows : ℕ → Row) (r : ℕ) (formed : wellFormed rows r ≡ true) wh
 
     iteration-formed : 6 ≤ m → (below r (rows r .a) and offset (rows r .b) and offset (rows r .c) and isBody (tree rows (nat (rows r .a)))) ≡ true
     unfolding wellFormedAs
-    iteration-formed l = formed-as (iteration (opOf (eqb m 7))) (is-iteration l)
+    iteration-formed l = formed-as rows r (iteration (opOf (eqb m 7))) (is-iteration l) formed
 
     pub iteration-body : 6 ≤ m → below r (rows r .a) ≡ true
     iteration-body l = and-left (below r (rows r .a)) _ (iteration-formed l)

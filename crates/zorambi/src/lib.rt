@@ -2,7 +2,7 @@
 pub mod texts;
 
 ghost use mathlib.Core.Path.{_≡_};
-ghost use Prim.Native.Nat.{ℕ, _/_};
+ghost use Prim.Native.Nat.{_/_};
 ghost use Rattle.stab.specs.Check.{check};
 ghost use Rattle.stab.specs.Model.{checkModel};
 ghost use Rattle.stab.specs.Answer.{packed};

@@ -4,16 +4,15 @@ use native.Mathlib.Omega.{arith}
 use mathlib.Core.Path.{_≡_, sym, _∙_, subst}
 use mathlib.Core.Bool.{Bool, true, false, true≢false}
 use mathlib.Core.Logic.{⊎-elim}
-use lib.IntN.{ℤ, pos}
+use lib.IntN.{pos}
 use lib.ListN.{getD, length}
 use borrow.Author.Count.{below-more}
 use borrow.Author.Tests.{ltb-true}
-use Rattle.stab.proofs.Bools.{and-left}
+use Rattle.stab.proofs.Bools.{and-left, asked-false, asked-true}
 use Rattle.branch.proofs.WalkLaws.{stood}
 use Rattle.stab.specs.Node.{Tableau, node, nodeAt, set, setOf}
 use Rattle.stab.specs.Rule.{drawnFrom}
 use Rattle.branch.specs.Lent.{lent, SetHeld}
-use Rattle.fields.proofs.Answers.{refused, passed}
 use Rattle.stab.specs.Basic.{nat}
 use Rattle.stab.specs.Node as N
 use Rattle.drawn.proofs.DrawnLaws.{drawn-same, drawn-above, walk-bound}
@@ -124,7 +123,7 @@ unfolding set node
 returns c =
     let n = c .before .before .before .before .before in
     let s = Begin n in
-    sym (fails _ (λ h. true≢false (sym (at-all _ (pos 0) _ h (n .before .before .loop .i) (omega (arith, set-length (s .args .nodes .now) (s .args .members .now) (s .args .j) (s .pre .1 .own), n .before .before .before .before .before .natural-of2 .ensures))) ∙ refused (asked (c .before)) (c .if2 .taken))))
+    sym (fails _ (λ h. true≢false (sym (at-all _ (pos 0) _ h (n .before .before .loop .i) (omega (arith, set-length (s .args .nodes .now) (s .args .members .now) (s .args .j) (s .pre .1 .own), n .before .before .before .before .before .natural-of2 .ensures))) ∙ asked-false (asked (c .before)) (c .if2 .taken))))
 
 add-i : tie.Need-add-i Inv-loop μ-loop
 add-i c = omega arith
@@ -140,7 +139,7 @@ loop-again c =
       below-more _ _ (l .loop .inv .1)
           (⊎-elim
           (λ w. found (c .before) (w .0 .taken))
-          (λ w. passed (asked (record { before = record { before = record { before = c .before; if1 = w .0 }; walked = w .1 }; may-stand = w .2 })) (w .3 .left))
+          (λ w. asked-true (asked (record { before = record { before = record { before = c .before; if1 = w .0 }; walked = w .1 }; may-stand = w .2 })) (w .3 .left))
           (c .if1 .came)),
       ⊎-elim
           (λ w. omega (arith, w .1, ltb-true (l .loop .near + 1) (n .before .before .before .natural-of4 .result) (and-left _ _ (sym (c .before .stands-at .ensures) ∙ w .0 .taken))))

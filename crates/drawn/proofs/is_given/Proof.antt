@@ -1,7 +1,6 @@
 use borrow.Author.Needs.{needs}
 use mathlib.Core.Path.{sym, _∙_, ap}
-use mathlib.Core.List.{List}
-use lib.IntN.{ℤ, pos}
+use lib.IntN.{pos}
 use Rattle.stab.specs.Basic.{has}
 use Rattle.stab.specs.Node.{row, rows}
 use Rattle.stab.specs.Rule.{ofRule}

@@ -1,11 +1,7 @@
 use borrow.Author.Needs.{needs}
-use Prim.Native.Nat.{ℕ}
-use native.Mathlib.Omega.{arith}
-use mathlib.Core.Path.{_≡_, _∙_, sym, ap}
-use mathlib.Core.Bool.{true}
-use lib.ListN.{take, drop}
-use lib.IntN.{ℤ, pos}
-use Rattle.stab.specs.Basic.{ascending, has}
+use mathlib.Core.Path.{_∙_, ap}
+use lib.IntN.{ℤ}
+use Rattle.stab.specs.Basic.{has}
 use Rattle.stab.specs.Node.{nodeAt, setOf}
 use Rattle.fields.proofs.in_set.Statement.{statement}
 use Rattle.fields.proofs.in_set.Tie as tie

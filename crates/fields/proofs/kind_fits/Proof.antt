@@ -1,14 +1,14 @@
 use borrow.Author.Needs.{needs}
 use native.Mathlib.Omega.{arith}
-use mathlib.Core.Path.{_≡_, sym, _∙_}
+use mathlib.Core.Path.{sym, _∙_}
 use mir.Facts.{toZ-ofZ}
 use Rattle.stab.specs.Rule.{unused}
 use Rattle.stab.proofs.Trees.{below-nat}
 use Rattle.formula.specs.Column.{column}
-use Rattle.fields.proofs.Answers.{refused, passed}
 use Rattle.fields.proofs.FieldLaws.{kind-unused, kind-none, kind-row}
 use Rattle.fields.proofs.kind_fits.Statement.{statement}
 use Rattle.fields.proofs.kind_fits.Tie as tie
+use Rattle.stab.proofs.Bools.{asked-false, asked-true}
 
 equal-requires : tie.Need-equal-requires
 equal-requires c κs = search needs
@@ -33,14 +33,14 @@ returns-2 c =
     let a = c .before .before .before .before in
     kind-none _ _ (a .before .args .need) _
     (rw (toZ-ofZ (a .before .fits .need)) at (sym (a .equal .ensures) ∙ c .before .before .before .if1 .left))
-    (refused (c .before .is-below .ensures) (c .if2 .taken))
+    (asked-false (c .before .is-below .ensures) (c .if2 .taken))
 
 natural-of-requires : tie.Need-natural-of-requires
 natural-of-requires c κs = search needs
 
 is-in-requires : tie.Need-is-in-requires
 is-in-requires c κs =
-    omega (arith, c .natural-of .ensures, below-nat _ _ (passed (c .before .before .is-below .ensures) (c .before .if2 .left)))
+    omega (arith, c .natural-of .ensures, below-nat _ _ (asked-true (c .before .before .is-below .ensures) (c .before .if2 .left)))
 
 returns-3 : tie.Need-returns-3
 unfolding unused column
@@ -50,7 +50,7 @@ returns-3 c =
     ∙ rw (toZ-ofZ (a .before .fits .need), c .before .natural-of .ensures)
     (kind-row _ _ (a .before .args .need) _
     (rw (toZ-ofZ (a .before .fits .need)) at (sym (a .equal .ensures) ∙ c .before .before .before .before .before .if1 .left))
-    (passed (c .before .before .before .is-below .ensures) (c .before .before .if2 .left)))
+    (asked-true (c .before .before .before .is-below .ensures) (c .before .before .if2 .left)))
 
 pub kind-fits-spec : {M : Type 1} → statement M
 kind-fits-spec =

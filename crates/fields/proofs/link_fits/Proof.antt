@@ -1,11 +1,10 @@
 use borrow.Author.Needs.{needs}
-use Prim.Native.Nat.{ℕ}
 use mathlib.Core.Path.{sym, _∙_, ap}
 use lib.Dec.{ltb}
 use Rattle.stab.specs.Rule.{unused}
-use Rattle.stab.proofs.Bools.{if-true, if-false}
+use Rattle.stab.proofs.Bools.{if-true, if-false, asked-false, asked-true}
 use Rattle.branch.specs.Lent.{linkFits}
-use Rattle.fields.proofs.Answers.{refused, passed, first-fails, second-decides}
+use Rattle.fields.proofs.Answers.{first-fails, second-decides}
 use Rattle.fields.proofs.FieldLaws.{at-least-1}
 use Rattle.fields.proofs.link_fits.Statement.{statement}
 use Rattle.fields.proofs.link_fits.Tie as tie
@@ -22,7 +21,7 @@ is-of-requires c κs = search needs
 
 returns-2 : tie.Need-returns-2
 unfolding linkFits unused
-returns-2 c = first-fails _ _ (refused (c .before .is-of .ensures) (c .if2 .taken)) ∙ sym (if-false _ _ _ (c .before .before .if1 .left))
+returns-2 c = first-fails _ _ (asked-false (c .before .is-of .ensures) (c .if2 .taken)) ∙ sym (if-false _ _ _ (c .before .before .if1 .left))
 
 is-of-requires-2 : tie.Need-is-of-requires-2
 is-of-requires-2 c κs = search needs
@@ -31,7 +30,7 @@ returns-3 : tie.Need-returns-3
 unfolding linkFits unused
 returns-3 c =
     c .is-of2 .ensures
-    ∙ second-decides _ _ (passed (c .before .before .is-of .ensures) (c .before .if2 .left))
+    ∙ second-decides _ _ (asked-true (c .before .before .is-of .ensures) (c .before .if2 .left))
     ∙ sym (if-false _ _ _ (c .before .before .before .if1 .left))
 
 pub link-fits-spec : {M : Type 1} → statement M

@@ -4,8 +4,7 @@ use mathlib.Core.Path.{_≡_, sym, _∙_}
 use mir.Facts.{toZ-ofZ}
 use Rattle.stab.specs.Basic.{eqZ}
 use Rattle.stab.specs.Rule.{unused}
-use Rattle.stab.proofs.Bools.{or-left}
-use Rattle.fields.proofs.Answers.{or-first-false}
+use Rattle.stab.proofs.Bools.{or-left, or-first-false}
 use Rattle.fields.proofs.on_stands.Statement.{statement}
 use Rattle.fields.proofs.on_stands.Tie as tie
 

@@ -1,20 +1,21 @@
 use borrow.Author.Needs.{needs}
 use native.Mathlib.Omega.{arith}
-use mathlib.Core.Path.{_≡_, sym, _∙_}
+use mathlib.Core.Path.{_∙_}
 use Rattle.stab.specs.Node.{node, set, row, rows}
 use Rattle.stab.specs.Rule.{symbolFits}
 use Rattle.stab.proofs.Trees.{below-nat, below-pos}
 use Rattle.formula.specs.Column.{column}
-use Rattle.fields.proofs.Answers.{refused, passed, first-fails, second-decides}
+use Rattle.fields.proofs.Answers.{first-fails, second-decides}
 use Rattle.fields.proofs.symbol_fits.Statement.{statement}
 use Rattle.fields.proofs.symbol_fits.Tie as tie
+use Rattle.stab.proofs.Bools.{asked-false, asked-true}
 
 in-set-requires : tie.Need-in-set-requires
 in-set-requires c κs = ((c .pre .0, omega arith), (c .pre .1 .0, below-pos 1024 _ (c .pre .1 .1 .1)))
 
 returns : tie.Need-returns
 unfolding symbolFits node set
-returns c = first-fails _ _ (refused (c .before .in-set .ensures) (c .if1 .taken))
+returns c = first-fails _ _ (asked-false (c .before .in-set .ensures) (c .if1 .taken))
 
 natural-of-requires : tie.Need-natural-of-requires
 natural-of-requires c κs = search needs
@@ -32,7 +33,7 @@ unfolding symbolFits node set row rows column
 returns-2 c =
     c .same-in .ensures
     ∙ rw (c .before .natural-of2 .ensures, c .before .before .natural-of .ensures)
-    (second-decides _ _ (passed (c .before .before .before .before .in-set .ensures) (c .before .before .before .if1 .left)))
+    (second-decides _ _ (asked-true (c .before .before .before .before .in-set .ensures) (c .before .before .before .if1 .left)))
 
 pub symbol-fits-spec : {M : Type 1} → statement M
 symbol-fits-spec =

@@ -1,13 +1,11 @@
 use borrow.Author.Needs.{needs}
-use Prim.Native.Nat.{ℕ, _+_, _≤_, _<_}
 use native.Mathlib.Omega.{arith}
 use mathlib.Core.Path.{_≡_, sym, _∙_, ap, ap₂}
-use mathlib.Core.Bool.{Bool, true}
 use mathlib.Core.List.{[]}
-use lib.IntN.{ℤ, pos}
+use lib.IntN.{pos}
 use Rattle.stab.specs.Basic.{nat}
 use Rattle.stab.specs.Node.{Tableau, Bound, node, bound, row, rows, rowCount}
-use Rattle.stab.specs.Rule.{unfoldFits, splitFits, clashFits, voidFits, loopFits}
+use Rattle.stab.specs.Rule.{unfoldFits, splitFits}
 use Rattle.stab.proofs.Trees.{below-pos}
 use Rattle.branch.specs.Lent.{lent, bounded}
 use Rattle.limits.proofs.BoundSteps.{bound-kept, split-asked, unfold-asked, clash-asked, void-asked, loop-asked, none-asked, unfold-on, void-on, clash-on, clash-with, by-natural}

@@ -2,8 +2,8 @@ use borrow.Author.Needs.{needs}
 use mathlib.Core.Path.{sym, _∙_}
 use borrow.Author.Tests.{not-true, not-false}
 use Rattle.stab.specs.Rule.{clashFits}
-use Rattle.stab.proofs.Bools.{or-left}
-use Rattle.fields.proofs.Answers.{or-first-false, first-fails, second-decides}
+use Rattle.stab.proofs.Bools.{or-left, or-first-false}
+use Rattle.fields.proofs.Answers.{first-fails, second-decides}
 use Rattle.limits.proofs.clash_fits.Statement.{statement}
 use Rattle.limits.proofs.clash_fits.Tie as tie
 

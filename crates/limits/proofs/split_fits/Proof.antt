@@ -1,4 +1,3 @@
-use mathlib.Core.Path.{ap}
 use Rattle.stab.specs.Rule.{splitFits}
 use Rattle.stab.proofs.Bools.{not-of-true, not-of-false}
 use Rattle.fields.proofs.Answers.{first-fails, second-decides}

@@ -8,11 +8,10 @@ use mir.Facts.{toZ-ofZ}
 use borrow.Author.Needs.{needs}
 use borrow.Author.Tests.{le-leb, lt-leb}
 use Rattle.stab.specs.Basic.{nat}
-use Rattle.stab.proofs.Bools.{and-first-false}
-use Rattle.signed.proofs.Signs.{nat-small}
-use Rattle.formula.proofs.RowLaws.{and-true}
+use Rattle.stab.proofs.Bools.{and-first-false, and-first-true}
+use Rattle.signed.proofs.Signs.{nat-small, under-small}
 use Rattle.pairs.proofs.Parts.{high-is}
-use Rattle.model.proofs.Passes.{order-is, under-small}
+use Rattle.model.proofs.Passes.{order-is}
 use Rattle.model.proofs.width_fits.Statement.{statement}
 use Rattle.model.proofs.width_fits.Tie as tie
 
@@ -68,7 +67,7 @@ returns c =
     let start = c .before .before .before .before .before .before in
     ap (λ (k : ℕ). leb k 9999) (c .natural3 .ensures ∙ ap nat (toZ-ofZ (start .fits .n)))
     ∙ sym (high-is 9999 (start .args .n))
-    ∙ sym (and-true _ _ (order (c .before .before) ∙ le-leb _ _ (c .before .if1 .taken)))
+    ∙ sym (and-first-true _ _ (order (c .before .before) ∙ le-leb _ _ (c .before .if1 .taken)))
 
 returns-2 : tie.Need-returns-2
 returns-2 c = sym (and-first-false _ _ (order (c .before) ∙ lt-leb _ _ (c .if1 .left)))

@@ -1,11 +1,10 @@
 -- What is left of the run, after the digits that were read, comes to what the whole run comes to.
-use borrow.Author.Needs.{needs}
 use Prim.Native.Nat.{ℕ, _+_, _*_, _-_, _<_, _≤_}
 use native.Mathlib.Omega.{arith}
-use mathlib.Core.Path.{_≡_, refl, sym, _∙_, ap, subst}
+use mathlib.Core.Path.{_≡_, sym, _∙_, ap}
 use mathlib.Core.Bool.{false}
 use mathlib.Core.List.{List}
-use lib.ListN.{drop, getD, length}
+use lib.ListN.{drop, getD}
 use Rattle.stab.specs.Text.{isDigit}
 use Rattle.numerals.specs.Here.{runLength, runValue}
 use Rattle.numerals.proofs.Runs.{run-on-value, run-on-length, run-off-value, run-off-length, run-grows, run-below, run-none-value, run-none-length, not-digit-low, not-digit-high}

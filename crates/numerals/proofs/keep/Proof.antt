@@ -1,5 +1,5 @@
 use borrow.Author.Needs.{needs}
-use mathlib.Core.Path.{_≡_, sym, _∙_, ap}
+use mathlib.Core.Path.{sym, _∙_, ap}
 use lib.ListN.{set}
 use Rattle.signed.proofs.Signs.{read-back}
 use Rattle.numerals.proofs.Fields.{ends-space, ends-line, ends-neither}

@@ -1,12 +1,10 @@
 use borrow.Author.Needs.{needs}
 use native.Mathlib.Omega.{arith}
-use Prim.Native.Nat.{ℕ, _+_, _-_, _<_, _≤_}
-use mathlib.Core.Path.{_≡_, sym, _∙_, ap, ap₂}
-use mathlib.Core.Bool.{false}
-use lib.ListN.{getD, drop, length, length-drop}
+use Prim.Native.Nat.{_+_, _-_, _<_}
+use mathlib.Core.Path.{sym, _∙_, ap}
+use lib.ListN.{drop, length, length-drop}
 use Rattle.stab.specs.Text.{isDigit}
-use Rattle.numerals.specs.Here.{runLength, runValue}
-use Rattle.numerals.specs.Numerals.{closedBy, noNumeral}
+use Rattle.numerals.specs.Numerals.{noNumeral}
 use Rattle.numerals.proofs.Runs.{byte-within, not-digit-low, not-digit-high}
 use Rattle.numerals.proofs.Fields.{at-zero, at-other, at-run, run-within}
 use Rattle.numerals.proofs.natural_at.Statement.{statement}

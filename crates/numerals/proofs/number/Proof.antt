@@ -1,7 +1,7 @@
 use borrow.Author.Needs.{needs}
 use native.Mathlib.Omega.{arith}
-use Prim.Native.Nat.{ℕ, _+_, _≤_}
-use mathlib.Core.Path.{_≡_, sym, _∙_, ap}
+use Prim.Native.Nat.{_+_}
+use mathlib.Core.Path.{sym, _∙_, ap}
 use Rattle.numerals.specs.declared.Numeral.{Numeral}
 use Rattle.numerals.proofs.Runs.{byte-within}
 use Rattle.numerals.proofs.Steps.{at-small, less-bad, less-good, plain-good}

@@ -1,7 +1,5 @@
 use borrow.Author.Needs.{needs}
-use Prim.Native.Nat.{ℕ}
-use mathlib.Core.Path.{_≡_, sym, _∙_, ap}
-use mathlib.Core.Bool.{Bool}
+use mathlib.Core.Path.{sym, _∙_, ap}
 use Rattle.numerals.specs.Numerals.{signedOf}
 use Rattle.numerals.proofs.Signs.{of-bits, minus-fits, minus-bits}
 use Rattle.numerals.proofs.signed.Statement.{statement}

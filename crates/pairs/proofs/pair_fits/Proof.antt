@@ -1,7 +1,6 @@
 use mathlib.Core.Path.{sym, _∙_}
 use borrow.Author.Needs.{needs}
-use Rattle.stab.proofs.Bools.{and-first-false}
-use Rattle.formula.proofs.RowLaws.{and-true}
+use Rattle.stab.proofs.Bools.{and-first-false, and-first-true}
 use Rattle.pairs.proofs.Keys.{in-range-more}
 use Rattle.pairs.proofs.pair_fits.Statement.{statement}
 use Rattle.pairs.proofs.pair_fits.Tie as tie
@@ -13,7 +12,7 @@ pair-follows-requires : tie.Need-pair-follows-requires
 pair-follows-requires c κs = (c .before .before .pre .0, in-range-more _ _ (c .before .before .pre .1) (sym (c .before .pair-in-range .ensures) ∙ c .if1 .taken))
 
 returns : tie.Need-returns
-returns c = c .pair-follows .ensures ∙ sym (and-true _ _ (sym (c .before .before .pair-in-range .ensures) ∙ c .before .if1 .taken))
+returns c = c .pair-follows .ensures ∙ sym (and-first-true _ _ (sym (c .before .before .pair-in-range .ensures) ∙ c .before .if1 .taken))
 
 returns-2 : tie.Need-returns-2
 returns-2 c = sym (and-first-false _ _ (sym (c .before .pair-in-range .ensures) ∙ c .if1 .left))

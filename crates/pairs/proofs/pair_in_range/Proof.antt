@@ -1,8 +1,7 @@
 use mathlib.Core.Path.{sym, _∙_}
 use borrow.Author.Needs.{needs}
 use Rattle.stab.specs.Model.{symbolAt, indexOf, pairInRange}
-use Rattle.stab.proofs.Bools.{and-first-false}
-use Rattle.formula.proofs.RowLaws.{and-true}
+use Rattle.stab.proofs.Bools.{and-first-false, and-first-true}
 use Rattle.pairs.proofs.pair_in_range.Statement.{statement}
 use Rattle.pairs.proofs.pair_in_range.Tie as tie
 
@@ -23,7 +22,7 @@ within-at-requires-2 c κs = search needs
 
 returns : tie.Need-returns
 unfolding pairInRange symbolAt indexOf
-returns c = c .within-at2 .ensures ∙ sym (and-true _ _ (sym (c .before .before .within-at .ensures) ∙ c .before .if1 .taken))
+returns c = c .within-at2 .ensures ∙ sym (and-first-true _ _ (sym (c .before .before .within-at .ensures) ∙ c .before .if1 .taken))
 
 returns-2 : tie.Need-returns-2
 unfolding pairInRange symbolAt indexOf

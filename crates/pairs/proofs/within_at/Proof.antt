@@ -6,8 +6,7 @@ use lib.ListN.{getD}
 use denote.Ref.{now}
 use borrow.Author.Needs.{needs}
 use borrow.Author.Tests.{le-leb, lt-leb}
-use Rattle.stab.proofs.Bools.{and-first-false}
-use Rattle.formula.proofs.RowLaws.{and-true}
+use Rattle.stab.proofs.Bools.{and-first-false, and-first-true}
 use Rattle.pairs.proofs.Parts.{within-is}
 use Rattle.pairs.proofs.within_at.Statement.{statement}
 use Rattle.pairs.proofs.within_at.Tie as tie
@@ -22,7 +21,7 @@ returns : tie.Need-returns
 returns c = let a = c .before .before .before .args in
     let z = getD (now (a .t)) (a .i) (pos 0) in
     ap (λ (n : ℕ). leb n (a .high)) (c .natural-at .ensures)
-    ∙ sym (within-is (a .low) (a .high) z ∙ and-true _ _ (le-leb _ _ (subst (λ (n : ℕ). n ≤ a .low) (c .before .before .under-at .ensures) (c .before .if1 .taken))))
+    ∙ sym (within-is (a .low) (a .high) z ∙ and-first-true _ _ (le-leb _ _ (subst (λ (n : ℕ). n ≤ a .low) (c .before .before .under-at .ensures) (c .before .if1 .taken))))
 
 returns-2 : tie.Need-returns-2
 returns-2 c = let a = c .before .before .args in

@@ -5,7 +5,7 @@ use mir.Val.{ofZ, toZ}
 use borrow.Author.Needs.{needs}
 use Rattle.signed.proofs.Signs.{read-back}
 use Rattle.stab.specs.Read.{readModel, modelAnswer, pairTable}
-use Rattle.stab.specs.Write.{Writing, writeModel}
+use Rattle.stab.specs.Write.{writeModel}
 use Rattle.stab.specs.declared.ModelRead.the-variants.{Model, Refused}
 use Rattle.round.proofs.FromTexts.{model-again, model-unread}
 use Rattle.round.proofs.model_again.Statement.{statement}

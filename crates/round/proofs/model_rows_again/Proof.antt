@@ -11,6 +11,7 @@ use Rattle.stab.specs.Read.{readModel, modelAnswer, pairTable}
 use Rattle.stab.specs.Write.{Writing, writeModel, written, output}
 use Rattle.stab.specs.declared.Written.the-variants.{Text, Refused}
 use Rattle.round.proofs.FromRows.{bytes-within, model-rows-again, model-unwritten, table-unwritten}
+use Rattle.rowlines.proofs.Tables.{cleared-all}
 use Rattle.round.proofs.model_rows_again.Statement.{statement}
 use Rattle.round.proofs.model_rows_again.Tie as tie
 
@@ -95,7 +96,7 @@ returns-2 c =
     let s = w .before .before .before in
     let m = length (s .args .back .now) in (
       model-unwritten (W s) (leb 8192 m) (s .args .n) (s .args .pair-rows) _ _ (has-none y),
-      (c .before .clear .ensures ∙ table-unwritten (W s) (leb 8192 m) m (take (2 * s .args .pair-rows) (s .args .pairs .now)) _ _ (has-none y), was-written w .1),
+      (c .before .clear .ensures ∙ cleared-all _ ∙ table-unwritten (W s) (leb 8192 m) m (take (2 * s .args .pair-rows) (s .args .pairs .now)) _ _ (has-none y), was-written w .1),
     )
 
 pub model-rows-again-spec : {M : Type 1} → statement M

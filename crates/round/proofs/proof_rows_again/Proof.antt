@@ -8,9 +8,10 @@ use lib.Seq.{length-take-le}
 use borrow.Author.Needs.{needs}
 use Rattle.stab.specs.Basic.{_and_}
 use Rattle.stab.specs.Read.{Reading, ProofText, readProof, proofAnswer, proofTable, nodeTable, memberTable}
-use Rattle.stab.specs.Write.{Writing, writeProof, written, output}
+use Rattle.stab.specs.Write.{Writing, writeProof, written}
 use Rattle.stab.specs.declared.Written.the-variants.{Text, Refused}
 use Rattle.round.proofs.FromRows.{bytes-within, proof-rows-again, proof-unwritten, table-unwritten}
+use Rattle.rowlines.proofs.Tables.{cleared-all}
 use Rattle.round.proofs.proof_rows_again.Statement.{statement}
 use Rattle.round.proofs.proof_rows_again.Tie as tie
 
@@ -122,11 +123,11 @@ returns-2 c =
     let none = has-none y in (
       proof-unwritten (W s) (full s) (a .rows) (a .node-rows) (a .member-count) _ _ none,
       (
-        first .clear .ensures ∙ table-unwritten (W s) (full s) (length (a .back-table .now)) (take (4 * a .rows) (a .table .now)) _ _ none,
+        first .clear .ensures ∙ cleared-all _ ∙ table-unwritten (W s) (full s) (length (a .back-table .now)) (take (4 * a .rows) (a .table .now)) _ _ none,
         (
-          second .clear2 .ensures ∙ table-unwritten (W s) (full s) (length (a .back-nodes .now)) (take (9 * a .node-rows) (a .nodes .now)) _ _ none,
+          second .clear2 .ensures ∙ cleared-all _ ∙ table-unwritten (W s) (full s) (length (a .back-nodes .now)) (take (9 * a .node-rows) (a .nodes .now)) _ _ none,
           (
-            third .clear3 .ensures ∙ table-unwritten (W s) (full s) (length (a .back-members .now)) (take (a .member-count) (a .members .now)) _ _ none,
+            third .clear3 .ensures ∙ cleared-all _ ∙ table-unwritten (W s) (full s) (length (a .back-members .now)) (take (a .member-count) (a .members .now)) _ _ none,
             w .write-proof .ensures .1,
           ),
         ),

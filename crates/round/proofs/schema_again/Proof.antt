@@ -5,7 +5,7 @@ use mir.Val.{ofZ, toZ}
 use borrow.Author.Needs.{needs}
 use Rattle.signed.proofs.Signs.{read-back}
 use Rattle.stab.specs.Read.{readSchema, schemaAnswer, schemaTable}
-use Rattle.stab.specs.Write.{Writing, writeSchema}
+use Rattle.stab.specs.Write.{writeSchema}
 use Rattle.stab.specs.declared.SchemaRead.the-variants.{Schema, Refused}
 use Rattle.round.proofs.FromTexts.{schema-again, schema-unread}
 use Rattle.round.proofs.schema_again.Statement.{statement}

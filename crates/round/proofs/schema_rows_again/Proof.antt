@@ -11,6 +11,7 @@ use Rattle.stab.specs.Read.{readSchema, schemaAnswer, schemaTable}
 use Rattle.stab.specs.Write.{Writing, writeSchema, written, output}
 use Rattle.stab.specs.declared.Written.the-variants.{Text, Refused}
 use Rattle.round.proofs.FromRows.{bytes-within, schema-rows-again, schema-unwritten, table-unwritten}
+use Rattle.rowlines.proofs.Tables.{cleared-all}
 use Rattle.round.proofs.schema_rows_again.Statement.{statement}
 use Rattle.round.proofs.schema_rows_again.Tie as tie
 
@@ -95,7 +96,7 @@ returns-2 c =
     let s = w .before .before .before in
     let m = length (s .args .back .now) in (
       schema-unwritten (W s) (leb 4096 m) (s .args .root) (s .args .least) (s .args .rows) _ _ (has-none y),
-      (c .before .clear .ensures ∙ table-unwritten (W s) (leb 4096 m) m (take (4 * s .args .rows) (s .args .table .now)) _ _ (has-none y), was-written w .1),
+      (c .before .clear .ensures ∙ cleared-all _ ∙ table-unwritten (W s) (leb 4096 m) m (take (4 * s .args .rows) (s .args .table .now)) _ _ (has-none y), was-written w .1),
     )
 
 pub schema-rows-again-spec : {M : Type 1} → statement M

@@ -3,10 +3,11 @@ use native.Mathlib.Omega.{arith}
 use Prim.Native.Nat.{ℕ, _-_}
 use mathlib.Core.Path.{sym, _∙_, ap}
 use lib.Dec.{leb}
-use Rattle.branch.proofs.Parts.{natural-of, under-of, number-is}
+use Rattle.branch.proofs.Parts.{under-of, number-is}
 use Rattle.sets.proofs.SetLaws.{place-elsewhere, place-short, place-right}
 use Rattle.sets.proofs.place_fits.Statement.{statement}
 use Rattle.sets.proofs.place_fits.Tie as tie
+use Rattle.stab.proofs.Whole.{nat-of}
 
 under-of-requires : tie.Need-under-of-requires
 under-of-requires c κs = search needs
@@ -24,7 +25,7 @@ returns-2 : tie.Need-returns-2
 returns-2 c =
     let b = c .before .before .before .before in
     let a = b .args in
-    place-elsewhere (a .nodes .now) (a .m) (a .j) (a .from) (b .pre .1) (λ e. c .if2 .taken (c .before .natural-of .ensures ∙ natural-of _ _ e))
+    place-elsewhere (a .nodes .now) (a .m) (a .j) (a .from) (b .pre .1) (λ e. c .if2 .taken (c .before .natural-of .ensures ∙ nat-of _ _ e))
 
 under-of-requires-2 : tie.Need-under-of-requires-2
 under-of-requires-2 c κs = search needs

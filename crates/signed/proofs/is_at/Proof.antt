@@ -1,5 +1,5 @@
 use borrow.Author.Needs.{needs}
-use mathlib.Core.Path.{_≡_, _∙_, ap₂}
+use mathlib.Core.Path.{_∙_, ap₂}
 use Rattle.stab.specs.Basic.{eqZ}
 use mir.Facts.{toZ-ofZ}
 use Rattle.signed.proofs.Signs.{read-back}

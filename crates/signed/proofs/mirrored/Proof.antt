@@ -1,7 +1,3 @@
-use mathlib.Core.Path.{_≡_, _∙_, ap}
-use lib.IntN.{ℤ, negsuc, _-ℤ_}
-use mir.Syntax.{w32}
-use mir.Val.{SFits, ofZ, toZ}
 use mir.Facts.{toZ-ofZ}
 use Rattle.signed.proofs.Signs.{mirrored-fits}
 use Rattle.signed.proofs.mirrored.Statement.{statement}

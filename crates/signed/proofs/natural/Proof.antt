@@ -1,9 +1,7 @@
 use mathlib.Core.Path.{_≡_, _∙_, ap}
-use mathlib.Core.Bool.{true, false}
-use lib.IntN.{ℤ, pos, natAbs}
+use mathlib.Core.Bool.{false}
+use lib.IntN.{pos, natAbs}
 use lib.Signed.{ltZ}
-use mir.Syntax.{w32}
-use mir.Val.{ofZ, toZ}
 use mir.Facts.{toZ-ofZ}
 use Rattle.signed.proofs.Signs.{nat-negative, nonNeg-of, nat-abs, abs-fits}
 use Rattle.signed.proofs.natural.Statement.{statement}

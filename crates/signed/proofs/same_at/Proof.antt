@@ -1,5 +1,5 @@
 use borrow.Author.Needs.{needs}
-use mathlib.Core.Path.{_≡_, _∙_, ap₂}
+use mathlib.Core.Path.{_∙_, ap₂}
 use Rattle.stab.specs.Basic.{eqZ}
 use Rattle.signed.proofs.Signs.{read-back}
 use Rattle.signed.proofs.same_at.Statement.{statement}

@@ -1,6 +1,6 @@
 use borrow.Author.Needs.{needs}
 use Prim.Native.Nat.{ℕ, _<_, _^_}
-use mathlib.Core.Path.{_≡_, sym, _∙_, ap, subst}
+use mathlib.Core.Path.{sym, _∙_, ap, subst}
 use Rattle.stab.specs.Basic.{nat}
 use Rattle.signed.proofs.Signs.{read-back, nat-small}
 use Rattle.signed.proofs.small_at.Statement.{statement}

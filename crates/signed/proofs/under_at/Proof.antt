@@ -1,5 +1,5 @@
 use borrow.Author.Needs.{needs}
-use mathlib.Core.Path.{_≡_, _∙_, ap}
+use mathlib.Core.Path.{_∙_, ap}
 use lib.IntN.{ℤ, negℤ}
 use Rattle.stab.specs.Basic.{nat}
 use Rattle.signed.proofs.Signs.{read-back}

@@ -3,23 +3,21 @@
 -- It is shown for single nodes, not for paths.
 use Prim.Native.Nat.{ℕ, zero, suc, _+_, _<_, _≤_}
 use native.Mathlib.Omega.{arith}
-use native.Mathlib.Decide.{ℕ-discrete}
 use mathlib.Core.Path.{_≡_, refl, sym, _∙_, ap, ap₂, subst}
 use mathlib.Core.Logic.{_⊎_, inl, inr, ⊎-elim, _≢_}
-use mathlib.Core.Bool.{Bool, true, false, not, false≢true, true≢false}
+use mathlib.Core.Bool.{Bool, true, false, not, false≢true}
 use mathlib.Core.List.{List, [], _∷_, List·Memᴰ, List·Memᴰ·cases-cons, List·Memᴰ·not-nil}
-use lib.IntN.{ℤ, pos, negsuc, negℤ, _+ℤ_, _-ℤ_, pos-ne-negsuc}
-use lib.Signed.{leZ, ltZ, _≤ℤ_, _<ℤ_}
+use lib.IntN.{ℤ, pos, _+ℤ_, _-ℤ_, pos-ne-negsuc}
+use lib.Signed.{leZ}
 use Rattle.stab.specs.Basic.{if_then_else_, eqZ, _and_, _or_, nat, below, count}
-use Rattle.stab.specs.Formula.{Row, Op, conj, disj, Formula, const, lit, join, iter, baseOf, kindOf, constant, literal, junction, iteration, tree, wellFormed, isBody}
+use Rattle.stab.specs.Formula.{Row, Op, conj, disj, Formula, const, lit, join, iter, baseOf, kindOf, literal, junction, iteration, wellFormed, isBody}
 use Rattle.stab.specs.Meaning.{Assignment, base, signed, op, empty, value, truth}
-use Rattle.stab.specs.Alike.{lower, instance}
 use Rattle.stab.specs.Node.{Tableau, Node, Bound, rows, rowCount, row, formula, nodeAt, node, set, names, childCountOf, childCount, rank, SatisfiesIf, Satisfies, splitBound, childBound, boundOf, bound}
 use Rattle.stab.specs.Rule.{unused, entry, ruleTable, ruleOf, rule, ofRule, oneOf, given, indexAt}
-use Rattle.stab.specs.Keeps.{Below, Alike, KeepsRow, KeepsParent, KeepsDrawn, DrawnFrom, KeepsKind, Unfolds, Clashes, Loops, KeepsStep, KeepsNode, Keeps}
+use Rattle.stab.specs.Keeps.{Below, Alike, KeepsParent, KeepsDrawn, DrawnFrom, KeepsKind, Unfolds, Clashes, Loops, KeepsStep, Keeps}
 use Rattle.stab.specs.declared.Rule.{Rule}
-use Rattle.stab.proofs.Bools.{and-left, and-right, or-cases, if-true, if-false}
-use Rattle.stab.proofs.Whole.{atom, num, _⊕_, _⊖_, of-le, le-of, of-lt, of-eq, lt-of, eq-of, leZ-of, ltZ-of, eqZ-true, eqZ-of, nat-pos, plus-nat, nonneg-minus}
+use Rattle.stab.proofs.Bools.{and-left, and-right, or-cases, if-false}
+use Rattle.stab.proofs.Whole.{atom, num, _⊕_, _⊖_, of-le, le-of, of-lt, of-eq, lt-of, leZ-of, ltZ-of, eqZ-true, nat-pos}
 use Rattle.stab.proofs.Trees.{below-nat, below-pos, below-of}
 use Rattle.stab.proofs.Meanings.{Proper, unfolds, void-value, instance-value, lower-value}
 use Rattle.stab.proofs.Decoded as D

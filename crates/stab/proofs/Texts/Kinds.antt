@@ -24,19 +24,19 @@ four a b c d = simp append-assoc
 
 -- ---- headings hold no byte 10
 
-schema-heading-lacks : lacks 10 schemaHeading ≡ true
+pub schema-heading-lacks : lacks 10 schemaHeading ≡ true
 unfolding lacks schemaHeading bytes _and_
 schema-heading-lacks = refl
 
-row-heading-lacks : lacks 10 rowHeading ≡ true
+pub row-heading-lacks : lacks 10 rowHeading ≡ true
 unfolding lacks rowHeading bytes _and_
 row-heading-lacks = refl
 
-model-heading-lacks : lacks 10 modelHeading ≡ true
+pub model-heading-lacks : lacks 10 modelHeading ≡ true
 unfolding lacks modelHeading bytes _and_
 model-heading-lacks = refl
 
-pair-heading-lacks : lacks 10 pairHeading ≡ true
+pub pair-heading-lacks : lacks 10 pairHeading ≡ true
 unfolding lacks pairHeading bytes _and_
 pair-heading-lacks = refl
 

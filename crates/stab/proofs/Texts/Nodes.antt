@@ -17,13 +17,10 @@ use Rattle.stab.specs.Text.{Line, lines, fiveDigits, rowLine}
 use Rattle.stab.specs.Read.{read, values, nodeNumbers, nodesFrom}
 use Rattle.stab.specs.Write.{nodeValues, nodeLines, nodeWritable, nodesWritable}
 use Rattle.stab.proofs.Bools.{and-left, and-right, and-both}
-use Rattle.stab.proofs.Whole.{num, le-of, eqZ-true, eqZ-of, nat-pos}
+use Rattle.stab.proofs.Whole.{num, le-of, eqZ-true, eqZ-of, nat-pos, pos-injective}
 use Rattle.stab.proofs.Scans.{below-suc}
 use Rattle.stab.proofs.Texts.Lines.{full, rowBytes, textOf, lines-row}
 use Rattle.stab.proofs.Texts.Rows.{read-injective, then-read, then-is, require-true, require-read, Row, values-row, row-values, all-append, all-front, all-back, take-row}
-
-pos-injective : (a b : ℕ) → pos a ≡ pos b → a ≡ b
-pos-injective a b e = cc
 
 -- ---- the nine numbers of a node
 

@@ -8,7 +8,6 @@ use Rattle.stab.specs.Node.{Tableau}
 use Rattle.stab.specs.Check.{check as checked}
 use Rattle.stab.specs.Answer.{packed, Packs}
 use Rattle.stab.specs.Refuted.{Refuted}
-use Rattle.stab.specs.declared.Verdict.{Verdict}
 use Rattle.stab.proofs.Packed.{check-packs, packed-accepted}
 use Rattle.zorambi.proofs.zorambi_check.Statement.{statement}
 use Rattle.zorambi.proofs.zorambi_check.Tie as tie

@@ -7,7 +7,6 @@ use borrow.Author.Needs.{needs}
 use Rattle.stab.specs.Model.{Model, checkModel}
 use Rattle.stab.specs.Answer.{packed, Packs}
 use Rattle.stab.specs.Refuted.{Irrefutable}
-use Rattle.stab.specs.declared.Verdict.{Verdict}
 use Rattle.stab.proofs.Packed.{model-packs, packed-accepted}
 use Rattle.zorambi.proofs.zorambi_check_model.Statement.{statement}
 use Rattle.zorambi.proofs.zorambi_check_model.Tie as tie

@@ -4,13 +4,13 @@ use native.Mathlib.Omega.{arith}
 use mathlib.Core.Path.{_≡_, sym, _∙_, ap, ap₂, subst}
 use lib.IntN.{ℤ, pos, negℤ, _-ℤ_}
 use mir.Facts.{toZ-ofZ}
-use Rattle.signed.proofs.Signs.{nat-small}
+use Rattle.signed.proofs.Signs.{nat-small, under-small}
 use Rattle.stab.specs.Basic.{nat}
 use Rattle.stab.specs.Formula.{Row, joined, tree}
 use Rattle.stab.specs.Alike.{lower, agree}
 use Rattle.leaves.specs.Compare.{changed}
 use Rattle.alike.specs.Memo.{Remembers}
-use Rattle.leaves.proofs.Compares.{whole-parts, under-small}
+use Rattle.leaves.proofs.Compares.{whole-parts}
 use Rattle.alike.proofs.compare.is_lowered.Statement.{statement}
 use Rattle.alike.proofs.compare.is_lowered.Tie as tie
 

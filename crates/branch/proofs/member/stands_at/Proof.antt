@@ -2,8 +2,7 @@ use borrow.Author.Needs.{needs}
 use mathlib.Core.Path.{sym, _∙_}
 use borrow.Author.Tests.{lt-ltb, le-ltb}
 use native.Mathlib.Omega.{arith}
-use Rattle.stab.proofs.Bools.{and-first-false}
-use Rattle.formula.proofs.RowLaws.{and-true}
+use Rattle.stab.proofs.Bools.{and-first-false, and-first-true}
 use Rattle.branch.proofs.member.stands_at.Statement.{statement}
 use Rattle.branch.proofs.member.stands_at.Tie as tie
 
@@ -16,7 +15,7 @@ is-number-requires c κs = search needs
 returns : tie.Need-returns
 returns c =
     let a = c .before .before .args in
-    c .is-number .ensures ∙ sym (and-true _ _ (lt-ltb (a .i) (a .len) (c .before .if1 .taken)))
+    c .is-number .ensures ∙ sym (and-first-true _ _ (lt-ltb (a .i) (a .len) (c .before .if1 .taken)))
 
 returns-2 : tie.Need-returns-2
 returns-2 c =

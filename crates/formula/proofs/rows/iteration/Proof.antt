@@ -4,7 +4,8 @@ use Rattle.stab.specs.Formula.{wellFormedAs, isBody}
 use Rattle.stab.proofs.Bools.{and-both, and-first-false, and-second-false, not-of-false, not-of-true}
 use Rattle.formula.specs.Column.{column}
 use Rattle.formula.specs.Rows.{factsOf}
-use Rattle.formula.proofs.RowLaws.{ill, formed-tree, tree-iteration, fails, passes, fixed-none, fixed-some}
+use Rattle.stab.proofs.Decoded.{iteration-tree}
+use Rattle.formula.proofs.RowLaws.{ill, formed-tree, fails, passes, fixed-none, fixed-some}
 use Rattle.formula.proofs.rows.iteration.Statement.{statement}
 use Rattle.formula.proofs.rows.iteration.Tie as tie
 
@@ -63,7 +64,7 @@ returns-4 c =
     (and-both _ _
     (passes _ (q .before .before .offset-in2 .ensures) (q .before .if3 .left))
     (not-of-false _ (fixed-none _ (q .part .ensures .0) (c .before .if4 .taken))))))
-    (c .over .ensures _ _ _ _ (q .part .ensures .0) ∙ ap factsOf (sym (tree-iteration _ _ _ kind smaller)))
+    (c .over .ensures _ _ _ _ (q .part .ensures .0) ∙ ap factsOf (sym (iteration-tree _ _ _ kind smaller)))
 
 returns-5 : tie.Need-returns-5
 unfolding wellFormedAs column isBody

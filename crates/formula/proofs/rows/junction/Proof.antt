@@ -6,7 +6,8 @@ use Rattle.stab.proofs.Bools.{and-both, and-first-false, and-second-false, not-
 use Rattle.formula.specs.Column.{column}
 use Rattle.formula.specs.Rows.{factsOf, judged}
 use Rattle.formula.specs.declared.rows.Judged.the-variants.{Formed}
-use Rattle.formula.proofs.RowLaws.{ill, formed-tree, tree-junction, fails, passes, loose-none, loose-some, fixed-none, fixed-some}
+use Rattle.stab.proofs.Decoded.{junction-tree}
+use Rattle.formula.proofs.RowLaws.{ill, formed-tree, fails, passes, loose-none, loose-some, fixed-none, fixed-some}
 use Rattle.formula.proofs.rows.junction.Statement.{statement}
 use Rattle.formula.proofs.rows.junction.Tie as tie
 
@@ -72,7 +73,7 @@ known c =
     c .both .ensures _ _ _ (c .before .before .part .ensures .0) (c .before .part2 .ensures .0)
     ∙ ap factsOf
     (sym
-    (tree-junction _ _ _
+    (junction-tree _ _ _
     (start c .pre .0 .1 .1)
     (passes _ (d .before .before .before .below-in .ensures) (d .before .before .if1 .left))
     (passes _ (d .before .below-in2 .ensures) (d .if2 .left))))

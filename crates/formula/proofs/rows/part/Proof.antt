@@ -1,11 +1,8 @@
 use native.Mathlib.Omega.{arith}
-use Prim.Native.Nat.{_<_, _≤_}
-use mathlib.Core.Path.{_≡_, sym, _∙_, ap, subst}
+use Prim.Native.Nat.{_≤_}
+use mathlib.Core.Path.{sym, _∙_, ap, subst}
 use borrow.Author.Needs.{needs}
-use Rattle.stab.specs.Basic.{nat}
-use Rattle.stab.specs.Formula.{joined}
 use Rattle.stab.proofs.Trees.{below-nat}
-use Rattle.formula.specs.Column.{column}
 use Rattle.formula.specs.Rows.{factsAt}
 use Rattle.formula.specs.declared.rows.Facts.{Facts}
 use Rattle.formula.proofs.RowLaws.{kept-facts, kept-size, kept-depth}

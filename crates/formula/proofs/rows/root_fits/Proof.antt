@@ -3,8 +3,8 @@ use mir.Facts.{toZ-ofZ}
 use borrow.Author.Needs.{needs}
 use Rattle.stab.specs.Basic.{below}
 use Rattle.stab.specs.Check.{rootFits}
-use Rattle.stab.proofs.Bools.{and-first-false}
-use Rattle.formula.proofs.RowLaws.{fails, passes, and-true, within-below}
+use Rattle.stab.proofs.Bools.{and-first-false, and-first-true}
+use Rattle.formula.proofs.RowLaws.{fails, passes, within-below}
 use Rattle.formula.proofs.rows.root_fits.Statement.{statement}
 use Rattle.formula.proofs.rows.root_fits.Tie as tie
 
@@ -28,7 +28,7 @@ returns-2 c =
     c .below2 .ensures
     ∙ ap (below 10000) (toZ-ofZ (a .fits .least))
     ∙ within-below 9999 (a .args .least)
-    ∙ sym (and-true _ _ h)
+    ∙ sym (and-first-true _ _ h)
 
 pub root-fits-spec : {M : Type 1} → statement M
 root-fits-spec = tie.close (tie.spec below-requires returns below-requires-2 returns-2)

@@ -27,11 +27,11 @@ enum-known-v c = search needs
 small : (c : tie.After-known-told) → Packs (Accepted (c .before .v .given .0 .0) (c .before .v .given .0 .1 .0))
 small c = subst Packs (c .before .v .given .1) (c .before .before .before .pre)
 
-whole-requires : tie.Need-whole-requires
-whole-requires c κs = omega (arith, small c .0)
+of-requires : tie.Need-of-requires
+of-requires c κs = omega (arith, small c .0)
 
-whole-requires-2 : tie.Need-whole-requires-2
-whole-requires-2 c κs = omega (arith, small (c .before) .1)
+of-requires-2 : tie.Need-of-requires-2
+of-requires-2 c κs = omega (arith, small (c .before) .1)
 
 enum-known-v-2 : tie.Need-enum-known-v-2
 enum-known-v-2 c = search needs
@@ -39,8 +39,8 @@ enum-known-v-2 c = search needs
 number-requires : tie.Need-number-requires
 number-requires c κs = search needs
 
-whole-requires-3 : tie.Need-whole-requires-3
-whole-requires-3 c κs = omega (arith, c .number .ensures, number-range (c .before .before .v2 .given .0 .0) .1)
+of-requires-3 : tie.Need-of-requires-3
+of-requires-3 c κs = omega (arith, c .number .ensures, number-range (c .before .before .v2 .given .0 .0) .1)
 
 place-number-requires : tie.Need-place-number-requires
 place-number-requires c κs =
@@ -52,8 +52,8 @@ unfolding numberRow verdictNumbers
 returns c =
     let g = c .before .before .before .v .given in
     ap₂ (λ (a b : ℤ). pos 0 ∷ pos 0 ∷ a ∷ b ∷ [])
-    (read-back _ (c .before .whole .ok) ∙ c .before .whole .ensures)
-    (read-back _ (c .whole2 .ok) ∙ c .whole2 .ensures)
+    (read-back _ (c .before .of .ok) ∙ c .before .of .ensures)
+    (read-back _ (c .of2 .ok) ∙ c .of2 .ensures)
     ∙ ap (λ (v : Verdict). numberRow (verdictNumbers v)) (sym (g .1))
 
 returns-2 : tie.Need-returns-2
@@ -61,7 +61,7 @@ unfolding numberRow verdictNumbers refusedNumbers
 returns-2 c =
     let g = c .before .before .before .before .v2 .given in
     ap₂ (λ (a b : ℤ). a ∷ b ∷ pos 0 ∷ pos 0 ∷ [])
-    (read-back _ (c .before .whole3 .ok) ∙ c .before .whole3 .ensures ∙ ap pos (c .before .before .number .ensures))
+    (read-back _ (c .before .of3 .ok) ∙ c .before .of3 .ensures ∙ ap pos (c .before .before .number .ensures))
     (read-back _ (c .place-number .ok) ∙ c .place-number .ensures)
     ∙ ap (λ (v : Verdict). numberRow (verdictNumbers v)) (sym (g .1))
 
@@ -70,11 +70,11 @@ numbers-spec =
     tie.close
     (tie.spec
     enum-known-v
-    whole-requires
-    whole-requires-2
+    of-requires
+    of-requires-2
     enum-known-v-2
     number-requires
-    whole-requires-3
+    of-requires-3
     place-number-requires
     returns
     returns-2)

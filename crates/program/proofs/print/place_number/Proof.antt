@@ -14,15 +14,15 @@ enum-told c = search needs
 enum-known-place : tie.Need-enum-known-place
 enum-known-place c = search needs
 
-whole-requires : tie.Need-whole-requires
-whole-requires c κs = omega (arith, subst (λ (p : Place). placeCode p ≤ 99999) (c .before .place .given .1) (c .before .before .before .pre))
+of-requires : tie.Need-of-requires
+of-requires c κs = omega (arith, subst (λ (p : Place). placeCode p ≤ 99999) (c .before .place .given .1) (c .before .before .before .pre))
 
 returns : tie.Need-returns
 returns c = ap placeNumber (sym (c .enum-told .given .1))
 
 returns-2 : tie.Need-returns-2
-returns-2 c = read-back _ (c .whole .ok) ∙ c .whole .ensures ∙ ap placeNumber (sym (c .before .before .place .given .1))
+returns-2 c = read-back _ (c .of .ok) ∙ c .of .ensures ∙ ap placeNumber (sym (c .before .before .place .given .1))
 
 pub place-number-spec : {M : Type 1} → statement M
 place-number-spec =
-    tie.close (tie.spec enum-told enum-known-place whole-requires returns returns-2)
+    tie.close (tie.spec enum-told enum-known-place of-requires returns returns-2)

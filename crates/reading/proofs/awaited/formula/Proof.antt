@@ -1,10 +1,10 @@
 use mathlib.Core.Path.{sym, _∙_}
 use Rattle.stab.specs.Text.{nodeHeading, bytes}
-use Rattle.rowlines.proofs.Headings.{node-lacks}
 use Rattle.reading.proofs.TakenLaws.{formula-missing, formula-heading, formula-row}
 use borrow.Author.Needs.{needs}
 use Rattle.reading.proofs.awaited.formula.Statement.{statement}
 use Rattle.reading.proofs.awaited.formula.Tie as tie
+use Rattle.stab.proofs.Texts.ProofRows.{node-heading-lacks}
 
 add-t8 : tie.Need-add-t8
 add-t8 c = search needs
@@ -23,7 +23,7 @@ add-heading-line c = search needs
 
 heading-line-requires : tie.Need-heading-line-requires
 unfolding nodeHeading bytes
-heading-line-requires c κs = (c .before .before .before .before .before .pre .0, node-lacks)
+heading-line-requires c κs = (c .before .before .before .before .before .pre .0, node-heading-lacks)
 
 returns-2 : tie.Need-returns-2
 unfolding nodeHeading bytes

@@ -2,12 +2,12 @@ use mathlib.Core.Path.{sym, subst}
 use Rattle.stab.specs.Text.{schemaHeading, rowHeading, modelHeading, pairHeading, bytes}
 use Rattle.reading.specs.Awaiting.{Ready, Moved}
 use Rattle.reading.specs.declared.awaited.Awaited.{Awaited}
-use Rattle.rowlines.proofs.Headings.{schema-lacks, row-lacks, model-lacks, pair-lacks}
 use Rattle.reading.proofs.OnceLaws.{schema-heading, schema-values, row-heading, model-heading, model-value, pair-heading, proof-heading, over-stays}
 use Rattle.reading.proofs.Others.{others-over}
 use borrow.Author.Needs.{needs}
 use Rattle.reading.proofs.awaited.once.Statement.{statement}
 use Rattle.reading.proofs.awaited.once.Tie as tie
+use Rattle.stab.proofs.Texts.Kinds.{schema-heading-lacks, row-heading-lacks, model-heading-lacks, pair-heading-lacks}
 
 enum-told : tie.Need-enum-told
 enum-told c = search needs
@@ -17,7 +17,7 @@ slice-aggregate-heading-line c = search needs
 
 heading-line-requires : tie.Need-heading-line-requires
 unfolding schemaHeading bytes
-heading-line-requires c κs = (c .before .before .before .before .pre, schema-lacks)
+heading-line-requires c κs = (c .before .before .before .before .pre, schema-heading-lacks)
 
 enum-told-2 : tie.Need-enum-told-2
 enum-told-2 c = search needs
@@ -33,7 +33,7 @@ slice-aggregate-heading-line-2 c = search needs
 
 heading-line-requires-2 : tie.Need-heading-line-requires-2
 unfolding rowHeading bytes
-heading-line-requires-2 c κs = (c .before .before .before .before .pre, row-lacks)
+heading-line-requires-2 c κs = (c .before .before .before .before .pre, row-heading-lacks)
 
 enum-told-4 : tie.Need-enum-told-4
 enum-told-4 c = search needs
@@ -43,7 +43,7 @@ slice-aggregate-heading-line-3 c = search needs
 
 heading-line-requires-3 : tie.Need-heading-line-requires-3
 unfolding modelHeading bytes
-heading-line-requires-3 c κs = (c .before .before .before .before .pre, model-lacks)
+heading-line-requires-3 c κs = (c .before .before .before .before .pre, model-heading-lacks)
 
 enum-told-5 : tie.Need-enum-told-5
 enum-told-5 c = search needs
@@ -59,7 +59,7 @@ slice-aggregate-heading-line-4 c = search needs
 
 heading-line-requires-4 : tie.Need-heading-line-requires-4
 unfolding pairHeading bytes
-heading-line-requires-4 c κs = (c .before .before .before .before .pre, pair-lacks)
+heading-line-requires-4 c κs = (c .before .before .before .before .pre, pair-heading-lacks)
 
 enum-told-7 : tie.Need-enum-told-7
 enum-told-7 c = search needs
@@ -69,7 +69,7 @@ slice-aggregate-heading-line-5 c = search needs
 
 heading-line-requires-5 : tie.Need-heading-line-requires-5
 unfolding rowHeading bytes
-heading-line-requires-5 c κs = (c .before .before .before .before .pre, row-lacks)
+heading-line-requires-5 c κs = (c .before .before .before .before .pre, row-heading-lacks)
 
 returns : tie.Need-returns
 unfolding schemaHeading bytes

@@ -17,11 +17,11 @@ use Rattle.stab.proofs.Trees.{below-nat, below-pos}
 use Rattle.alike.specs.Memo.{Remembers}
 use Rattle.alike.proofs.Remembering.{nothing-seen}
 use Rattle.branch.specs.Lent.{lent}
-use Rattle.fields.proofs.Answers.{refused, passed}
 use Rattle.drawn.proofs.HeldLaws.{set-length, member-nat}
 use Rattle.sets.proofs.SetLaws.{all-at, at-all, fails}
 use Rattle.steps.proofs.lowered.all_lowered.Statement.{statement}
 use Rattle.steps.proofs.lowered.all_lowered.Tie as tie
+use Rattle.stab.proofs.Bools.{asked-false, asked-true}
 
 abbrev Inv-loop : tie.InvT-loop
 Inv-loop schema proof nodes members facts t j to k start size seen₀ i₀ seen i =
@@ -98,7 +98,7 @@ returns c =
     let n = a .before .before in
     let s = Begin n in
     let i = n .before .before .loop .i in
-    sym (fails _ (λ h. true≢false (sym (at-all _ (pos 0) _ h i (omega (arith, inside n, set-length (s .args .nodes .now) (s .args .members .now) (s .args .to) (s .pre .1 .1 .1 .1 .held)))) ∙ rw (toZ-ofZ (s .fits .k)) at (refused (asked a) (c .if1 .taken)))))
+    sym (fails _ (λ h. true≢false (sym (at-all _ (pos 0) _ h i (omega (arith, inside n, set-length (s .args .nodes .now) (s .args .members .now) (s .args .to) (s .pre .1 .1 .1 .1 .held)))) ∙ rw (toZ-ofZ (s .fits .k)) at (asked-false (asked a) (c .if1 .taken)))))
 
 add-i : tie.Need-add-i Inv-loop μ-loop
 add-i c = omega arith
@@ -110,7 +110,7 @@ loop-again : tie.Need-loop-again Inv-loop μ-loop
 loop-again c =
     let a = c .before .before in
     let n = a .before .before in
-    (omega (arith, inside n), below-more _ _ (n .before .before .loop .inv .1) (passed (asked a) (c .if1 .left)), a .has-partner .ensures .1)
+    (omega (arith, inside n), below-more _ _ (n .before .before .loop .inv .1) (asked-true (asked a) (c .if1 .left)), a .has-partner .ensures .1)
 
 returns-2 : tie.Need-returns-2 Inv-loop μ-loop
 unfolding set node

@@ -2,7 +2,7 @@ use borrow.Author.Needs.{needs}
 use Prim.Native.Nat.{ℕ, _-_, _<_, _≤_}
 use native.Mathlib.Omega.{arith}
 use mathlib.Core.Path.{_≡_, sym, _∙_, ap}
-use mathlib.Core.Bool.{true, false}
+use mathlib.Core.Bool.{false}
 use lib.IntN.{ℤ, pos}
 use lib.ListN.{getD}
 use mir.Syntax.{w32}
@@ -11,7 +11,7 @@ use mir.Facts.{toZ-ofZ}
 use borrow.Author.Count.{below-more}
 use Rattle.stab.specs.Basic.{nat}
 use Rattle.stab.specs.Node.{Tableau, node, nodeAt, set, setOf, formula, rows}
-use Rattle.stab.specs.Rule.{isLowered, hasLowered}
+use Rattle.stab.specs.Rule.{isLowered}
 use Rattle.stab.proofs.Trees.{below-nat}
 use Rattle.alike.specs.Memo.{Remembers}
 use Rattle.branch.specs.Lent.{lent}

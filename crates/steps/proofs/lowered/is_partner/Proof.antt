@@ -1,8 +1,7 @@
 use borrow.Author.Needs.{needs}
 use native.Mathlib.Omega.{arith}
-use mathlib.Core.Path.{_≡_, sym, _∙_}
+use mathlib.Core.Path.{sym, _∙_}
 use mir.Facts.{toZ-ofZ}
-use Rattle.stab.specs.Formula.{joined, tree}
 use Rattle.steps.proofs.LoweredLaws.{sizes-differ}
 use Rattle.steps.proofs.lowered.is_partner.Statement.{statement}
 use Rattle.steps.proofs.lowered.is_partner.Tie as tie

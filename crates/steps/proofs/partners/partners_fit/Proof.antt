@@ -1,19 +1,17 @@
 use borrow.Author.Needs.{needs}
 use Prim.Native.Nat.{ℕ, _<_, _≤_}
 use native.Mathlib.Omega.{arith}
-use mathlib.Core.Path.{_≡_, sym, _∙_}
-use mathlib.Core.Bool.{true}
+use mathlib.Core.Path.{_≡_, _∙_}
 use mathlib.Core.List.{[]}
 use lib.IntN.{pos}
-use Rattle.stab.specs.Formula.{joined}
 use Rattle.stab.specs.Node.{Tableau, node, row, rows, rowCount, formula}
-use Rattle.stab.specs.Rule.{ofRule, isInstance}
+use Rattle.stab.specs.Rule.{isInstance}
 use Rattle.branch.specs.Lent.{lent}
-use Rattle.fields.proofs.Answers.{refused, passed}
-use Rattle.limits.proofs.BoundSteps.{Ranged, unfold-on, unfold-with, unfold-kind, unfold-other}
+use Rattle.limits.proofs.BoundSteps.{unfold-on, unfold-with, unfold-kind, unfold-other}
 use Rattle.steps.proofs.PartnerLaws.{unfolding-number, no-partners, not-shortened, instance-decides}
 use Rattle.steps.proofs.partners.partners_fit.Statement.{statement}
 use Rattle.steps.proofs.partners.partners_fit.Tie as tie
+use Rattle.stab.proofs.Bools.{asked-false, asked-true}
 
 abbrev Lent : tie.Start → Tableau
 Lent s = lent (s .args .schema .now) (s .args .proof .now) (s .args .nodes .now) [] (s .args .t)
@@ -21,14 +19,14 @@ Lent s = lent (s .args .schema .now) (s .args .proof .now) (s .args .nodes .now)
 -- the rule is 3 or 4
 numbered : (c : tie.Else1) → (n : ℕ) × (node (Lent (c .before .before)) (c .before .before .args .j) .rule ≡ pos n) × (3 ≤ n) × (n < 5)
 unfolding node
-numbered c = unfolding-number _ (passed (c .before .unfolds .ensures) (c .if1 .left))
+numbered c = unfolding-number _ (asked-true (c .before .unfolds .ensures) (c .if1 .left))
 
 unfolds-requires : tie.Need-unfolds-requires
 unfolds-requires c κs = search needs
 
 returns : tie.Need-returns
 unfolding node
-returns c = no-partners (Lent (c .before .before)) _ (refused (c .before .unfolds .ensures) (c .if1 .taken))
+returns c = no-partners (Lent (c .before .before)) _ (asked-false (c .before .unfolds .ensures) (c .if1 .taken))
 
 natural-of-requires : tie.Need-natural-of-requires
 natural-of-requires c κs = search needs
@@ -50,8 +48,8 @@ unfolding node row rows
 returns-2 c =
     let s = c .before .before .before .before .before .before in
     not-shortened (Lent s) _
-    (passed (c .before .before .before .before .before .unfolds .ensures) (c .before .before .before .before .if1 .left))
-    (rw (c .before .before .before .natural-of .ensures, c .before .before .natural-of2 .ensures) at (refused (c .before .is-shortened .ensures) (c .if2 .taken)))
+    (asked-true (c .before .before .before .before .before .unfolds .ensures) (c .before .before .before .before .if1 .left))
+    (rw (c .before .before .before .natural-of .ensures, c .before .before .natural-of2 .ensures) at (asked-false (c .before .is-shortened .ensures) (c .if2 .taken)))
 
 natural-of-requires-3 : tie.Need-natural-of-requires-3
 natural-of-requires-3 c κs = search needs
@@ -76,8 +74,8 @@ returns-3 c =
     c .is-instance .ensures
     ∙ rw (c .before .before .before .before .before .natural-of .ensures, c .before .natural-of3 .ensures)
     (instance-decides (Lent s) _
-    (passed (e .before .unfolds .ensures) (e .if1 .left))
-    (rw (c .before .before .before .before .before .natural-of .ensures, c .before .before .before .before .natural-of2 .ensures) at (passed (c .before .before .before .is-shortened .ensures) (c .before .before .if2 .left))))
+    (asked-true (e .before .unfolds .ensures) (e .if1 .left))
+    (rw (c .before .before .before .before .before .natural-of .ensures, c .before .before .before .before .natural-of2 .ensures) at (asked-true (c .before .before .before .is-shortened .ensures) (c .before .before .if2 .left))))
 
 pub partners-fit-spec : {M : Type 1} → statement M
 partners-fit-spec =

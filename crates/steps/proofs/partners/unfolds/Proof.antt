@@ -1,8 +1,7 @@
 use borrow.Author.Needs.{needs}
 use mathlib.Core.Path.{sym, _∙_}
 use Rattle.stab.specs.Rule.{ofRule}
-use Rattle.stab.proofs.Bools.{or-left}
-use Rattle.fields.proofs.Answers.{or-first-false}
+use Rattle.stab.proofs.Bools.{or-left, or-first-false}
 use Rattle.steps.proofs.partners.unfolds.Statement.{statement}
 use Rattle.steps.proofs.partners.unfolds.Tie as tie
 

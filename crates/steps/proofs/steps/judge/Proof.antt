@@ -2,18 +2,17 @@ use borrow.Author.Needs.{needs}
 use native.Mathlib.Omega.{arith}
 use Prim.Native.Nat.{ℕ}
 use mathlib.Core.Path.{_≡_, sym, _∙_, ap}
-use mathlib.Core.Bool.{true}
 use mathlib.Core.Option.{none}
 use lib.Dec.{eqb}
 use Rattle.stab.specs.Node.{Tableau, node, nodeAt, childCount}
 use Rattle.stab.specs.Rule.{ruleOf, rule, childrenFit}
 use Rattle.stab.specs.Check.{finding, stepRefusal}
 use Rattle.branch.specs.Lent.{lent}
-use Rattle.fields.proofs.Answers.{refused, passed}
 use Rattle.fields.proofs.FieldParts.{fields-known}
 use Rattle.steps.proofs.StepLaws.{fields-passed, step-found, children-found, node-passes}
 use Rattle.steps.proofs.steps.judge.Statement.{statement}
 use Rattle.steps.proofs.steps.judge.Tie as tie
+use Rattle.stab.proofs.Bools.{asked-false, asked-true}
 
 abbrev Lent : tie.Start → Tableau
 Lent s = lent (s .args .schema .now) (s .args .proof .now) (s .args .nodes .now) (s .args .members .now) (s .args .t)
@@ -54,10 +53,10 @@ counted c =
     c .children-fit .ensures ∙ ap (λ (n : ℕ). eqb n (ruleOf (nodeAt (s .args .nodes .now) (s .args .j) .rule) .children)) (s .pre .1 .worked _ (s .pre .0) .children)
 
 returns-2 : tie.Need-returns-2
-returns-2 c = children-found (Lent (Begin (c .before .before))) _ (stepped (c .before .before)) (refused (counted (c .before)) (c .if1 .taken))
+returns-2 c = children-found (Lent (Begin (c .before .before))) _ (stepped (c .before .before)) (asked-false (counted (c .before)) (c .if1 .taken))
 
 returns-3 : tie.Need-returns-3
-returns-3 c = node-passes (Lent (Begin (c .before .before))) _ (stepped (c .before .before)) (passed (counted (c .before)) (c .if1 .left))
+returns-3 c = node-passes (Lent (Begin (c .before .before))) _ (stepped (c .before .before)) (asked-true (counted (c .before)) (c .if1 .left))
 
 pub judge-spec : {M : Type 1} → statement M
 judge-spec =

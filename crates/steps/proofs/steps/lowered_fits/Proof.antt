@@ -1,19 +1,19 @@
 use borrow.Author.Needs.{needs}
-use native.Mathlib.Omega.{arith}
-use mathlib.Core.Path.{sym, _∙_}
-use Rattle.stab.specs.Node.{node, nodeAt, set}
+use mathlib.Core.Path.{_∙_}
+use Rattle.stab.specs.Node.{node, nodeAt}
 use Rattle.stab.specs.Rule.{ofRule, loweredFits}
 use Rattle.signed.proofs.Signs.{read-back}
-use Rattle.fields.proofs.Answers.{refused, passed, implies-made, implies-spared}
+use Rattle.fields.proofs.Answers.{implies-made, implies-spared}
 use Rattle.steps.proofs.steps.lowered_fits.Statement.{statement}
 use Rattle.steps.proofs.steps.lowered_fits.Tie as tie
+use Rattle.stab.proofs.Bools.{asked-false, asked-true}
 
 is-of-requires : tie.Need-is-of-requires
 is-of-requires c κs = search needs
 
 returns : tie.Need-returns
 unfolding loweredFits ofRule node
-returns c = implies-spared _ _ (refused (c .before .is-of .ensures) (c .if1 .taken))
+returns c = implies-spared _ _ (asked-false (c .before .is-of .ensures) (c .if1 .taken))
 
 natural-of-requires : tie.Need-natural-of-requires
 natural-of-requires c κs = search needs
@@ -32,7 +32,7 @@ unfolding ofRule
 all-lowered-requires c κs =
     let e = c .before .before in
     let p = e .before .before .before .pre in
-    let q = p .1 .1 .1 .1 (passed (e .before .is-of .ensures) (e .if1 .left)) in
+    let q = p .1 .1 .1 .1 (asked-true (e .before .is-of .ensures) (e .if1 .left)) in
     rw (c .before .natural-of .ensures) ((p .0 .0, q .0, p .0 .1), (p .1 .0, (p .1 .1 .0, (p .1 .1 .1 .0, q .1))))
 
 returns-2 : tie.Need-returns-2
@@ -40,7 +40,7 @@ unfolding loweredFits ofRule node nodeAt
 returns-2 c =
     let e = c .before .before .before in
     rw (read-back _ (c .before .at .ok), c .before .at .ensures, c .before .before .natural-of .ensures) at (c .all-lowered .ensures)
-    ∙ implies-made _ _ (passed (e .before .is-of .ensures) (e .if1 .left))
+    ∙ implies-made _ _ (asked-true (e .before .is-of .ensures) (e .if1 .left))
 
 pub lowered-fits-spec : {M : Type 1} → statement M
 lowered-fits-spec =

@@ -1,8 +1,8 @@
-use Prim.Native.Nat.{ℕ, _+_, _*_, _≤_}
+use Prim.Native.Nat.{_+_, _*_}
 use native.Mathlib.Omega.{arith}
 use mathlib.Core.Path.{_≡_, sym, _∙_, ap, ap₂}
-use mathlib.Core.Bool.{Bool, true}
-use mathlib.Core.Option.{Option, none}
+use mathlib.Core.Bool.{true}
+use mathlib.Core.Option.{Option}
 use lib.Dec.{leb}
 use lib.ListN.{length}
 use lib.IntN.{ℤ}
@@ -14,11 +14,11 @@ use Rattle.stab.specs.Node.{Tableau, rowCount}
 use Rattle.stab.specs.declared.Verdict.{Verdict}
 use Rattle.stab.specs.Check.{refusal, finding, holds, tablesHold, withinLimits, nodeRefusal}
 use Rattle.stab.specs.declared.Refusal.the-variants.{TableTooShort, TooMany}
-use Rattle.stab.proofs.Bools.{and-left, and-right}
+use Rattle.stab.proofs.Bools.{and-left, and-right, asked-false, asked-true}
 use Rattle.stab.proofs.Findings.{stays, nothing-found, later}
 use Rattle.branch.specs.Work.{tableau}
 use Rattle.tableau.specs.Passes.{rowsRefusal, nodesRefusal}
-use Rattle.tableau.proofs.CheckLaws.{asked-false, asked-true, whole-found, whole-passes, refusal-is}
+use Rattle.tableau.proofs.CheckLaws.{whole-found, whole-passes, refusal-is}
 use borrow.Author.Needs.{needs}
 use Rattle.tableau.proofs.check.first_refusal.Statement.{statement}
 use Rattle.tableau.proofs.check.first_refusal.Tie as tie

@@ -1,7 +1,6 @@
 use mathlib.Core.Path.{sym, _∙_}
 use borrow.Author.Needs.{needs}
-use Rattle.stab.proofs.Bools.{and-first-false}
-use Rattle.tableau.proofs.CheckLaws.{asked-false, asked-true, and-next}
+use Rattle.stab.proofs.Bools.{and-first-false, and-first-true, asked-false, asked-true}
 use Rattle.tableau.proofs.check.hold.Statement.{statement}
 use Rattle.tableau.proofs.check.hold.Tie as tie
 
@@ -17,7 +16,7 @@ holds-requires-2 c κs = search needs
 returns-2 : tie.Need-returns-2
 returns-2 c =
     sym
-    (and-next _ _ (asked-true (c .before .before .before .holds .ensures) (c .before .before .if1 .left))
+    (and-first-true _ _ (asked-true (c .before .before .before .holds .ensures) (c .before .before .if1 .left))
     ∙ and-first-false _ _ (asked-false (c .before .holds2 .ensures) (c .if2 .taken)))
 
 holds-requires-3 : tie.Need-holds-requires-3
@@ -26,8 +25,8 @@ holds-requires-3 c κs = search needs
 returns-3 : tie.Need-returns-3
 returns-3 c =
     sym
-    (and-next _ _ (asked-true (c .before .before .before .before .before .holds .ensures) (c .before .before .before .before .if1 .left))
-    ∙ and-next _ _ (asked-true (c .before .before .before .holds2 .ensures) (c .before .before .if2 .left))
+    (and-first-true _ _ (asked-true (c .before .before .before .before .before .holds .ensures) (c .before .before .before .before .if1 .left))
+    ∙ and-first-true _ _ (asked-true (c .before .before .before .holds2 .ensures) (c .before .before .if2 .left))
     ∙ and-first-false _ _ (asked-false (c .before .holds3 .ensures) (c .if3 .taken)))
 
 holds-requires-4 : tie.Need-holds-requires-4
@@ -37,9 +36,9 @@ returns-4 : tie.Need-returns-4
 returns-4 c =
     c .holds4 .ensures
     ∙ sym
-    (and-next _ _ (asked-true (c .before .before .before .before .before .before .holds .ensures) (c .before .before .before .before .before .if1 .left))
-    ∙ and-next _ _ (asked-true (c .before .before .before .before .holds2 .ensures) (c .before .before .before .if2 .left))
-    ∙ and-next _ _ (asked-true (c .before .before .holds3 .ensures) (c .before .if3 .left)))
+    (and-first-true _ _ (asked-true (c .before .before .before .before .before .before .holds .ensures) (c .before .before .before .before .before .if1 .left))
+    ∙ and-first-true _ _ (asked-true (c .before .before .before .before .holds2 .ensures) (c .before .before .before .if2 .left))
+    ∙ and-first-true _ _ (asked-true (c .before .before .holds3 .ensures) (c .before .if3 .left)))
 
 pub hold-spec : {M : Type 1} → statement M
 hold-spec =

@@ -1,4 +1,4 @@
-use Prim.Native.Nat.{ℕ, _+_}
+use Prim.Native.Nat.{_+_}
 use native.Mathlib.Omega.{arith}
 use mathlib.Core.Path.{_≡_, sym, _∙_, ap, ap₂, subst}
 use mathlib.Core.Option.{none}
@@ -6,7 +6,7 @@ use mathlib.Core.Bool.{true}
 use lib.IntN.{ℤ, pos}
 use mir.Facts.{toZ-ofZ}
 use denote.Ref.{now}
-use Rattle.stab.specs.Basic.{within, _otherwise_}
+use Rattle.stab.specs.Basic.{within}
 use Rattle.stab.specs.Formula.{joined}
 use Rattle.stab.specs.Node.{Tableau, rows, rowCount}
 use Rattle.stab.specs.Check.{finding, formulasRefusal}

@@ -1,4 +1,4 @@
-use mathlib.Core.Path.{_≡_, sym, ap₂}
+use mathlib.Core.Path.{sym, ap₂}
 use mathlib.Core.Bool.{Bool}
 use lib.Dec.{leb}
 use lib.ListN.{length}

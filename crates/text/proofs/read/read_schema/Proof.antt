@@ -1,6 +1,6 @@
-use Prim.Native.Nat.{ℕ, _*_, _≤_}
+use Prim.Native.Nat.{_*_, _≤_}
 use native.Mathlib.Omega.{arith}
-use mathlib.Core.Path.{_≡_, sym, _∙_, subst}
+use mathlib.Core.Path.{_∙_, subst}
 use lib.ListN.{length}
 use Rattle.stab.specs.Read.{readSchema}
 use Rattle.reading.specs.Texts.{SchemaOf}
