@@ -2,8 +2,8 @@
  *
  * A slice is a pointer and the count of its numbers or bytes. The counts of rows, nodes and members are those that refusals 2
  * and 5 speak of: a table may be longer than its count. Whatever stands in the tables and texts, and whatever the counts, the
- * answer is a verdict or a numbered refusal; nothing is read or written outside the slices, and only those that are not const
- * are written. No two slices of a call may overlap if one of them is written.
+ * answer is a verdict or a numbered refusal; nothing is read or written outside the slices and the arrays results and span, and
+ * only what is not const is written. No two slices or arrays of a call may overlap if one of them is written.
  * A pointer whose count is 0 may be any pointer that is not NULL. */
 #ifndef ZORAMBI_H
 #define ZORAMBI_H
@@ -33,7 +33,7 @@ uint64_t zorambi_check_model(const int32_t *schema, size_t schema_len, size_t sc
 /* Reading a text into lent tables, which need their full sizes: 4096 numbers for formula rows, 9216 for nodes, 8192 for members,
  * 8192 for pairs. The results of a success are root, least and the number of rows; the numbers of rows, nodes and members; or
  * n and the number of pairs. The tables are 0 past the last row and member. After a refusal tables and results are all 0, and
- * the place is the line, counted from 1, or 0 for the whole text. */
+ * the place is the line, counted from 1, or 0 for the whole text and for a table. */
 uint64_t zorambi_read_schema(const uint8_t *text, size_t text_len, int32_t *table, size_t table_len, int32_t results[3]);
 uint64_t zorambi_read_proof(const uint8_t *text, size_t text_len, int32_t *table, size_t table_len,
                             int32_t *nodes, size_t nodes_len, int32_t *members, size_t members_len, int32_t results[3]);
@@ -65,14 +65,14 @@ static inline unsigned zorambi_bytes(uint64_t packed) { return (unsigned)(packed
 enum zorambi_answer_number {
   ZORAMBI_ACCEPTED = 0,
   ZORAMBI_TEXT_TOO_LONG = 1,    /* over 65,536 bytes */
-  ZORAMBI_TABLE_TOO_SHORT = 2,  /* a lent table is shorter than it has to be */
+  ZORAMBI_TABLE_TOO_SHORT = 2,  /* a lent table is shorter than it has to be; place in a check: -1 */
   ZORAMBI_HEADING = 3,          /* a heading is absent or different */
   ZORAMBI_LINE = 4,             /* not a line of the required form and number of values */
-  ZORAMBI_TOO_MANY = 5,         /* more rows, nodes, members or pairs than allowed */
-  ZORAMBI_ROOT = 6,             /* root no outer schema row, or least not 0..9999 */
+  ZORAMBI_TOO_MANY = 5,         /* more rows, nodes, members or pairs than allowed; place in a check: -1 */
+  ZORAMBI_ROOT = 6,             /* root no outer schema row, or least not 0..9999; place: -1 */
   ZORAMBI_ILL_FORMED = 7,       /* a formula row is ill-formed; place: the row */
   ZORAMBI_TOO_LARGE = 8,        /* a formula is too large or too deep; place: the row */
-  ZORAMBI_SET = 9,              /* a set's place, order or members; from here on place: the node */
+  ZORAMBI_SET = 9,              /* a set's place, order or members; from here to 17 place: the node */
   ZORAMBI_PARENT = 10,          /* no node (-1); a wrong parent, or node 0's set */
   ZORAMBI_DRAWN = 11,           /* the set has a row that neither its parent nor its parent's rule gives */
   ZORAMBI_STEP = 12,            /* no such rule, or a field, kind, symbol or by that does not fit */
@@ -82,9 +82,9 @@ enum zorambi_answer_number {
   ZORAMBI_LOWERED = 16,         /* a row of the link's target has no lowered partner */
   ZORAMBI_CHILDREN = 17,        /* the number of children */
   ZORAMBI_PAIR = 18,            /* a pair out of order or range; place: the pair */
-  ZORAMBI_WIDTH = 19,           /* n below least or over 9999 */
-  ZORAMBI_FALSE = 20,           /* the schema is false in the model */
-  ZORAMBI_NUMBER = 21,          /* writing: a number beyond 5 digits, or sets that do not follow one another */
+  ZORAMBI_WIDTH = 19,           /* n below least or over 9999; place: -1 */
+  ZORAMBI_FALSE = 20,           /* the schema is false in the model; place: -1 */
+  ZORAMBI_NUMBER = 21,          /* writing: a number beyond 5 digits, or sets that do not follow one another to the last member */
   ZORAMBI_OUTPUT = 22           /* writing: the output is too short, or the text too long */
 };
 

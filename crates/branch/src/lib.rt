@@ -1,4 +1,4 @@
-// The nodes of a tableau: their sets, parents, bounds, children and links.
+// The nodes of a tableau: their numbers, members, ancestors and links, and what was worked out of them.
 pub mod above;
 pub mod counts;
 pub mod kept;

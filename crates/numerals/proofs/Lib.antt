@@ -1,4 +1,3 @@
 pub mod Runs
 pub mod Fields
-pub mod Signs
 pub mod Steps

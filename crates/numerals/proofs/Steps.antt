@@ -15,7 +15,8 @@ use Rattle.stab.specs.Text.{space, newline, sameBytes, isNatural, digitsValue, 
 use Rattle.stab.proofs.Bools.{if-true, if-false, decide}
 use Rattle.stab.proofs.Texts.Numbers.{natural-below}
 use Rattle.numerals.specs.Here.{endsField, field, fieldEnd, pastField, naturalOf, naturalHere, numberHere}
-use Rattle.numerals.specs.Numerals.{noNumeral, numeralAs, naturalAt, signedOf, stepBy, stepOf, keptOf, keptBy, stepAt}
+use Rattle.signed.specs.Numbers.{signedOf}
+use Rattle.numerals.specs.Numerals.{noNumeral, numeralAs, naturalAt, stepBy, stepOf, keptOf, keptBy, stepAt}
 use Rattle.numerals.specs.declared.Numeral.{Numeral}
 use Rattle.numerals.specs.declared.Step.the-variants.{Bad, More, Last}
 use Rattle.numerals.proofs.Fields.{end-here, end-later, field-more, ends-neither, lessOf, plainOf, here-less, here-plain, byte-of-drop}

@@ -1,10 +1,9 @@
 -- What the functions on fields give.
 use Prim.Native.Nat.{ℕ, _+_}
-use mathlib.Core.Bool.{Bool, true, false}
 use mathlib.Core.List.{List}
 use mathlib.Core.Option.{Option, none, some}
 use lib.Dec.{eqb}
-use lib.IntN.{ℤ, pos, negℤ}
+use lib.IntN.{ℤ}
 use lib.ListN.{drop, set}
 use Rattle.stab.specs.Basic.{if_then_else_}
 use Rattle.stab.specs.Text.{space, newline}
@@ -27,11 +26,6 @@ numeralAs (some v) e b = record { value = v; next = e; end = b }
 -- the natural number that is the whole of the field at a place
 unfoldable pub naturalAt : List ℕ → ℕ → Numeral
 naturalAt text at = let xs = drop at text in numeralAs (naturalHere xs) (at + pastField xs) (fieldEnd xs)
-
--- v with its sign
-unfoldable pub signedOf : ℕ → Bool → ℤ
-signedOf v true = negℤ (pos v)
-signedOf v false = pos v
 
 -- ---- a number goes into a lent table
 

@@ -5,7 +5,8 @@ ghost use lib.IntN.{pos};
 ghost use lib.ListN.{length, getD, drop, set};
 ghost use Rattle.numerals.specs.Here.{runLength, runValue};
 ghost use Rattle.numerals.specs.Here.{numberHere};
-ghost use Rattle.numerals.specs.Numerals.{closedBy, naturalAt, signedOf, stepBy, keptBy, stepAt, keptOf};
+ghost use Rattle.signed.specs.Numbers.{signedOf};
+ghost use Rattle.numerals.specs.Numerals.{closedBy, naturalAt, stepBy, keptBy, stepAt, keptOf};
 
 // The byte at i, and 256 past the end, which no byte is.
 pub fn byte_at(text: &[u8], i: usize) -> usize
@@ -114,15 +115,6 @@ fn natural_at(text: &[u8], at: usize) -> Numeral
     closed(text, digits(text, at + 1, b - 48))
 }
 
-// A number of at most five digits with its sign: the one place where a signed number is made.
-fn signed(v: usize, negative: bool) -> i32
-    requires { ⌜ v ≤ 99999 ⌝ }
-    ensures { λ r. ⌜ r ≡ signedOf v negative ⌝ }
-{
-    let z = v as i32;
-    if negative { 0 - z } else { z }
-}
-
 // A number goes into a lent table, where there is room for it.
 fn put(table: &mut [i32], k: usize, z: i32)
     ensures { λ r. ⌜ now (table .exit) ≡ set (now (table .entry)) k z ⌝ }
@@ -137,7 +129,7 @@ pub fn put_natural(table: &mut [i32], k: usize, v: usize)
     requires { ⌜ v ≤ 99999 ⌝ }
     ensures { λ r. ⌜ now (table .exit) ≡ set (now (table .entry)) k (pos v) ⌝ }
 {
-    put(table, k, signed(v, false))
+    put(table, k, signed::of(v))
 }
 
 // What reading a number comes to: none, or one that the line goes on after, or the line's last; and the place to read on from.
@@ -153,11 +145,11 @@ fn keep(n: Numeral, negative: bool, table: &mut [i32], k: usize) -> Step
     ensures { λ r. ⌜ (r ≡ stepBy (n .end) (n .next)) × (now (table .exit) ≡ keptBy (n .end) (now (table .entry)) k (signedOf (n .value) negative)) ⌝ }
 {
     if n.end == 32 {
-        put(table, k, signed(n.value, negative));
+        put(table, k, signed::with_sign(n.value, negative));
         return Step::More(n.next);
     }
     if n.end == 10 {
-        put(table, k, signed(n.value, negative));
+        put(table, k, signed::with_sign(n.value, negative));
         return Step::Last(n.next);
     }
     Step::Bad

@@ -12,7 +12,7 @@ use lib.IntN.{ℤ, pos, negℤ, _+ℤ_}
 use lib.Signed.{leZ, ltZ}
 use borrow.Author.Tests.{ltb-true, ltb-false, lt-ltb, le-ltb, eqb-true, eq-eqb, ne-eqb}
 use Rattle.stab.specs.Basic.{if_then_else_, _and_, _or_, eqZ, nat, within, count, scan}
-use Rattle.stab.specs.Model.{symbolAt, indexOf, pairInRange, pairBefore, pairFollows, pairRefusal, isPair, listed}
+use Rattle.stab.specs.Model.{pairSymbol, pairIndex, pairInRange, pairBefore, pairFollows, pairRefusal, isPair, listed}
 use Rattle.stab.specs.Check.{atUnless}
 use Rattle.stab.specs.declared.Place.the-variants.{At}
 use Rattle.stab.specs.declared.Refusal.the-variants.{Pair}
@@ -79,38 +79,38 @@ module _ (a x b y : ℕ) (p : x < 131072) (q : y < 131072) where
 -- ---- the pairs of a table
 
 module _ (t : List ℤ) (k : ℕ) (h : pairInRange t k ≡ true) where
-  symbol-within : within (pos 0) (pos 255) (symbolAt t k) ≡ true
+  symbol-within : within (pos 0) (pos 255) (pairSymbol t k) ≡ true
   unfolding pairInRange
-  symbol-within = and-left (within (pos 0) (pos 255) (symbolAt t k)) _ h
+  symbol-within = and-left (within (pos 0) (pos 255) (pairSymbol t k)) _ h
 
-  index-within : within (negℤ (pos 29997)) (pos 29997) (indexOf t k) ≡ true
+  index-within : within (negℤ (pos 29997)) (pos 29997) (pairIndex t k) ≡ true
   unfolding pairInRange
-  index-within = and-right (within (pos 0) (pos 255) (symbolAt t k)) _ h
+  index-within = and-right (within (pos 0) (pos 255) (pairSymbol t k)) _ h
 
-  pub symbol-small : nat (symbolAt t k) ≤ 255
-  symbol-small = within-nat 0 255 (symbolAt t k) symbol-within
+  pub symbol-small : nat (pairSymbol t k) ≤ 255
+  symbol-small = within-nat 0 255 (pairSymbol t k) symbol-within
 
-  pub index-near : nat (negℤ (indexOf t k)) ≤ 29997
-  index-near = within-under 29997 29997 (indexOf t k) index-within
+  pub index-near : nat (negℤ (pairIndex t k)) ≤ 29997
+  index-near = within-under 29997 29997 (pairIndex t k) index-within
 
-  pub index-high : nat (indexOf t k) ≤ 29997
-  index-high = within-nat 29997 29997 (indexOf t k) index-within
+  pub index-high : nat (pairIndex t k) ≤ 29997
+  index-high = within-nat 29997 29997 (pairIndex t k) index-within
 
-  symbol-is : symbolAt t k ≡ pos (nat (symbolAt t k))
+  symbol-is : pairSymbol t k ≡ pos (nat (pairSymbol t k))
   unfolding within
-  symbol-is = sym (nat-pos (symbolAt t k) (and-left (leZ (pos 0) (symbolAt t k)) _ symbol-within))
+  symbol-is = sym (nat-pos (pairSymbol t k) (and-left (leZ (pos 0) (pairSymbol t k)) _ symbol-within))
 
-  index-is : indexOf t k ≡ unbiased (nat (indexOf t k +ℤ pos 65536))
-  index-is = unbiased-of (indexOf t k) (omega (arith, index-near))
+  index-is : pairIndex t k ≡ unbiased (nat (pairIndex t k +ℤ pos 65536))
+  index-is = unbiased-of (pairIndex t k) (omega (arith, index-near))
 
-  index-small : nat (indexOf t k +ℤ pos 65536) < 131072
-  index-small = omega (arith, index-near, index-high, biased-parts (indexOf t k) (omega (arith, index-near)))
+  index-small : nat (pairIndex t k +ℤ pos 65536) < 131072
+  index-small = omega (arith, index-near, index-high, biased-parts (pairIndex t k) (omega (arith, index-near)))
 
   -- what the code reads of pair k
-  pub key-from : (a x : ℕ) → a ≡ nat (symbolAt t k) → unbiased x ≡ (unbiased 65536 +ℤ indexOf t k) → a * 131072 + x ≡ keyAt t k
+  pub key-from : (a x : ℕ) → a ≡ nat (pairSymbol t k) → unbiased x ≡ (unbiased 65536 +ℤ pairIndex t k) → a * 131072 + x ≡ keyAt t k
   unfolding keyAt unbiased
   key-from a x p q =
-      omega (arith, of-eq (num x ⊖ num 65536) (num 65536 ⊖ num 65536 ⊕ atom (indexOf t k)) q, biased-parts (indexOf t k) (omega (arith, index-near)), plus-nat (indexOf t k), minus-nat (indexOf t k))
+      omega (arith, of-eq (num x ⊖ num 65536) (num 65536 ⊖ num 65536 ⊕ atom (pairIndex t k)) q, biased-parts (pairIndex t k) (omega (arith, index-near)), plus-nat (pairIndex t k), minus-nat (pairIndex t k))
 
   pub key-small : keyAt t k < 256 * 131072
   unfolding keyAt
@@ -121,13 +121,13 @@ pub pair-is : (t : List ℤ) (k a x : ℕ) → pairInRange t k ≡ true → x < 
 unfolding isPair keyAt
 pair-is t k a x h p =
     ap₂ (λ (s i : ℤ). eqZ s (pos a) and eqZ i (unbiased x)) (symbol-is t k h) (index-is t k h)
-    ∙ same-is (nat (symbolAt t k)) (nat (indexOf t k +ℤ pos 65536)) a x (index-small t k h) p
+    ∙ same-is (nat (pairSymbol t k)) (nat (pairIndex t k +ℤ pos 65536)) a x (index-small t k h) p
 
 -- pair k + 1 follows pair k
 pub follows-is : (t : List ℤ) (k : ℕ) → pairInRange t k ≡ true → pairInRange t (suc k) ≡ true → pairFollows t (suc k) ≡ ltb (keyAt t k) (keyAt t (suc k))
 unfolding pairFollows keyAt
 follows-is t k h p =
-    ap₂ (λ (s i : ℤ). pairBefore s i (symbolAt t (suc k)) (indexOf t (suc k))) (symbol-is t k h) (index-is t k h)
+    ap₂ (λ (s i : ℤ). pairBefore s i (pairSymbol t (suc k)) (pairIndex t (suc k))) (symbol-is t k h) (index-is t k h)
     ∙ ap₂ (pairBefore _ _) (symbol-is t (suc k) p) (index-is t (suc k) p)
     ∙ before-is _ _ _ _ (index-small t k h) (index-small t (suc k) p)
 

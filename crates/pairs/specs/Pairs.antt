@@ -6,7 +6,7 @@ use mathlib.Core.List.{List}
 use lib.Dec.{ltb}
 use lib.IntN.{ℤ, pos, _+ℤ_}
 use Rattle.stab.specs.Basic.{nat, count}
-use Rattle.stab.specs.Model.{symbolAt, indexOf, pairInRange, pairFollows}
+use Rattle.stab.specs.Model.{pairSymbol, pairIndex, pairInRange, pairFollows}
 
 -- the first n pairs are in range
 abbrev pub AllInRange : List ℤ → ℕ → Type 0
@@ -19,7 +19,7 @@ pub record Sorted (t : List ℤ) (n : ℕ) : Type 0 where
 
 -- pair k as one number, whose order is that of pairs in range
 unfoldable pub keyAt : List ℤ → ℕ → ℕ
-keyAt t k = nat (symbolAt t k) * 131072 + nat (indexOf t k +ℤ pos 65536)
+keyAt t k = nat (pairSymbol t k) * 131072 + nat (pairIndex t k +ℤ pos 65536)
 
 -- how many of the first n pairs have a key smaller than this one
 unfoldable pub keysBelow : List ℤ → ℕ → ℕ → ℕ

@@ -1,5 +1,4 @@
 // Ways there and back: a text is read and written again, rows are written and read again.
-use rowlines::rows;
 use stab::ModelRead;
 use stab::ProofRead;
 use stab::SchemaRead;
@@ -91,7 +90,7 @@ pub fn schema_rows_again(
     match writing::write_schema(table, rows, root, least, out) {
         Written::Text { bytes } => text::read::read_schema(&out[..bytes], back),
         Written::Refused { why, place } => {
-            rows::clear(back, 0);
+            signed::clear(back, 0);
             SchemaRead::Refused { why, place }
         }
     }
@@ -121,9 +120,9 @@ pub fn proof_rows_again(
             text::read::read_proof(&out[..bytes], back_table, back_nodes, back_members)
         }
         Written::Refused { why, place } => {
-            rows::clear(back_table, 0);
-            rows::clear(back_nodes, 0);
-            rows::clear(back_members, 0);
+            signed::clear(back_table, 0);
+            signed::clear(back_nodes, 0);
+            signed::clear(back_members, 0);
             ProofRead::Refused { why, place }
         }
     }
@@ -144,7 +143,7 @@ pub fn model_rows_again(
     match writing::write_model(n, pairs, pair_rows, out) {
         Written::Text { bytes } => text::read::read_model(&out[..bytes], back),
         Written::Refused { why, place } => {
-            rows::clear(back, 0);
+            signed::clear(back, 0);
             ModelRead::Refused { why, place }
         }
     }

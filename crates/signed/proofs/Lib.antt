@@ -1,1 +1,3 @@
 pub mod Signs
+pub mod Tables
+pub mod Makes

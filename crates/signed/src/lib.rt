@@ -1,11 +1,12 @@
-// The one leaf with signed numbers: what stands in a lent table, taken apart into naturals.
-// Every function is total, and its contract is the definition that it computes.
+// The one leaf with signed numbers: what stands in a lent table, taken apart into naturals; numbers made of naturals; a lent
+// table cleared.
 ghost use mathlib.Core.Path.{_≡_};
-ghost use lib.ListN.{getD};
+ghost use lib.ListN.{getD, length};
 ghost use lib.IntN.{pos, negsuc, negℤ, _-ℤ_};
-ghost use Prim.Native.Nat.{_<_, _^_};
+ghost use Prim.Native.Nat.{_<_, _≤_, _^_};
 ghost use Rattle.stab.specs.Basic.{eqZ, nat};
 ghost use Rattle.stab.specs.Check.{holds as tableHolds};
+ghost use Rattle.signed.specs.Numbers.{signedOf, cleared};
 
 // What stands at i in a lent table, and 0 past its end.
 pub fn at(t: &[i32], i: usize) -> i32
@@ -27,6 +28,15 @@ pub fn of(n: usize) -> i32
     ensures { λ r. ⌜ r ≡ pos n ⌝ }
 {
     n as i32
+}
+
+// A natural number of at most five digits with its sign.
+pub fn with_sign(v: usize, negative: bool) -> i32
+    requires { ⌜ v ≤ 99999 ⌝ }
+    ensures { λ r. ⌜ r ≡ signedOf v negative ⌝ }
+{
+    let z = v as i32;
+    if negative { 0 - z } else { z }
 }
 
 // -1 - z, which is a number of the type for every z.
@@ -91,4 +101,16 @@ pub fn holds(t: &[i32], w: usize, n: usize) -> bool
     ensures { λ r. ⌜ r ≡ tableHolds (now (t .entry)) w n ⌝ }
 {
     n <= t.len() / w
+}
+
+// A lent table is 0 from a place on.
+pub fn clear(table: &mut [i32], from: usize)
+    requires { ⌜ from ≤ length (now table) ⌝ }
+    ensures { λ r. ⌜ now (table .exit) ≡ cleared (now (table .entry)) from ⌝ }
+{
+    let mut i = from;
+    while i < table.len() {
+        table[i] = 0;
+        i += 1;
+    }
 }

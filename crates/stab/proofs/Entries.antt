@@ -13,8 +13,10 @@ use Rattle.stab.specs.Basic.{if_then_else_, _and_, _otherwise_}
 use Rattle.stab.specs.Text.{Line, lines, numbers, textLimit}
 use Rattle.stab.specs.Read.{Reading, read, stopped, _andThen_, require, headingAt, valuesOf, values, valuesAt, rowsFrom, nodesFrom, proofRowsFrom, readSchemaLines, readProofLines, readModelLines, readText, readSchema, readProof, readModel, schemaAnswer, proofAnswer, modelAnswer}
 use Rattle.stab.specs.Write.{writingOf, writing, outputRefusal, written}
-use Rattle.stab.specs.Answer.{Packs}
-use Rattle.stab.specs.Entry.{WrittenFits}
+use Rattle.stab.specs.Answer.{refusedNumbers, verdictNumbers, writtenNumbers, packed, Packs}
+use Rattle.stab.specs.Entry.{withoutCounts, writtenPacked, WrittenFits}
+use Rattle.stab.specs.declared.Place.{Place}
+use Rattle.stab.specs.declared.Written.the-variants.{Refused as WriteRefused}
 use Rattle.stab.specs.declared.Refusal.{Refusal}
 use Rattle.stab.specs.declared.Verdict.the-variants.{Refused}
 use Rattle.stab.specs.declared.SchemaRead.{SchemaRead}
@@ -171,3 +173,8 @@ written-fits o n text = go (o otherwise outputRefusal n text) refl
     go : (x : Option Refusal) → (o otherwise outputRefusal n text) ≡ x → WrittenFits (written (writingOf x text))
     go none e = leb-true (length text) 65536 (and-right (leb (length text) n) _ (unless-none (leb (length text) n and leb (length text) 65536) _ (otherwise-second o _ e)))
     go (some why) e = tt
+
+-- a refusal in writing is packed as a check's
+pub written-refused : (why : Refusal) (p : Place) → packed (Refused why p) ≡ writtenPacked (WriteRefused why p)
+unfolding packed verdictNumbers refusedNumbers writtenPacked writtenNumbers withoutCounts
+written-refused why p = omega arith

@@ -1,12 +1,14 @@
 -- The one number that provers get: its parts do not run into one another, and its answer is 0 exactly for an acceptance.
-use Prim.Native.Nat.{ℕ, _/_, _≤_}
+use Prim.Native.Nat.{ℕ, _+_, _*_, _/_, _≤_}
 use native.Mathlib.Omega.{arith}
 use mathlib.Core.Path.{_≡_, refl, sym, subst}
 use mathlib.Core.Option.{Option, none, some}
+use lib.IntN.{pos, _+ℤ_}
+use Rattle.stab.specs.Basic.{nat}
 use Rattle.stab.specs.Node.{Tableau}
 use Rattle.stab.specs.Check.{refusal, check, verdict, linkCount}
 use Rattle.stab.specs.Model.{Model, modelRefusal, checkModel}
-use Rattle.stab.specs.Answer.{refusalNumber, packed, Packs}
+use Rattle.stab.specs.Answer.{refusalNumber, placeNumber, refusedNumbers, verdictNumbers, oneNumber, packed, placeCode, Packs}
 use Rattle.stab.specs.declared.Place.{Place}
 use Rattle.stab.specs.declared.Place.the-variants.{Whole, At}
 use Rattle.stab.specs.declared.Refusal.{Refusal}
@@ -72,9 +74,22 @@ model-packs M = go (modelRefusal M) refl
 
 -- ---- the answer in the number is 0 exactly for an acceptance: 549755813888 is 8192 × 8192 × 8192
 
+code-is : (p : Place) → nat (placeNumber p +ℤ pos 1) ≡ placeCode p
+unfolding nat
+code-is Whole = refl
+code-is (At k) = refl
+
+pub packed-acceptance : (n l : ℕ) → packed (Accepted n l) ≡ (8192 + n) * 8192 + l
+unfolding packed oneNumber verdictNumbers nat
+packed-acceptance n l = refl
+
+pub packed-refusal : (why : Refusal) (p : Place) → packed (Refused why p) ≡ (refusalNumber why * 8192 + placeCode p) * 67108864
+unfolding packed oneNumber verdictNumbers refusedNumbers
+packed-refusal why p = omega (arith, code-is p)
+
 pub packed-accepted : (v : Verdict) → Packs v → packed v / 549755813888 ≡ 0 → (n : ℕ) × (l : ℕ) × (v ≡ Accepted n l)
 packed-accepted (Accepted n l) p h = (n, l, refl)
-packed-accepted (Refused why place) p h = absurd (omega (arith, number-range why .0))
+packed-accepted (Refused why place) p h = absurd (omega (arith, packed-refusal why place, number-range why .0))
 
 pub accepted-packed : (n l : ℕ) → Packs (Accepted n l) → packed (Accepted n l) / 549755813888 ≡ 0
-accepted-packed n l p = omega (arith, p .0, p .1)
+accepted-packed n l p = omega (arith, packed-acceptance n l, p .0, p .1)

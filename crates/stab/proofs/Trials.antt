@@ -124,7 +124,7 @@ computed =
     lineOf (bytes "ab\ncd\ne") 2 ∷
     lineOf (bytes "ab\ncd\ne") 3 ∷
     lineOf (bytes "ab\ncd\ne") 0 ∷
-    -- writing: rows and a set as text, with room to spare; one byte of room too few
+    -- writing: a model's text, with room to spare; one byte of room too few
     output 50 (writeModel (pos 12) (pos 0 ∷ negsuc 29996 ∷ []) 1 50) ∷
     output 26 (writeModel (pos 12) (pos 0 ∷ negsuc 29996 ∷ []) 1 26) ∷ []
 

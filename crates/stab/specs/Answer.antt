@@ -1,6 +1,7 @@
 -- The paper's numbers for every case of every answer, and the one number that provers get.
 use Prim.Native.Nat.{ℕ, _+_, _*_, _<_}
-use lib.IntN.{ℤ, pos, negℤ}
+use lib.IntN.{ℤ, pos, negℤ, _+ℤ_}
+use Rattle.stab.specs.Basic.{nat}
 use Rattle.stab.specs.declared.Place.{Place}
 use Rattle.stab.specs.declared.Place.the-variants.{Whole, At}
 use Rattle.stab.specs.declared.Refusal.{Refusal}
@@ -107,14 +108,16 @@ writtenNumbers (WriteRefused why p) = record { answer = refusalNumber why; place
 
 -- ---- the one number: "((answer × 8192 + place + 1) × 8192 + nodes) × 8192 + links"
 
--- place + 1
+unfoldable pub oneNumber : Numbers → ℕ
+oneNumber a = ((a .answer * 8192 + nat (a .place +ℤ pos 1)) * 8192 + a .nodes) * 8192 + a .links
+
+unfoldable pub packed : Verdict → ℕ
+packed v = oneNumber (verdictNumbers v)
+
+-- place + 1 as a natural number
 abbrev pub placeCode : Place → ℕ
 placeCode Whole = 0
 placeCode (At k) = k + 1
-
-abbrev pub packed : Verdict → ℕ
-packed (Accepted nodes links) = ((0 * 8192 + 1) * 8192 + nodes) * 8192 + links
-packed (Refused why p) = ((refusalNumber why * 8192 + placeCode p) * 8192 + 0) * 8192 + 0
 
 -- no part of the one number runs into another: each is below 8192
 abbrev pub Packs : Verdict → Type 0

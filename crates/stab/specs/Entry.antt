@@ -2,35 +2,31 @@
 use Prim.Native.Nat.{ℕ, _+_, _≤_}
 use mathlib.Core.List.{List, [], _∷_}
 use lib.IntN.{ℤ, pos}
-use Rattle.stab.specs.Answer.{packed, Packs, schemaNumbers, proofNumbers, modelNumbers}
-use Rattle.stab.specs.declared.Verdict.the-variants.{Accepted, Refused}
+use Rattle.stab.specs.Answer.{oneNumber, Packs, schemaNumbers, proofNumbers, modelNumbers, writtenNumbers}
+use Rattle.stab.specs.declared.Verdict.the-variants.{Refused}
 use Rattle.stab.specs.declared.SchemaRead.{SchemaRead}
-use Rattle.stab.specs.declared.SchemaRead.the-variants.{Schema, Refused as SchemaRefused}
 use Rattle.stab.specs.declared.ProofRead.{ProofRead}
-use Rattle.stab.specs.declared.ProofRead.the-variants.{Proof, Refused as ProofRefused}
 use Rattle.stab.specs.declared.ModelRead.{ModelRead}
-use Rattle.stab.specs.declared.ModelRead.the-variants.{Model, Refused as ModelRefused}
 use Rattle.stab.specs.declared.Written.{Written}
 use Rattle.stab.specs.declared.Written.the-variants.{Text, Refused as WriteRefused}
 
 -- ---- the one number: answer and place as in a check's, both counts 0
 
-abbrev pub schemaPacked : SchemaRead → ℕ
-schemaPacked (Schema root least rows) = packed (Accepted 0 0)
-schemaPacked (SchemaRefused why p) = packed (Refused why p)
+unfoldable pub withoutCounts : ℕ → ℤ → ℕ
+withoutCounts answer place = oneNumber (record { answer = answer; place = place; nodes = 0; links = 0 })
 
-abbrev pub proofPacked : ProofRead → ℕ
-proofPacked (Proof rows nodes members) = packed (Accepted 0 0)
-proofPacked (ProofRefused why p) = packed (Refused why p)
+unfoldable pub schemaPacked : SchemaRead → ℕ
+schemaPacked r = let a = schemaNumbers r in withoutCounts (a .answer) (a .place)
 
-abbrev pub modelPacked : ModelRead → ℕ
-modelPacked (Model n pairs) = packed (Accepted 0 0)
-modelPacked (ModelRefused why p) = packed (Refused why p)
+unfoldable pub proofPacked : ProofRead → ℕ
+proofPacked r = let a = proofNumbers r in withoutCounts (a .answer) (a .place)
+
+unfoldable pub modelPacked : ModelRead → ℕ
+modelPacked r = let a = modelNumbers r in withoutCounts (a .answer) (a .place)
 
 -- the bytes stand where a check's two counts do
-abbrev pub writtenPacked : Written → ℕ
-writtenPacked (Text n) = packed (Accepted 0 0) + n
-writtenPacked (WriteRefused why p) = packed (Refused why p)
+unfoldable pub writtenPacked : Written → ℕ
+writtenPacked w = let a = writtenNumbers w in withoutCounts (a .answer) (a .place) + a .bytes
 
 -- the bytes stay below the place
 abbrev pub WrittenFits : Written → Type 0

@@ -66,11 +66,12 @@ pub data Formula : Type 0 where
   -- big and, big or: body, for i from b up to n - c
   iter : Op → Formula → ℤ → ℤ → Formula
 
--- the formula of the row that z points to, for a pointer of row r; "a row points only to smaller row numbers"
+-- the formula of row a, where it may be pointed to, and false where not
 unfoldable pub partIf : Bool → (ℕ → Formula) → ℕ → Formula
 partIf true tree a = tree a
 partIf false tree a = const false
 
+-- what z points to from row r: "a row points only to smaller row numbers"
 unfoldable pub part : ℕ → (ℕ → Formula) → ℤ → Formula
 part r tree z = partIf (below r z) tree (nat z)
 
@@ -86,7 +87,8 @@ unfoldable pub treeN : (ℕ → Row) → ℕ → ℕ → Formula
 treeN rows zero r = const false
 treeN rows (suc k) r = decode r (rows r) (kindOf (rows r .kind)) (treeN rows k)
 
--- the formula of row r. An ill-formed row, which is turned away, stands for false or holds false as a part.
+-- the formula of row r. A row of no kind and a pointer to no smaller row stand for false, so that every row has a formula; an
+-- ill-formed row is turned away before its formula is asked for.
 unfoldable pub tree : (ℕ → Row) → ℕ → Formula
 tree rows r = treeN rows (suc r) r
 

@@ -1,4 +1,4 @@
--- Demand 2's plain statements, with no order of refusal: "it has a node and all its rows keep the rules", and a model that is right.
+-- The buyer's demand 2 as plain statements, with no order of refusal: when a tableau, and when a model, is accepted.
 use Prim.Native.Nat.{ℕ, zero, suc, _+_, _*_, _≤_, _<_}
 use mathlib.Core.Path.{_≡_}
 use mathlib.Core.Logic.{_≢_, _⊎_}
@@ -12,7 +12,7 @@ use Rattle.stab.specs.Formula.{Row, Kind, constant, literal, junction, i
 use Rattle.stab.specs.Alike.{lower, instance}
 use Rattle.stab.specs.Node.{Tableau, Bound, rows, rowCount, row, formula, node, nodeAt, set, setStart, setEnd, bound, rank, childCount}
 use Rattle.stab.specs.Rule.{unused, rule, given, indexAt}
-use Rattle.stab.specs.Model.{Model, schemaRow, symbolAt, indexOf, satisfied}
+use Rattle.stab.specs.Model.{Model, schemaRow, pairSymbol, pairIndex, satisfied}
 
 -- ---- formula rows
 
@@ -175,7 +175,7 @@ pub record KeepsTables (T : Tableau) : Type 0 where
   pub nodeLimit : T .nodeRows ≤ 1024
   pub memberLimit : T .memberCount ≤ 8192
 
--- "it has a node and all its rows keep document 01's rules"
+-- demand 2: a tableau is accepted exactly when "it has a node and all its rows keep document 01's rules"
 pub record Keeps (T : Tableau) : Type 0 where
   pub tables : KeepsTables T
   pub formulas : KeepsFormulas (rows T) (rowCount T) (T .schemaRows) (T .root) (T .least)
@@ -189,11 +189,11 @@ abbrev pub PairBefore : ℤ → ℤ → ℤ → ℤ → Type 0
 PairBefore s i t j = (s <ℤ t) ⊎ ((s ≡ t) × (i <ℤ j))
 
 pub record KeepsPair (t : List ℤ) (k : ℕ) : Type 0 where
-  pub symbol : Within (pos 0) (pos 255) (symbolAt t k)
-  pub index : Within (negℤ (pos 29997)) (pos 29997) (indexOf t k)
-  pub follows : (i : ℕ) → k ≡ suc i → PairBefore (symbolAt t i) (indexOf t i) (symbolAt t k) (indexOf t k)
+  pub symbol : Within (pos 0) (pos 255) (pairSymbol t k)
+  pub index : Within (negℤ (pos 29997)) (pos 29997) (pairIndex t k)
+  pub follows : (i : ℕ) → k ≡ suc i → PairBefore (pairSymbol t i) (pairIndex t i) (pairSymbol t k) (pairIndex t k)
 
--- "it and its schema are well formed, n is in range and the schema is true there"
+-- demand 2: a model is accepted exactly when "it and its schema are well formed, n is in range and the schema is true there"
 pub record KeepsModel (M : Model) : Type 0 where
   pub schemaHeld : 4 * M .schemaRows ≤ length (M .schema)
   pub pairsHeld : 2 * M .pairRows ≤ length (M .pairs)

@@ -38,7 +38,7 @@ over o p b (suc k) = op o (over o p b k) (p (b +ℤ pos k))
 unfoldable pub rangeSize : ℤ → ℤ → ℕ
 rangeSize b e = nat ((e -ℤ b) +ℤ pos 1)
 
--- the value of f at n and i: "n is any natural number", and so i any whole number
+-- the value of f at n, "any natural number", and i, which can be any whole number, since b and c can
 unfoldable pub value : Assignment → ℕ → Formula → ℤ → Bool
 value σ n (const v) i = v
 value σ n (lit v s x c) i = signed v (σ s (base n i x +ℤ c))

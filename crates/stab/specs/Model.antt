@@ -25,15 +25,15 @@ pub record Model : Type 0 where
   pub pairs : List ℤ
   pub pairRows : ℕ
 
-unfoldable pub symbolAt : List ℤ → ℕ → ℤ
-symbolAt t k = getD t (2 * k) (pos 0)
+unfoldable pub pairSymbol : List ℤ → ℕ → ℤ
+pairSymbol t k = getD t (2 * k) (pos 0)
 
-unfoldable pub indexOf : List ℤ → ℕ → ℤ
-indexOf t k = getD t (2 * k + 1) (pos 0)
+unfoldable pub pairIndex : List ℤ → ℕ → ℤ
+pairIndex t k = getD t (2 * k + 1) (pos 0)
 
 -- "symbol 0..255, index -29997..29997"
 unfoldable pub pairInRange : List ℤ → ℕ → Bool
-pairInRange t k = within (pos 0) (pos 255) (symbolAt t k) and within (negℤ (pos 29997)) (pos 29997) (indexOf t k)
+pairInRange t k = within (pos 0) (pos 255) (pairSymbol t k) and within (negℤ (pos 29997)) (pos 29997) (pairIndex t k)
 
 -- one pair stands before another: by symbol, then by index
 unfoldable pub pairBefore : ℤ → ℤ → ℤ → ℤ → Bool
@@ -42,11 +42,11 @@ pairBefore s i t j = ltZ s t or eqZ s t and ltZ i j
 -- "strictly ascending": pair k stands after the one before it
 unfoldable pub pairFollows : List ℤ → ℕ → Bool
 pairFollows t zero = true
-pairFollows t (suc k) = pairBefore (symbolAt t k) (indexOf t k) (symbolAt t (suc k)) (indexOf t (suc k))
+pairFollows t (suc k) = pairBefore (pairSymbol t k) (pairIndex t k) (pairSymbol t (suc k)) (pairIndex t (suc k))
 
 -- pair k is the pair of s and i
 unfoldable pub isPair : List ℤ → ℤ → ℤ → ℕ → Bool
-isPair t s i k = eqZ (symbolAt t k) s and eqZ (indexOf t k) i
+isPair t s i k = eqZ (pairSymbol t k) s and eqZ (pairIndex t k) i
 
 -- the pair of s and i is among the first n pairs
 unfoldable pub listed : List ℤ → ℕ → ℤ → ℤ → Bool

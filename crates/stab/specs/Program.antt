@@ -97,7 +97,7 @@ verdictFault points (Accepted nodes links) = noFault
 verdictFault points (Refused why Whole) = noFault
 verdictFault points (Refused why (At k)) = points why k
 
--- a text refused in reading is refused at a line, the schema's first
+-- a text refused in reading, the schema's first: the place is the line, and 0, which is no line, for the whole text or a table
 unfoldable pub faultAfterReading : {A B : Type 0} → (A → B → Fault) → Reading A → Reading B → Fault
 faultAfterReading judge (read a) (read b) = judge a b
 faultAfterReading judge (read a) (stopped why k) = inSecond k

@@ -1,4 +1,4 @@
--- Demand 3: what an accepted tableau says of its schema.
+-- The buyer's demand 3: what an accepted tableau, and what an accepted model, says of its schema.
 use Prim.Native.Nat.{ℕ, _<_}
 use mathlib.Core.Path.{_≡_}
 use mathlib.Core.Bool.{false}
@@ -12,7 +12,7 @@ use Rattle.stab.specs.Node.{Tableau}
 use Rattle.stab.specs.Check.{check}
 use Rattle.stab.specs.declared.Verdict.the-variants.{Accepted}
 
--- "the schema is false at EVERY natural n from its least value up, under every assignment to every symbol at every whole-number index"
+-- demand 3: "the schema is false at EVERY natural n from its least value up, under every assignment to every symbol at every whole-number index"
 abbrev pub Refuted : List ℤ → ℤ → ℤ → Type 0
 Refuted schema root least = (n : ℕ) (σ : Assignment) → least ≤ℤ pos n → truth σ n (tree (rowAt schema) (nat root)) ≡ false
 

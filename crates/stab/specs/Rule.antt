@@ -183,5 +183,6 @@ loweredFits T j =
 
 -- ---- the number of children: refusal 17
 
+-- "17 number of children", by the table's last column
 unfoldable pub childrenFit : Tableau → ℕ → Bool
 childrenFit T j = eqb (childCount T j) (rule T j .children)

@@ -11,11 +11,11 @@ use Rattle.stab.specs.Text.{Line, lines}
 use Rattle.stab.specs.Read.{Reading, read, stopped, _andThen_, SchemaText, readSchemaLines, ModelText, readModelLines, ProofText, readProofLines}
 use Rattle.stab.specs.declared.Refusal.{Refusal}
 use Rattle.stab.specs.declared.Refusal.the-variants.{Line as LineRefused}
-use Rattle.reading.specs.Awaiting.{Whole, schema, model, proof, schemaWith, modelWith, asProof, rest, ReadAll}
-use Rattle.reading.specs.Texts.{Came}
-use Rattle.reading.specs.declared.awaited.Awaited.{Awaited}
-use Rattle.reading.specs.declared.awaited.Awaited.the-variants.{Row, Pair, Formula, Node, SchemaHeading, SchemaValues, RowHeading, ModelHeading, ModelValue, PairHeading, ProofHeading, Schema, Model, Proof, NoHeading, BadLine, TooMany}
-use Rattle.reading.proofs.awaited.Awaited as P
+use Rattle.text.specs.Awaiting.{Whole, schema, model, proof, schemaWith, modelWith, asProof, rest, ReadAll}
+use Rattle.text.specs.Texts.{Came}
+use Rattle.text.specs.declared.awaited.Awaited.{Awaited}
+use Rattle.text.specs.declared.awaited.Awaited.the-variants.{Row, Pair, Formula, Node, SchemaHeading, SchemaValues, RowHeading, ModelHeading, ModelValue, PairHeading, ProofHeading, Schema, Model, Proof, NoHeading, BadLine, TooMany}
+use Rattle.text.proofs.awaited.Awaited as P
 
 -- what was read of each kind of text; no text of that kind comes to anything else
 unfoldable schemaPart : Reading Whole → Reading SchemaText

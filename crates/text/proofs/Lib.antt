@@ -1,2 +1,14 @@
+pub mod Lines
+pub mod Parts
+pub mod Headings
+pub mod RowLaws
+pub mod NodeLaws
+pub mod Openings
+pub mod ProofLaws
+pub mod Again
+pub mod Reached
+pub mod TakenLaws
+pub mod Others
+pub mod OnceLaws
 pub mod SchemaLaws
 pub mod EndLaws

@@ -18,10 +18,10 @@ use Rattle.stab.specs.declared.SchemaRead.{SchemaRead}
 use Rattle.stab.specs.declared.SchemaRead.the-variants.{Schema, Refused as SchemaRefused}
 use Rattle.stab.specs.declared.ModelRead.{ModelRead}
 use Rattle.stab.specs.declared.ModelRead.the-variants.{Model, Refused as ModelRefused}
-use Rattle.rowlines.specs.Rows.{cleared}
-use Rattle.reading.specs.Texts.{SchemaOf, ModelOf}
-use Rattle.reading.proofs.Openings.{text-long, text-short, text-on}
-use Rattle.rowlines.proofs.Tables.{cleared-padded}
+use Rattle.signed.specs.Numbers.{cleared}
+use Rattle.text.specs.Texts.{SchemaOf, ModelOf}
+use Rattle.text.proofs.Openings.{text-long, text-short, text-on}
+use Rattle.signed.proofs.Tables.{cleared-padded}
 
 -- ---- schema: what the reader answers
 

@@ -1,7 +1,6 @@
 // Readers of schema, proof and model texts.
-use reading::awaited::Awaited;
-use reading::reader;
-use rowlines::rows;
+use crate::awaited::Awaited;
+use crate::reader;
 use stab::ModelRead;
 use stab::Place;
 use stab::ProofRead;
@@ -12,7 +11,7 @@ ghost use lib.Dec.{leb};
 ghost use lib.ListN.{length};
 ghost use Rattle.stab.specs.Basic.{_and_};
 ghost use Rattle.stab.specs.Read.{readSchema, schemaAnswer, schemaTable, readModel, modelAnswer, pairTable, readProof, proofAnswer, proofTable, nodeTable, memberTable};
-ghost use Rattle.reading.specs.Texts.{SchemaOf, SchemaFrom, ModelOf, ModelFrom, ProofOf, ProofFrom};
+ghost use Rattle.text.specs.Texts.{SchemaOf, SchemaFrom, ModelOf, ModelFrom, ProofOf, ProofFrom};
 
 // What the lines of a schema text came to, as an answer; no schema text comes to the last.
 fn schema_read(p: Awaited, root: i32, least: i32) -> SchemaRead
@@ -77,11 +76,11 @@ pub fn read_schema(text: &[u8], table: &mut [i32]) -> SchemaRead
             least: _,
             rows: n,
         } => {
-            rows::clear(table, 4 * n);
+            signed::clear(table, 4 * n);
             r
         }
         SchemaRead::Refused { why: _, place: _ } => {
-            rows::clear(table, 0);
+            signed::clear(table, 0);
             r
         }
     }
@@ -142,11 +141,11 @@ pub fn read_model(text: &[u8], table: &mut [i32]) -> ModelRead
     let r = model_text(text, table);
     match r {
         ModelRead::Model { n: _, pairs: k } => {
-            rows::clear(table, 2 * k);
+            signed::clear(table, 2 * k);
             r
         }
         ModelRead::Refused { why: _, place: _ } => {
-            rows::clear(table, 0);
+            signed::clear(table, 0);
             r
         }
     }
@@ -236,15 +235,15 @@ pub fn read_proof(
             nodes: j,
             members: k,
         } => {
-            rows::clear(table, 4 * n);
-            rows::clear(nodes, 9 * j);
-            rows::clear(members, k);
+            signed::clear(table, 4 * n);
+            signed::clear(nodes, 9 * j);
+            signed::clear(members, k);
             r
         }
         ProofRead::Refused { why: _, place: _ } => {
-            rows::clear(table, 0);
-            rows::clear(nodes, 0);
-            rows::clear(members, 0);
+            signed::clear(table, 0);
+            signed::clear(nodes, 0);
+            signed::clear(members, 0);
             r
         }
     }

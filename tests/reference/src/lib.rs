@@ -1,4 +1,4 @@
-//! A second implementation of the paper `01-scope.md` ("Schema tableaux: formulas, nodes, links
+//! A second implementation of document 01 ("Schema tableaux: formulas, nodes, links
 //! and texts"), written from the paper alone, to be run beside another implementation.
 //!
 //! * [`formula`]: rows, well-formedness, size, depth, outer rows, "lowered by k", "instance at n - c"

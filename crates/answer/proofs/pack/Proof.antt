@@ -7,7 +7,7 @@ use Rattle.stab.specs.declared.Place.{Place}
 use Rattle.stab.specs.declared.Place.the-variants.{Whole, At}
 use Rattle.stab.specs.declared.Refusal.{Refusal}
 use Rattle.stab.specs.declared.Verdict.the-variants.{Accepted, Refused}
-use Rattle.stab.proofs.Packed.{number-range}
+use Rattle.stab.proofs.Packed.{number-range, packed-acceptance, packed-refusal}
 use Rattle.answer.specs.Near.{Coded}
 use Rattle.answer.proofs.pack.Statement.{statement}
 use Rattle.answer.proofs.pack.Tie as tie
@@ -65,14 +65,14 @@ mul-result-3 c = record { fits = omega (arith, parts c .0, parts c .1) }
 
 returns : tie.Need-returns
 returns c =
-    let l : (8192 + c .before .v .given .0 .0) * 8192 + c .before .v .given .0 .1 .0 ≡ packed (Accepted (c .before .v .given .0 .0) (c .before .v .given .0 .1 .0)) = omega arith in
+    let l : (8192 + c .before .v .given .0 .0) * 8192 + c .before .v .given .0 .1 .0 ≡ packed (Accepted (c .before .v .given .0 .0) (c .before .v .given .0 .1 .0)) = omega (arith, packed-acceptance (c .before .v .given .0 .0) (c .before .v .given .0 .1 .0)) in
     l ∙ ap packed (sym (c .before .v .given .1))
 
 returns-2 : tie.Need-returns-2
 returns-2 c =
     let g = c .before .before .before .v2 .given in
     let l : (c .before .number .result * 8192 + c .coded .result) * 67108864 ≡ packed (Refused (g .0 .0) (g .0 .1 .0)) =
-    omega (arith, c .before .number .ensures, c .coded .ensures) in
+    omega (arith, c .before .number .ensures, c .coded .ensures, packed-refusal (g .0 .0) (g .0 .1 .0)) in
     l ∙ ap packed (sym (g .1))
 
 pub pack-spec : {M : Type 1} → statement M

@@ -7,8 +7,8 @@ use Rattle.numerals.proofs.Steps.{step-space, step-line, step-neither, 
 use Rattle.numerals.proofs.keep.Statement.{statement}
 use Rattle.numerals.proofs.keep.Tie as tie
 
-signed-requires : tie.Need-signed-requires
-signed-requires c κs = search needs
+with-sign-requires : tie.Need-with-sign-requires
+with-sign-requires c κs = search needs
 
 put-requires : tie.Need-put-requires
 put-requires c κs = search needs
@@ -20,15 +20,15 @@ returns : tie.Need-returns
 returns c =
     let s = c .before .before .before .before in
     let a = s .before .before .args in
-    let z = c .before .before .signed in (
+    let z = c .before .before .with-sign in (
       sym (step-space (a .n .end) (a .n .next) (s .if1 .taken)),
       c .before .put .ensures
           ∙ ap (set (a .table .now) (a .k)) (read-back _ (z .ok) ∙ z .ensures)
           ∙ sym (kept-if (a .n .end) (a .table .now) (a .k) _ (ends-space _ (s .if1 .taken))),
     )
 
-signed-requires-2 : tie.Need-signed-requires-2
-signed-requires-2 c κs = search needs
+with-sign-requires-2 : tie.Need-with-sign-requires-2
+with-sign-requires-2 c κs = search needs
 
 put-requires-2 : tie.Need-put-requires-2
 put-requires-2 c κs = search needs
@@ -40,7 +40,7 @@ returns-2 : tie.Need-returns-2
 returns-2 c =
     let s = c .before .before .before .before in
     let a = s .before .before .before .before .args in
-    let z = c .before .before .signed2 in (
+    let z = c .before .before .with-sign2 in (
       sym (step-line (a .n .end) (a .n .next) (s .before .before .if1 .left) (s .if2 .taken)),
       c .before .put2 .ensures
           ∙ ap (set (a .table .now) (a .k)) (read-back _ (z .ok) ∙ z .ensures)
@@ -58,11 +58,11 @@ pub keep-spec : {M : Type 1} → statement M
 keep-spec =
     tie.close
     (tie.spec
-    signed-requires
+    with-sign-requires
     put-requires
     same-length
     returns
-    signed-requires-2
+    with-sign-requires-2
     put-requires-2
     same-length-2
     returns-2

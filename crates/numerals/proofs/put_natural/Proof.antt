@@ -1,13 +1,13 @@
+use native.Mathlib.Omega.{arith}
 use mathlib.Core.Path.{_∙_, ap}
 use lib.ListN.{set}
 use Rattle.signed.proofs.Signs.{read-back}
-use Rattle.numerals.specs.Numerals.{signedOf}
 use borrow.Author.Needs.{needs}
 use Rattle.numerals.proofs.put_natural.Statement.{statement}
 use Rattle.numerals.proofs.put_natural.Tie as tie
 
-signed-requires : tie.Need-signed-requires
-signed-requires c κs = search needs
+of-requires : tie.Need-of-requires
+of-requires c κs = omega arith
 
 put-requires : tie.Need-put-requires
 put-requires c κs = search needs
@@ -16,11 +16,10 @@ same-length : tie.Need-same-length
 same-length c = search needs
 
 returns : tie.Need-returns
-unfolding signedOf
 returns c =
     let a = c .before .before .before .before .args in
-    let z = c .before .before .signed in
+    let z = c .before .before .of in
     c .before .put .ensures ∙ ap (set (a .table .now) (a .k)) (read-back _ (z .ok) ∙ z .ensures)
 
 pub put-natural-spec : {M : Type 1} → statement M
-put-natural-spec = tie.close (tie.spec signed-requires put-requires same-length returns)
+put-natural-spec = tie.close (tie.spec of-requires put-requires same-length returns)

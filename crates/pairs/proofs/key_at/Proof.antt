@@ -3,7 +3,7 @@ use mathlib.Core.Path.{_≡_}
 use denote.Ref.{now}
 use Prim.Native.Nat.{_+_, _*_}
 use borrow.Author.Needs.{needs}
-use Rattle.stab.specs.Model.{symbolAt, indexOf}
+use Rattle.stab.specs.Model.{pairSymbol, pairIndex}
 use Rattle.pairs.specs.Pairs.{keyAt}
 use Rattle.pairs.proofs.Keys.{symbol-small, index-near, index-high, key-from, key-small}
 use Rattle.pairs.proofs.key_at.Statement.{statement}
@@ -16,7 +16,7 @@ natural-at-requires : tie.Need-natural-at-requires
 natural-at-requires c κs = search needs
 
 mul-result : tie.Need-mul-result
-unfolding symbolAt
+unfolding pairSymbol
 mul-result c = omega (arith, symbol-small _ _ (c .before .pre .1))
 
 mul-moved : tie.Need-mul-moved
@@ -26,7 +26,7 @@ add-moved : tie.Need-add-moved
 add-moved c = search needs
 
 moved-requires : tie.Need-moved-requires
-unfolding indexOf
+unfolding pairIndex
 moved-requires c κs =
     record {
       start = omega arith;
@@ -36,7 +36,7 @@ moved-requires c κs =
 
 -- the sum is the key
 known : (c : tie.After-moved) → c .before .natural-at .result * 131072 + c .moved .result ≡ keyAt (now (c .before .before .args .pairs)) (c .before .before .args .k)
-unfolding symbolAt indexOf
+unfolding pairSymbol pairIndex
 known c = key-from _ _ (c .before .before .pre .1) _ _ (c .before .natural-at .ensures) (c .moved .ensures)
 
 add-result : tie.Need-add-result

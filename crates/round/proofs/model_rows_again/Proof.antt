@@ -11,7 +11,7 @@ use Rattle.stab.specs.Read.{readModel, modelAnswer, pairTable}
 use Rattle.stab.specs.Write.{Writing, writeModel, written, output}
 use Rattle.stab.specs.declared.Written.the-variants.{Text, Refused}
 use Rattle.round.proofs.FromRows.{bytes-within, model-rows-again, model-unwritten, table-unwritten}
-use Rattle.rowlines.proofs.Tables.{cleared-all}
+use Rattle.signed.proofs.Tables.{cleared-all}
 use Rattle.round.proofs.model_rows_again.Statement.{statement}
 use Rattle.round.proofs.model_rows_again.Tie as tie
 

@@ -11,7 +11,7 @@ use Rattle.stab.specs.Read.{Reading, ProofText, readProof, proofAnswer, proofTa
 use Rattle.stab.specs.Write.{Writing, writeProof, written}
 use Rattle.stab.specs.declared.Written.the-variants.{Text, Refused}
 use Rattle.round.proofs.FromRows.{bytes-within, proof-rows-again, proof-unwritten, table-unwritten}
-use Rattle.rowlines.proofs.Tables.{cleared-all}
+use Rattle.signed.proofs.Tables.{cleared-all}
 use Rattle.round.proofs.proof_rows_again.Statement.{statement}
 use Rattle.round.proofs.proof_rows_again.Tie as tie
 

@@ -11,7 +11,7 @@ use Rattle.stab.specs.Read.{readSchema, schemaAnswer, schemaTable}
 use Rattle.stab.specs.Write.{Writing, writeSchema, written, output}
 use Rattle.stab.specs.declared.Written.the-variants.{Text, Refused}
 use Rattle.round.proofs.FromRows.{bytes-within, schema-rows-again, schema-unwritten, table-unwritten}
-use Rattle.rowlines.proofs.Tables.{cleared-all}
+use Rattle.signed.proofs.Tables.{cleared-all}
 use Rattle.round.proofs.schema_rows_again.Statement.{statement}
 use Rattle.round.proofs.schema_rows_again.Tie as tie
 

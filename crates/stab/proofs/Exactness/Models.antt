@@ -7,7 +7,7 @@ use mathlib.Core.List.{List}
 use lib.IntN.{ℤ, pos, negℤ}
 use lib.ListN.{length}
 use Rattle.stab.specs.Check.{holds}
-use Rattle.stab.specs.Model.{Model, schemaRow, symbolAt, indexOf, pairInRange, pairBefore, pairFollows, pairRefusal, satisfied, modelRefusal}
+use Rattle.stab.specs.Model.{Model, schemaRow, pairSymbol, pairIndex, pairInRange, pairBefore, pairFollows, pairRefusal, satisfied, modelRefusal}
 use Rattle.stab.specs.Keeps.{PairBefore, KeepsPair, KeepsModel}
 use Rattle.stab.specs.declared.Refusal.the-variants.{TableTooShort, TooMany, Pair, Width, False}
 use Rattle.stab.proofs.Tests.{_tests_, itself, _&_, or-tests, le-tests, leZ-tests, ltZ-tests, eqZ-tests, within-tests, _clears_, whole-clears, at-clears, _then_, scan-clears}
@@ -17,20 +17,20 @@ before-tests : (s i t j : ℤ) → pairBefore s i t j tests PairBefore s i t j
 unfolding pairBefore
 before-tests s i t j = or-tests (ltZ-tests s t) (eqZ-tests s t & ltZ-tests i j)
 
-follows-tests : (t : List ℤ) (k : ℕ) → pairFollows t k tests ((i : ℕ) → k ≡ suc i → PairBefore (symbolAt t i) (indexOf t i) (symbolAt t k) (indexOf t k))
+follows-tests : (t : List ℤ) (k : ℕ) → pairFollows t k tests ((i : ℕ) → k ≡ suc i → PairBefore (pairSymbol t i) (pairIndex t i) (pairSymbol t k) (pairIndex t k))
 unfolding pairFollows
 follows-tests t zero = (λ h i e. absurd (omega arith), λ f. refl)
 follows-tests t (suc k) =
     Iff·trans
-    (before-tests (symbolAt t k) (indexOf t k) (symbolAt t (suc k)) (indexOf t (suc k)))
-    (λ p i e. subst (λ (m : ℕ). PairBefore (symbolAt t m) (indexOf t m) (symbolAt t (suc k)) (indexOf t (suc k))) (omega arith) p, λ f. f k refl)
+    (before-tests (pairSymbol t k) (pairIndex t k) (pairSymbol t (suc k)) (pairIndex t (suc k)))
+    (λ p i e. subst (λ (m : ℕ). PairBefore (pairSymbol t m) (pairIndex t m) (pairSymbol t (suc k)) (pairIndex t (suc k))) (omega arith) p, λ f. f k refl)
 
 pair-clears : (t : List ℤ) (k : ℕ) → pairRefusal t k clears KeepsPair t k
 unfolding pairRefusal pairInRange
 pair-clears t k =
     Iff·trans
     (at-clears Pair k
-    ((within-tests (pos 0) (pos 255) (symbolAt t k) & within-tests (negℤ (pos 29997)) (pos 29997) (indexOf t k)) &
+    ((within-tests (pos 0) (pos 255) (pairSymbol t k) & within-tests (negℤ (pos 29997)) (pos 29997) (pairIndex t k)) &
     follows-tests t k))
     (λ p. record { symbol = p .0 .0; index = p .0 .1; follows = p .1 }, λ q. ((q .symbol, q .index), q .follows))
 

@@ -3,9 +3,9 @@ use mathlib.Core.Path.{refl, sym, _∙_, subst}
 use lib.ListN.{length}
 use Rattle.signed.proofs.Signs.{read-back}
 use Rattle.stab.specs.Text.{lines, textLimit}
-use Rattle.reading.specs.Awaiting.{rest}
-use Rattle.reading.specs.Texts.{ModelOf}
-use Rattle.reading.specs.declared.awaited.Awaited.the-variants.{ModelHeading}
+use Rattle.text.specs.Awaiting.{rest}
+use Rattle.text.specs.Texts.{ModelOf}
+use Rattle.text.specs.declared.awaited.Awaited.the-variants.{ModelHeading}
 use Rattle.text.proofs.SchemaLaws.{model-long, model-short, model-on}
 use Rattle.text.proofs.EndLaws.{came}
 use borrow.Author.Needs.{needs}

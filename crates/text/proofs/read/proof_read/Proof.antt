@@ -1,8 +1,8 @@
 use mathlib.Core.Path.{refl, subst}
-use Rattle.reading.specs.Awaiting.{rest}
-use Rattle.reading.specs.Texts.{Came}
-use Rattle.reading.specs.declared.awaited.Awaited.{Awaited}
-use Rattle.reading.specs.declared.awaited.Awaited.the-variants.{ProofHeading}
+use Rattle.text.specs.Awaiting.{rest}
+use Rattle.text.specs.Texts.{Came}
+use Rattle.text.specs.declared.awaited.Awaited.{Awaited}
+use Rattle.text.specs.declared.awaited.Awaited.the-variants.{ProofHeading}
 use Rattle.text.proofs.EndLaws.{proof-all, proof-refused, proof-other}
 use borrow.Author.Needs.{needs}
 use Rattle.text.proofs.read.proof_read.Statement.{statement}

@@ -3,10 +3,10 @@ use mathlib.Core.Path.{refl, sym, _∙_, subst}
 use lib.ListN.{length}
 use borrow.Author.Tests.{not-true, not-false}
 use Rattle.stab.specs.Text.{lines, textLimit}
-use Rattle.reading.specs.Awaiting.{rest}
-use Rattle.reading.specs.Texts.{ProofOf}
-use Rattle.reading.specs.declared.awaited.Awaited.the-variants.{ProofHeading}
-use Rattle.reading.proofs.ProofLaws.{proof-long, proof-short, proof-on, full-sizes}
+use Rattle.text.specs.Awaiting.{rest}
+use Rattle.text.specs.Texts.{ProofOf}
+use Rattle.text.specs.declared.awaited.Awaited.the-variants.{ProofHeading}
+use Rattle.text.proofs.ProofLaws.{proof-long, proof-short, proof-on, full-sizes}
 use Rattle.text.proofs.EndLaws.{came}
 use borrow.Author.Needs.{needs}
 use Rattle.text.proofs.read.proof_text.Statement.{statement}

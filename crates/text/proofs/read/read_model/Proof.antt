@@ -3,7 +3,7 @@ use native.Mathlib.Omega.{arith}
 use mathlib.Core.Path.{_∙_, subst}
 use lib.ListN.{length}
 use Rattle.stab.specs.Read.{readModel}
-use Rattle.reading.specs.Texts.{ModelOf}
+use Rattle.text.specs.Texts.{ModelOf}
 use Rattle.text.proofs.SchemaLaws.{model-answer, model-rows-kept, model-none-kept}
 use borrow.Author.Needs.{needs}
 use Rattle.text.proofs.read.read_model.Statement.{statement}

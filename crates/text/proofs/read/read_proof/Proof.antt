@@ -3,8 +3,8 @@ use mathlib.Core.Path.{_∙_, subst}
 use lib.ListN.{length}
 use Rattle.stab.specs.Read.{readProof}
 use Rattle.stab.specs.declared.ProofRead.the-variants.{Proof}
-use Rattle.reading.specs.Texts.{ProofOf}
-use Rattle.reading.proofs.ProofLaws.{proof-answer, proof-kept, proof-none-kept}
+use Rattle.text.specs.Texts.{ProofOf}
+use Rattle.text.proofs.ProofLaws.{proof-answer, proof-kept, proof-none-kept}
 use borrow.Author.Needs.{needs}
 use Rattle.text.proofs.read.read_proof.Statement.{statement}
 use Rattle.text.proofs.read.read_proof.Tie as tie

@@ -3,7 +3,7 @@ use native.Mathlib.Omega.{arith}
 use mathlib.Core.Path.{_∙_, subst}
 use lib.ListN.{length}
 use Rattle.stab.specs.Read.{readSchema}
-use Rattle.reading.specs.Texts.{SchemaOf}
+use Rattle.text.specs.Texts.{SchemaOf}
 use Rattle.text.proofs.SchemaLaws.{schema-answer, schema-rows-kept, schema-none-kept}
 use borrow.Author.Needs.{needs}
 use Rattle.text.proofs.read.read_schema.Statement.{statement}

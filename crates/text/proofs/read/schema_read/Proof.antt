@@ -1,9 +1,9 @@
 use mathlib.Core.Path.{refl, _∙_, subst}
 use mir.Facts.{toZ-ofZ}
-use Rattle.reading.specs.Awaiting.{rest}
-use Rattle.reading.specs.Texts.{Came}
-use Rattle.reading.specs.declared.awaited.Awaited.{Awaited}
-use Rattle.reading.specs.declared.awaited.Awaited.the-variants.{SchemaHeading}
+use Rattle.text.specs.Awaiting.{rest}
+use Rattle.text.specs.Texts.{Came}
+use Rattle.text.specs.declared.awaited.Awaited.{Awaited}
+use Rattle.text.specs.declared.awaited.Awaited.the-variants.{SchemaHeading}
 use Rattle.text.proofs.EndLaws.{schema-all, schema-refused, schema-other}
 use borrow.Author.Needs.{needs}
 use Rattle.text.proofs.read.schema_read.Statement.{statement}

@@ -3,9 +3,9 @@ use mathlib.Core.Path.{refl, sym, _∙_, subst}
 use lib.ListN.{length}
 use Rattle.signed.proofs.Signs.{read-back}
 use Rattle.stab.specs.Text.{lines, textLimit}
-use Rattle.reading.specs.Awaiting.{rest}
-use Rattle.reading.specs.Texts.{SchemaOf}
-use Rattle.reading.specs.declared.awaited.Awaited.the-variants.{SchemaHeading}
+use Rattle.text.specs.Awaiting.{rest}
+use Rattle.text.specs.Texts.{SchemaOf}
+use Rattle.text.specs.declared.awaited.Awaited.the-variants.{SchemaHeading}
 use Rattle.text.proofs.SchemaLaws.{schema-long, schema-short, schema-on}
 use Rattle.text.proofs.EndLaws.{came}
 use borrow.Author.Needs.{needs}

@@ -1,7 +1,10 @@
 use native.Mathlib.Omega.{arith}
 use mathlib.Core.Path.{sym, _∙_, ap, subst}
 use borrow.Author.Needs.{needs}
-use Rattle.stab.specs.Entry.{writtenPacked, WrittenFits}
+use Rattle.stab.specs.Basic.{nat}
+use Rattle.stab.specs.Answer.{writtenNumbers, oneNumber}
+use Rattle.stab.specs.Entry.{withoutCounts, writtenPacked, WrittenFits}
+use Rattle.stab.proofs.Entries.{written-refused}
 use Rattle.zorambi.proofs.texts.packed.Statement.{statement}
 use Rattle.zorambi.proofs.texts.packed.Tie as tie
 
@@ -18,10 +21,13 @@ pack-requires : tie.Need-pack-requires
 pack-requires c κs = let b = c .before in subst WrittenFits (b .w2 .given .1) (b .before .before .pre)
 
 returns : tie.Need-returns
+unfolding writtenPacked writtenNumbers withoutCounts oneNumber nat
 returns c = ap writtenPacked (sym (c .before .w .given .1))
 
 returns-2 : tie.Need-returns-2
-returns-2 c = c .pack .ensures ∙ ap writtenPacked (sym (c .before .before .w2 .given .1))
+returns-2 c =
+    let g = c .before .before .w2 .given in
+    c .pack .ensures ∙ written-refused (g .0 .0) (g .0 .1 .0) ∙ ap writtenPacked (sym (g .1))
 
 pub packed-spec : {M : Type 1} → statement M
 packed-spec =

@@ -5,8 +5,8 @@ use lib.IntN.{ℤ}
 use lib.ListN.{length}
 use borrow.Author.Needs.{needs}
 use Rattle.signed.proofs.Signs.{read-back}
-use Rattle.stab.specs.Answer.{modelNumbers}
-use Rattle.stab.specs.Entry.{modelPacked, modelResults}
+use Rattle.stab.specs.Answer.{modelNumbers, packed, verdictNumbers, refusedNumbers}
+use Rattle.stab.specs.Entry.{modelPacked, modelResults, withoutCounts}
 use Rattle.stab.specs.Read.{readModel, modelAnswer}
 use Rattle.stab.specs.declared.ModelRead.the-variants.{Model, Refused}
 use Rattle.stab.proofs.Entries.{ModelFits, model-fits}
@@ -48,7 +48,7 @@ same-length : tie.Need-same-length
 same-length c = search needs
 
 returns : tie.Need-returns
-unfolding modelResults modelNumbers
+unfolding modelResults modelNumbers modelPacked withoutCounts packed verdictNumbers refusedNumbers
 returns c =
     let o = c .before .before in
     let k = o .before in
@@ -64,7 +64,7 @@ same-length-2 : tie.Need-same-length-2
 same-length-2 c = search needs
 
 returns-2 : tie.Need-returns-2
-unfolding modelResults modelNumbers
+unfolding modelResults modelNumbers modelPacked withoutCounts packed verdictNumbers refusedNumbers
 returns-2 c =
     let k = c .before .before .before in
     let e = sym (was-refused k) in

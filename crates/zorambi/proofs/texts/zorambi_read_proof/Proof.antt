@@ -4,8 +4,8 @@ use mathlib.Core.List.{[], _∷_}
 use lib.ListN.{length}
 use borrow.Author.Needs.{needs}
 use Rattle.signed.proofs.Signs.{read-back}
-use Rattle.stab.specs.Answer.{proofNumbers}
-use Rattle.stab.specs.Entry.{proofPacked, proofResults}
+use Rattle.stab.specs.Answer.{proofNumbers, packed, verdictNumbers, refusedNumbers}
+use Rattle.stab.specs.Entry.{proofPacked, proofResults, withoutCounts}
 use Rattle.stab.specs.Read.{readProof, proofAnswer}
 use Rattle.stab.specs.declared.ProofRead.the-variants.{Proof, Refused}
 use Rattle.stab.proofs.Entries.{ProofFits, proof-fits}
@@ -63,7 +63,7 @@ same-length-3 : tie.Need-same-length-3
 same-length-3 c = search needs
 
 returns : tie.Need-returns
-unfolding proofResults proofNumbers
+unfolding proofResults proofNumbers proofPacked withoutCounts packed verdictNumbers refusedNumbers
 returns c =
     let o3 = c .before .before in
     let o2 = o3 .before in
@@ -88,7 +88,7 @@ same-length-6 : tie.Need-same-length-6
 same-length-6 c = search needs
 
 returns-2 : tie.Need-returns-2
-unfolding proofResults proofNumbers
+unfolding proofResults proofNumbers proofPacked withoutCounts packed verdictNumbers refusedNumbers
 returns-2 c =
     let k = c .before .before .before in
     let e = sym (was-refused k) in

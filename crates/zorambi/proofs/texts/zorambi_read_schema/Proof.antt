@@ -4,8 +4,8 @@ use mathlib.Core.List.{[], _∷_}
 use lib.ListN.{length}
 use borrow.Author.Needs.{needs}
 use Rattle.signed.proofs.Signs.{read-back}
-use Rattle.stab.specs.Answer.{schemaNumbers}
-use Rattle.stab.specs.Entry.{schemaPacked, schemaResults}
+use Rattle.stab.specs.Answer.{schemaNumbers, packed, verdictNumbers, refusedNumbers}
+use Rattle.stab.specs.Entry.{schemaPacked, schemaResults, withoutCounts}
 use Rattle.stab.specs.Read.{readSchema, schemaAnswer}
 use Rattle.stab.specs.declared.SchemaRead.the-variants.{Schema, Refused}
 use Rattle.stab.proofs.Entries.{SchemaFits, schema-fits}
@@ -47,7 +47,7 @@ same-length : tie.Need-same-length
 same-length c = search needs
 
 returns : tie.Need-returns
-unfolding schemaResults schemaNumbers
+unfolding schemaResults schemaNumbers schemaPacked withoutCounts packed verdictNumbers refusedNumbers
 returns c =
     let o = c .before .before in
     let k = o .before in
@@ -67,7 +67,7 @@ same-length-2 : tie.Need-same-length-2
 same-length-2 c = search needs
 
 returns-2 : tie.Need-returns-2
-unfolding schemaResults schemaNumbers
+unfolding schemaResults schemaNumbers schemaPacked withoutCounts packed verdictNumbers refusedNumbers
 returns-2 c =
     let k = c .before .before .before in
     let e = sym (was-refused k) in

@@ -1,6 +1,0 @@
-pub mod Lines
-pub mod Parts
-pub mod Headings
-pub mod RowLaws
-pub mod Tables
-pub mod NodeLaws
