@@ -176,6 +176,9 @@ for f in schema.txt proof.txt; do
   check_record "$work/g" "no $f"
   mkdir "$work/g/$f"
   check_record "$work/g" "a folder for $f"
+  rmdir "$work/g/$f"
+  ln -s /proc/self/mem "$work/g/$f"
+  check_record "$work/g" "$f that cannot be read"
   rm -r "$work/g"
 done
 

@@ -1,17 +1,17 @@
 // What the programs do with files: a text is read whole. What is read no contract can say.
 ghost use mathlib.Core.Path.{_≡_};
-ghost use lib.ListN.{length};
+ghost use lib.ListN.{replicate};
 ghost use Rattle.io.specs.Counts.{Counts};
 
 // Room for a text and one byte more: what fills it is too long, and is refused as such.
 pub fn room() -> [u8; 65537]
-    ensures { λ r. ⌜ 65537 ≡ length r ⌝ }
+    ensures { λ r. ⌜ r ≡ replicate 65537 0 ⌝ }
 {
     [0; 65537]
 }
 
-// Reads a file to the end of the file or of the buffer, and answers how many bytes stand in front of the buffer;
-// a file that cannot be opened or read is empty.
+// Reads a file to its end or to that of the buffer, and answers how many bytes stand in front of the buffer. A file that cannot be
+// opened, or cannot be read to its end, is empty: a text that was cut short by a fault of the disk is no text.
 pub fn load(path: &[u8], buf: &mut [u8]) -> usize
     ensures { λ r. ⌜ Counts r (now (buf .exit)) ⌝ }
 {
@@ -20,6 +20,14 @@ pub fn load(path: &[u8], buf: &mut [u8]) -> usize
         return 0;
     }
     let n = io::read_full(fd, buf);
+    let mut byte = [0u8; 1];
+    let past: &mut [u8] = &mut byte;
+    let more = libc::read(fd, past);
     libc::close(fd);
+    if n < buf.len() {
+        if more != 0 {
+            return 0;
+        }
+    }
     n
 }
