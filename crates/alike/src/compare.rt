@@ -2,15 +2,13 @@
 use crate::memo::remember;
 use crate::memo::was_seen;
 use formula::natural_in;
-use formula::under_in;
 use leaves::literals_agree;
 use leaves::ranges_agree;
 ghost use mathlib.Core.Path.{_≡_};
 ghost use Prim.Native.Nat.{_<_, _≤_, _+_, _^_};
 ghost use lib.IntN.{pos, _-ℤ_};
-ghost use Rattle.stab.specs.Basic.{nat};
 ghost use Rattle.stab.specs.Formula.{joined, tree};
-ghost use Rattle.stab.specs.Alike.{lower, instance, agree};
+ghost use Rattle.stab.specs.Alike.{lower, agree};
 ghost use Rattle.leaves.specs.Compare.{changed};
 ghost use Rattle.formula.specs.Facts.{AllFormed};
 ghost use Rattle.alike.specs.Memo.{Remembers};
@@ -108,19 +106,4 @@ pub fn is_lowered(
         x,
         seen,
     )
-}
-
-// Row z is the instance at n - c of the body of the iteration in row `on`.
-pub fn is_instance(schema: &[i32], s: usize, proof: &[i32], on: usize, z: usize) -> bool
-    requires { ⌜ (on < 1024) × (z < 1024) ⌝ }
-    requires { ⌜ 6 ≤ nat (joined (now schema) s (now proof) on .kind) ⌝ }
-    requires { ⌜ AllFormed (joined (now schema) s (now proof)) (on + 1) ⌝ }
-    requires { ⌜ AllFormed (joined (now schema) s (now proof)) (z + 1) ⌝ }
-    ensures { λ r. ⌜ r ≡ agree (instance (joined (now (schema .entry)) s (now (proof .entry)) on .c) (tree (joined (now (schema .entry)) s (now (proof .entry))) (nat (joined (now (schema .entry)) s (now (proof .entry)) on .a)))) (tree (joined (now (schema .entry)) s (now (proof .entry))) z) ⌝ }
-{
-    let up = natural_in(schema, s, proof, on, 3);
-    let down = under_in(schema, s, proof, on, 3);
-    let body = natural_in(schema, s, proof, on, 1);
-    let mut seen = [0u32; 1024];
-    agrees(schema, s, proof, 2, up, down, body, z, &mut seen)
 }

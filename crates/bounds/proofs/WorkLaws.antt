@@ -14,7 +14,7 @@ use Rattle.stab.specs.Node.{Bound, nodeAt, childCountOf, rank, childBound, firs
 use Rattle.stab.proofs.Bools.{decide}
 use Rattle.stab.proofs.Scans.{below-suc}
 use Rattle.formula.specs.Facts.{bit}
-use Rattle.bounds.specs.Bounds.{kept, Next}
+use Rattle.bounds.specs.Bounds.{kept, Next, Stays}
 use Rattle.branch.specs.Parents.{AllUpFit}
 use Rattle.branch.specs.Work.{Worked, AllWorked}
 use Rattle.branch.proofs.ParentLaws.{later-up, parent-less, parent-pos}
@@ -37,6 +37,14 @@ module _ (work : List ℕ) (j r l e : ℕ) where
   kept-before : (x : ℕ) → x < 4 * j → getD (kept work j r l e) x 0 ≡ getD work x 0
   unfolding kept
   kept-before x p =
+      getD-set-other three (4 * j + 3) x 0 0 (λ q. omega arith)
+      ∙ getD-set-other two (4 * j + 2) x e 0 (λ q. omega arith)
+      ∙ getD-set-other one (4 * j + 1) x l 0 (λ q. omega arith)
+      ∙ getD-set-other work (4 * j) x r 0 (λ q. omega arith)
+
+  pub kept-after : (x : ℕ) → 4 * j + 3 < x → getD (kept work j r l e) x 0 ≡ getD work x 0
+  unfolding kept
+  kept-after x p =
       getD-set-other three (4 * j + 3) x 0 0 (λ q. omega arith)
       ∙ getD-set-other two (4 * j + 2) x e 0 (λ q. omega arith)
       ∙ getD-set-other one (4 * j + 1) x l 0 (λ q. omega arith)
@@ -156,6 +164,9 @@ module _ {nodes : List ℤ} {least : ℤ} {work : List ℕ} {j u : ℕ} (next : 
           exact = elsewhere (4 * j + 2) (λ w. omega arith) ∙ kept-exact work j r l e (next .room) ∙ sym e-is;
           children = elsewhere (4 * j + 3) (λ w. omega (arith, parent-before)) ∙ kept-children work j r l e (next .room) ∙ sym (children-none nodes j (next .fits));
         }
+
+    pub work-stays : Stays (4 * (j + 1)) work (set (kept work j r l e) (4 * u + 3) (r + 1))
+    work-stays x p = elsewhere x (λ w. omega (arith, parent-before)) ∙ kept-after work j r l e x (omega arith)
 
     pub work-more : AllWorked nodes least (j + 1) (set (kept work j r l e) (4 * u + 3) (r + 1)) (j + 1)
     work-more i p =

@@ -1,9 +1,9 @@
 -- The table of what is worked out for each node, as it is filled.
-use Prim.Native.Nat.{ℕ, _+_, _*_, _<_}
+use Prim.Native.Nat.{ℕ, _+_, _*_, _<_, _≤_}
 use mathlib.Core.Path.{_≡_}
 use mathlib.Core.List.{List}
 use lib.IntN.{ℤ}
-use lib.ListN.{length, set}
+use lib.ListN.{length, getD, set}
 use Rattle.stab.specs.Basic.{nat}
 use Rattle.stab.specs.Node.{nodeAt}
 use Rattle.branch.specs.Parents.{AllUpFit}
@@ -20,3 +20,7 @@ pub record Next (nodes : List ℤ) (least : ℤ) (work : List ℕ) (j u : ℕ) :
   pub parent : u ≡ nat (nodeAt nodes j .up)
   pub room : 4 * j + 3 < length work
   pub done : AllWorked nodes least j work j
+
+-- from place n on a table is as it was
+abbrev pub Stays : ℕ → List ℕ → List ℕ → Type 0
+Stays n work work′ = (x : ℕ) → n ≤ x → getD work′ x 0 ≡ getD work x 0

@@ -8,7 +8,7 @@ ghost use lib.ListN.{getD, length};
 ghost use Rattle.stab.specs.Basic.{within};
 ghost use Rattle.stab.specs.Node.{Bound, nodeAt, childBound};
 ghost use Rattle.formula.specs.Facts.{bit};
-ghost use Rattle.bounds.specs.Bounds.{kept, Next};
+ghost use Rattle.bounds.specs.Bounds.{kept, Next, Stays};
 ghost use Rattle.branch.specs.Parents.{AllUpFit};
 ghost use Rattle.branch.specs.Work.{AllWorked};
 
@@ -63,6 +63,7 @@ fn child_exact(nodes: &[i32], u: usize, exact: u32, rank: u32) -> u32
 fn work_child(nodes: &[i32], least: usize, work: &mut [u32], j: usize, u: usize)
     requires { ⌜ (least ≤ 9999) × (j < 1024) × Next (now nodes) (pos least) (now work) j u ⌝ }
     ensures { λ _. ⌜ AllWorked (now (nodes .entry)) (pos least) (j + 1) (now (work .exit)) (j + 1) ⌝ }
+    ensures { λ _. ⌜ Stays (4 * (j + 1)) (now (work .entry)) (now (work .exit)) ⌝ }
 {
     let rank = number_of(work, u, 3);
     let l = child_l(nodes, u, number_of(work, u, 1), rank);
@@ -75,6 +76,7 @@ fn work_child(nodes: &[i32], least: usize, work: &mut [u32], j: usize, u: usize)
 fn work_node(nodes: &[i32], least: usize, work: &mut [u32], j: usize)
     requires { ⌜ (least ≤ 9999) × (j < 1024) × (4 * j + 3 < length (now work)) × AllUpFit (now nodes) (j + 1) × AllWorked (now nodes) (pos least) j (now work) j ⌝ }
     ensures { λ _. ⌜ AllWorked (now (nodes .entry)) (pos least) (j + 1) (now (work .exit)) (j + 1) ⌝ }
+    ensures { λ _. ⌜ Stays (4 * (j + 1)) (now (work .entry)) (now (work .exit)) ⌝ }
 {
     if j == 0 {
         keep(work, 0, 0, least as u32, 0);
@@ -83,10 +85,11 @@ fn work_node(nodes: &[i32], least: usize, work: &mut [u32], j: usize)
     }
 }
 
-// Fills the table `work` with the four numbers of each of k nodes.
+// Fills the front of the table `work` with the four numbers of each of k nodes.
 pub fn work_out(nodes: &[i32], k: usize, least: i32, work: &mut [u32])
     requires { ⌜ (k ≤ 1024) × (4 * k ≤ length (now work)) × (within (pos 0) (pos 9999) least ≡ true) × AllUpFit (now nodes) k ⌝ }
     ensures { λ _. ⌜ AllWorked (now (nodes .entry)) least k (now (work .exit)) k ⌝ }
+    ensures { λ _. ⌜ Stays (4 * k) (now (work .entry)) (now (work .exit)) ⌝ }
 {
     let l = signed::natural(least);
     let mut j: usize = 0;

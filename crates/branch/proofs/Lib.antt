@@ -4,3 +4,4 @@ pub mod NodeColumns
 pub mod ParentLaws
 pub mod Parts
 pub mod WalkLaws
+pub mod HeldLaws

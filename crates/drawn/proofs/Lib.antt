@@ -1,2 +1,1 @@
 pub mod DrawnLaws
-pub mod HeldLaws

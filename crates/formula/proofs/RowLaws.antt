@@ -1,6 +1,7 @@
 -- Laws of formula rows: their columns as tests on naturals, their formulas by kind, and what is kept of them.
 use Prim.Native.Nat.{ℕ, zero, suc, _+_, _-_, _*_, _<_, _≤_, max}
 use native.Mathlib.Omega.{arith}
+use native.Mathlib.Numerals.{add-one}
 use mathlib.Core.Path.{_≡_, refl, sym, _∙_, ap, ap₂, subst}
 use mathlib.Core.Bool.{Bool, true, false, not}
 use mathlib.Core.Logic.{_⊎_, inl, inr, ⊎-elim}
@@ -21,10 +22,10 @@ use Rattle.stab.specs.declared.Verdict.{Verdict}
 use Rattle.stab.specs.declared.Verdict.the-variants.{Refused}
 use Rattle.stab.proofs.Bools.{and-both, and-left, and-right, and-first-false, and-second-false, if-true, if-false, not-of-false, not-of-true, false-of-not, true-of-not, otherwise-none, otherwise-some, none-unless, some-unless}
 use Rattle.stab.proofs.Whole.{num, of-eq, eqZ-not, nat-pos, at-least-0, below-0}
-use Rattle.stab.proofs.Scans.{below-suc}
+use Rattle.stab.proofs.Scans.{below-suc, scan-found}
 use Rattle.stab.proofs.Decoded.{decoded}
 use Rattle.formula.specs.Facts.{bit, Known}
-use Rattle.formula.specs.Rows.{factsOf, factsAt, kept, judged, Passed}
+use Rattle.formula.specs.Rows.{factsOf, factsAt, kept, keptIf, factsTable, judged, Passed}
 use Rattle.formula.specs.declared.rows.Facts.{Facts}
 use Rattle.formula.specs.declared.rows.Judged.the-variants.{Ill, Formed}
 
@@ -393,6 +394,46 @@ passed-more rows facts r f passed room h p q =
 -- a refusal is not nothing
 pub never : {A : Type 0} {o : Option Verdict} {x : Verdict} → some x ≡ o → o ≡ none → A
 never {A} {o} {x} p q = absurd (Option·some-ne-none x (p ∙ q))
+
+-- ---- the table of what is kept
+
+module _ (rows : ℕ → Row) (facts : List ℕ) (r : ℕ) where
+  -- a row that is refused keeps nothing
+  pub none-kept : {x : Verdict} → some x ≡ rowRefusal rows r → facts ≡ keptIf (rowRefusal rows r) facts r (factsOf (tree rows r))
+  unfolding keptIf
+  none-kept h = ap (λ (o : Option Verdict). keptIf o facts r (factsOf (tree rows r))) h
+
+  -- one that passes keeps its numbers
+  pub some-kept : {f : Facts} → Formed f ≡ judged rows r → none ≡ rowRefusal rows r → kept facts r f ≡ keptIf (rowRefusal rows r) facts r (factsOf (tree rows r))
+  unfolding keptIf
+  some-kept h n = ap (kept facts r) (judged-formed rows r h .1) ∙ ap (λ (o : Option Verdict). keptIf o facts r (factsOf (tree rows r))) n
+
+  -- one row more
+  pub table-more : {u w : List ℕ} → scan (rowRefusal rows) (r + 1) ≡ none → rowRefusal rows r ≡ none → u ≡ factsTable rows facts r
+      → w ≡ keptIf (rowRefusal rows r) u r (factsOf (tree rows r)) → w ≡ factsTable rows facts (r + 1)
+  unfolding factsTable
+  table-more {u} {w} s h e k =
+      subst (λ (m : ℕ). w ≡ factsTable rows facts m) (sym (add-one r))
+      (k
+      ∙ ap (λ (o : Option Verdict). keptIf o u r (factsOf (tree rows r))) (h ∙ sym (subst (λ (m : ℕ). scan (rowRefusal rows) m ≡ none) (add-one r) s))
+      ∙ ap (λ (l : List ℕ). keptIf (scan (rowRefusal rows) (suc r)) l r (factsOf (tree rows r))) e)
+
+pub table-none : (rows : ℕ → Row) (facts : List ℕ) → facts ≡ factsTable rows facts 0
+unfolding factsTable
+table-none rows facts = refl
+
+table-next : (rows : ℕ → Row) (facts : List ℕ) (n : ℕ) {x : Verdict} → scan (rowRefusal rows) (suc n) ≡ some x → factsTable rows facts (suc n) ≡ factsTable rows facts n
+unfolding factsTable keptIf
+table-next rows facts n e = ap (λ (o : Option Verdict). keptIf o (factsTable rows facts n) n (factsOf (tree rows n))) e
+
+-- after a row that is refused nothing is kept
+pub table-stays : (rows : ℕ → Row) (facts : List ℕ) (r n : ℕ) {x : Verdict} → scan (rowRefusal rows) r ≡ none → rowRefusal rows r ≡ some x → r ≤ n → factsTable rows facts n ≡ factsTable rows facts r
+table-stays rows facts r zero s h l = let e : zero ≡ r = omega arith in ap (factsTable rows facts) e
+table-stays rows facts r (suc n) {x} s h l =
+    ⊎-elim
+    (λ p. table-next rows facts n (scan-found (rowRefusal rows) (suc n) r x p s h) ∙ table-stays rows facts r n s h (omega arith))
+    (λ e. ap (factsTable rows facts) (sym e))
+    (below-suc r (suc n) (omega arith))
 
 -- ---- the formulas together
 

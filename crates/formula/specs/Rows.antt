@@ -1,10 +1,14 @@
 -- What the pass over formula rows works out for a row, and what holds of rows that passed.
-use Prim.Native.Nat.{ℕ, _+_, _*_, _<_, _≤_}
+use Prim.Native.Nat.{ℕ, zero, suc, _+_, _*_, _<_, _≤_}
 use mathlib.Core.Path.{_≡_}
 use mathlib.Core.Bool.{true}
 use mathlib.Core.List.{List}
+use mathlib.Core.Option.{Option, none, some}
+use lib.IntN.{ℤ}
 use lib.ListN.{length, getD, set}
-use Rattle.stab.specs.Basic.{if_then_else_}
+use Rattle.stab.specs.Basic.{if_then_else_, scan}
+use Rattle.stab.specs.Check.{rowRefusal, rootFits}
+use Rattle.stab.specs.declared.Verdict.{Verdict}
 use Rattle.stab.specs.Formula as F
 use Rattle.stab.specs.Formula.{Row, Formula, tree, wellFormed, smallEnough}
 use Rattle.formula.specs.Facts.{bit, AllKnown, AllFormed}
@@ -23,6 +27,20 @@ factsAt facts r = record { size = getD facts (4 * r) 0; depth = getD facts (4 * 
 -- the table with four numbers kept for row r
 unfoldable pub kept : List ℕ → ℕ → Facts → List ℕ
 kept facts r f = set (set (set (set facts (4 * r) (f .size)) (4 * r + 1) (f .depth)) (4 * r + 2) (f .loose)) (4 * r + 3) (f .fixed)
+
+-- those are kept where nothing is found
+unfoldable pub keptIf : Option Verdict → List ℕ → ℕ → Facts → List ℕ
+keptIf none facts r f = kept facts r f
+keptIf (some v) facts r f = facts
+
+-- the table after the pass over n rows: the numbers of each row, up to the first that is refused
+unfoldable pub factsTable : (ℕ → Row) → List ℕ → ℕ → List ℕ
+factsTable rows facts zero = facts
+factsTable rows facts (suc n) = keptIf (scan (rowRefusal rows) (suc n)) (factsTable rows facts n) n (factsOf (tree rows n))
+
+-- the same where the root and the least value are looked at first
+unfoldable pub formulasTable : (ℕ → Row) → List ℕ → ℕ → ℕ → ℤ → ℤ → List ℕ
+formulasTable rows facts n s root least = if rootFits s root least then factsTable rows facts n else facts
 
 -- row r is ill-formed, or has these four numbers
 unfoldable pub judged : (ℕ → Row) → ℕ → Judged

@@ -11,7 +11,7 @@ ghost use Rattle.stab.specs.Formula.{joined, offset, kindOf, constant, literal,
 ghost use Rattle.stab.specs.Check.{rowRefusal, rootFits, formulasRefusal, finding};
 ghost use Rattle.formula.specs.Column.{column};
 ghost use Rattle.formula.specs.Facts.{bit};
-ghost use Rattle.formula.specs.Rows.{factsOf, factsAt, kept, judged, Passed};
+ghost use Rattle.formula.specs.Rows.{factsOf, factsAt, kept, keptIf, factsTable, formulasTable, judged, Passed};
 use crate::is_in;
 use crate::natural_in;
 use crate::under_in;
@@ -86,7 +86,7 @@ fn on_index(schema: &[i32], s: usize, proof: &[i32], r: usize) -> u32
 // ---- what is kept
 
 // The four numbers that are kept for row r.
-pub fn known(facts: &[u32], r: usize) -> Facts
+fn known(facts: &[u32], r: usize) -> Facts
     requires { ⌜ 4 * r + 3 < length (now facts) ⌝ }
     ensures { λ v. ⌜ v ≡ factsAt (now (facts .entry)) r ⌝ }
 {
@@ -250,7 +250,7 @@ fn iteration(schema: &[i32], s: usize, proof: &[i32], r: usize, facts: &[u32]) -
 }
 
 // Row r, judged by its kind.
-pub fn row(schema: &[i32], s: usize, proof: &[i32], r: usize, facts: &[u32]) -> Judged
+fn row(schema: &[i32], s: usize, proof: &[i32], r: usize, facts: &[u32]) -> Judged
     requires { ⌜ r < 1024 ⌝ }
     requires { ⌜ Passed (joined (now schema) s (now proof)) (now facts) r ⌝ }
     ensures { λ v. ⌜ v ≡ judged (joined (now (schema .entry)) s (now (proof .entry))) r ⌝ }
@@ -279,6 +279,7 @@ fn step(schema: &[i32], s: usize, proof: &[i32], r: usize, facts: &mut [u32]) ->
     requires { ⌜ Passed (joined (now schema) s (now proof)) (now facts) r ⌝ }
     ensures { λ v. ⌜ finding v ≡ rowRefusal (joined (now (schema .entry)) s (now (proof .entry))) r ⌝ }
     ensures { λ v. ⌜ (rowRefusal (joined (now (schema .entry)) s (now (proof .entry))) r ≡ none → Passed (joined (now (schema .entry)) s (now (proof .entry))) (now (facts .exit)) (r + 1)) ⌝ }
+    ensures { λ v. ⌜ now (facts .exit) ≡ keptIf (rowRefusal (joined (now (schema .entry)) s (now (proof .entry))) r) (now (facts .entry)) r (factsOf (tree (joined (now (schema .entry)) s (now (proof .entry))) r)) ⌝ }
 {
     let Judged::Formed(f) = row(schema, s, proof, r, facts) else {
         return Finding::Found {
@@ -302,11 +303,12 @@ fn step(schema: &[i32], s: usize, proof: &[i32], r: usize, facts: &mut [u32]) ->
     Finding::Nothing
 }
 
-// What is found first among n rows. Where that is nothing, the table holds the numbers of each.
-pub fn each(schema: &[i32], s: usize, proof: &[i32], n: usize, facts: &mut [u32]) -> Finding
+// What is found first among n rows. The table holds the numbers of each before it.
+fn each(schema: &[i32], s: usize, proof: &[i32], n: usize, facts: &mut [u32]) -> Finding
     requires { ⌜ (n ≤ 1024) × (4 * n ≤ length (now facts)) ⌝ }
     ensures { λ v. ⌜ finding v ≡ scan (rowRefusal (joined (now (schema .entry)) s (now (proof .entry)))) n ⌝ }
     ensures { λ v. ⌜ (scan (rowRefusal (joined (now (schema .entry)) s (now (proof .entry)))) n ≡ none → Passed (joined (now (schema .entry)) s (now (proof .entry))) (now (facts .exit)) n) ⌝ }
+    ensures { λ v. ⌜ now (facts .exit) ≡ factsTable (joined (now (schema .entry)) s (now (proof .entry))) (now (facts .entry)) n ⌝ }
 {
     let mut r = 0;
     while r < n {
@@ -342,7 +344,7 @@ fn root_fits(s: usize, root: i32, least: i32) -> bool
 }
 
 // What is found of the formulas: the root and the least value, then every row, then that the root is outer.
-// Where that is nothing, the table holds the numbers of each row.
+// The table holds the numbers of each row up to the first that is refused.
 pub fn formulas(
     schema: &[i32],
     s: usize,
@@ -355,6 +357,7 @@ pub fn formulas(
     requires { ⌜ (s ≤ n) × (n ≤ 1024) × (4 * n ≤ length (now facts)) ⌝ }
     ensures { λ v. ⌜ finding v ≡ formulasRefusal (joined (now (schema .entry)) s (now (proof .entry))) n s root least ⌝ }
     ensures { λ v. ⌜ (formulasRefusal (joined (now (schema .entry)) s (now (proof .entry))) n s root least ≡ none → Passed (joined (now (schema .entry)) s (now (proof .entry))) (now (facts .exit)) n) ⌝ }
+    ensures { λ v. ⌜ now (facts .exit) ≡ formulasTable (joined (now (schema .entry)) s (now (proof .entry))) (now (facts .entry)) n s root least ⌝ }
 {
     if !root_fits(s, root, least) {
         return Finding::Found {

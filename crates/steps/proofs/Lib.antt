@@ -1,4 +1,3 @@
-pub mod LoweredLaws
 pub mod PartnerLaws
 pub mod ReadyLaws
 pub mod StepLaws

@@ -21,7 +21,7 @@ use Rattle.branch.specs.Parents.{upFits, AllUpFit}
 use Rattle.steps.specs.Ready.{Ready}
 use Rattle.branch.specs.Sets.{placeFits}
 use Rattle.branch.proofs.AboveLaws.{above-none}
-use Rattle.drawn.proofs.HeldLaws.{set-length}
+use Rattle.branch.proofs.HeldLaws.{set-length}
 use Rattle.branch.proofs.ParentLaws.{parent-less}
 use Rattle.branch.proofs.Parts.{is-natural}
 use Rattle.sets.proofs.SetLaws.{at-all, place-start, place-next, place-within}

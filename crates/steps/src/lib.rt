@@ -1,4 +1,3 @@
-// The step of a node: partners of an unfolding, lowered rows of a link, and the judgement of the nodes, one by one.
-pub mod lowered;
+// The step of a node: the partners of an unfolding, and the judgement of the nodes, one by one.
 pub mod partners;
 pub mod steps;

@@ -69,5 +69,5 @@ pub fn partners_fit(schema: &[i32], proof: &[i32], nodes: &[i32], t: Counts, j: 
         return false;
     }
     let other = node::natural_of(nodes, j, fields::OTHER);
-    alike::compare::is_instance(schema, t.schema, proof, on, other)
+    alike::is_instance(schema, t.schema, proof, on, other)
 }

@@ -1,6 +1,6 @@
 // The judgement of nodes, one by one: refusals 11 to 17.
-use crate::lowered;
 use crate::partners;
+use alike::lowered;
 use branch::above;
 use branch::counts::Counts;
 use branch::kept;

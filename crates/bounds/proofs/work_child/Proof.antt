@@ -9,7 +9,8 @@ use Rattle.stab.specs.Basic.{nat}
 use Rattle.stab.specs.Node.{Bound, boundOf}
 use Rattle.formula.specs.Facts.{bit}
 use Rattle.branch.specs.Work.{AllWorked}
-use Rattle.bounds.proofs.WorkLaws.{parent-before, l-small, rank-small, bound-at, kept-length, work-more}
+use Rattle.bounds.specs.Bounds.{Stays}
+use Rattle.bounds.proofs.WorkLaws.{parent-before, l-small, rank-small, bound-at, kept-length, work-more, work-stays}
 use Rattle.bounds.proofs.work_child.Statement.{statement}
 use Rattle.bounds.proofs.work_child.Tie as tie
 
@@ -71,17 +72,17 @@ returns c =
     let parent = boundOf (a .nodes .now) (pos (a .least)) (a .u) in
     let done = s .pre .2 .done (a .u) (parent-before (s .pre .2)) in
     let bound = bound-at (s .pre .2) (r .result) (r .ensures) in
-    subst
-    (λ (w : List ℕ). AllWorked (a .nodes .now) (pos (a .least)) (a .j + 1) (set w (4 * a .u + 3) (r .result + 1)) (a .j + 1))
-    (sym (c .before .before .keep .ensures))
-    (work-more
-    (s .pre .2)
-    (r .result)
-    (l .result)
-    (e .result)
-    (r .ensures)
-    (ap (λ (B : Bound). B .L) bound ∙ l .ensures parent (sym (done .L) ∙ sym (c .before .before .before .before .before .before .before .before .number-of2 .ensures)))
-    (ap (λ (B : Bound). bit (B .exact)) bound ∙ e .ensures parent (sym (done .exact) ∙ sym (c .before .before .before .before .before .number-of3 .ensures))))
+    let l-is = ap (λ (B : Bound). B .L) bound ∙ l .ensures parent (sym (done .L) ∙ sym (c .before .before .before .before .before .before .before .before .number-of2 .ensures)) in
+    let e-is = ap (λ (B : Bound). bit (B .exact)) bound ∙ e .ensures parent (sym (done .exact) ∙ sym (c .before .before .before .before .before .number-of3 .ensures)) in (
+      subst
+          (λ (w : List ℕ). AllWorked (a .nodes .now) (pos (a .least)) (a .j + 1) (set w (4 * a .u + 3) (r .result + 1)) (a .j + 1))
+          (sym (c .before .before .keep .ensures))
+          (work-more (s .pre .2) (r .result) (l .result) (e .result) (r .ensures) l-is e-is),
+      subst
+          (λ (w : List ℕ). Stays (4 * (a .j + 1)) (a .work .now) (set w (4 * a .u + 3) (r .result + 1)))
+          (sym (c .before .before .keep .ensures))
+          (work-stays (s .pre .2) (r .result) (l .result) (e .result) (r .ensures) l-is e-is),
+    )
 
 pub work-child-spec : {M : Type 1} → statement M
 work-child-spec =

@@ -1,12 +1,13 @@
 use borrow.Author.Needs.{needs}
 use native.Mathlib.Omega.{arith}
 use Prim.Native.Nat.{ℕ, _+_}
-use mathlib.Core.Path.{sym, subst}
+use mathlib.Core.Path.{sym, _∙_, ap, subst}
 use mathlib.Core.List.{List}
 use lib.IntN.{pos}
+use lib.ListN.{getD}
 use Rattle.stab.specs.Basic.{nat}
 use Rattle.branch.specs.Work.{AllWorked}
-use Rattle.bounds.proofs.WorkLaws.{work-first}
+use Rattle.bounds.proofs.WorkLaws.{work-first, kept-after}
 use Rattle.bounds.proofs.work_node.Statement.{statement}
 use Rattle.bounds.proofs.work_node.Tie as tie
 
@@ -33,9 +34,12 @@ returns c =
     let s = c .before .before .before .before .before .before in
     let a = s .args in
     let e = c .before .before .before .before .if1 .taken in
-    subst (λ (n : ℕ). AllWorked (a .nodes .now) (pos (a .least)) (n + 1) (c .before .before .keep .last .0) (n + 1)) (sym e)
-    (subst (λ (w : List ℕ). AllWorked (a .nodes .now) (pos (a .least)) 1 w 1) (sym (c .before .before .keep .ensures))
-    (work-first (a .nodes .now) (pos (a .least)) (a .work .now) (omega (arith, s .pre .2, e)) (λ i p. s .pre .3 i (omega arith))))
+    let k = c .before .before .keep in (
+      subst (λ (n : ℕ). AllWorked (a .nodes .now) (pos (a .least)) (n + 1) (k .last .0) (n + 1)) (sym e)
+          (subst (λ (w : List ℕ). AllWorked (a .nodes .now) (pos (a .least)) 1 w 1) (sym (k .ensures))
+          (work-first (a .nodes .now) (pos (a .least)) (a .work .now) (omega (arith, s .pre .2, e)) (λ i p. s .pre .3 i (omega arith)))),
+      λ x p. ap (λ (w : List ℕ). getD w x 0) (k .ensures) ∙ kept-after (a .work .now) 0 0 _ 0 x (omega arith),
+    )
 
 same-length-2 : tie.Need-same-length-2
 same-length-2 c = search needs

@@ -1,17 +1,18 @@
 use native.Mathlib.Omega.{arith}
-use Prim.Native.Nat.{ℕ, _-_, _≤_}
+use Prim.Native.Nat.{ℕ, _*_, _-_, _≤_}
 use mathlib.Core.Path.{_≡_, refl, subst, _∙_, ap}
 use lib.IntN.{ℤ, pos}
 use lib.ListN.{length}
 use Rattle.stab.specs.Basic.{nat}
 use mir.Facts.{toZ-ofZ}
 use Rattle.branch.specs.Work.{AllWorked}
+use Rattle.bounds.specs.Bounds.{Stays}
 use Rattle.branch.proofs.Parts.{within-natural, within-most}
 use Rattle.bounds.proofs.work_out.Statement.{statement}
 use Rattle.bounds.proofs.work_out.Tie as tie
 
 abbrev Inv-loop : tie.InvT-loop
-Inv-loop nodes k least work₀ l j₀ work j = (j ≤ k) × (length work ≡ length work₀) × AllWorked nodes (pos l) j work j
+Inv-loop nodes k least work₀ l j₀ work j = (j ≤ k) × (length work ≡ length work₀) × AllWorked nodes (pos l) j work j × Stays (4 * j) work₀ work
 
 abbrev μ-loop : tie.MeasureT-loop
 μ-loop nodes k least work₀ l j₀ work j = k - j
@@ -20,7 +21,7 @@ natural-requires : tie.Need-natural-requires Inv-loop μ-loop
 natural-requires c κs = tt
 
 loop-holds : tie.Need-loop-holds Inv-loop μ-loop
-loop-holds c = (omega arith, refl, λ j p. absurd (omega arith))
+loop-holds c = (omega arith, refl, λ j p. absurd (omega arith), λ x p. refl)
 
 -- least is a natural number, at most 9999
 natural : (c : tie.After-natural Inv-loop μ-loop) → c .natural .result ≡ nat (c .before .before .args .least)
@@ -51,7 +52,8 @@ loop-again c =
     let l = c .before .before .before .before .before .loop in (
       omega arith,
       c .before .before .work-node .kept .1 .1 .0 ∙ l .inv .1,
-      c .before .before .work-node .ensures,
+      c .before .before .work-node .ensures .0,
+      λ x p. c .before .before .work-node .ensures .1 x p ∙ l .inv .3 x (omega arith),
     )
 
 same-length : tie.Need-same-length Inv-loop μ-loop
@@ -62,9 +64,11 @@ returns c =
     let b = c .before .before .before .before in
     let l = c .before .loop in
     let e : l .j ≡ b .args .k = omega (arith, l .inv .0) in
-    let z = ap pos (natural (c .before .before)) ∙ within-natural 9999 (b .args .least) (b .pre .2) in
-    subst (λ (n : ℕ). AllWorked (b .args .nodes .now) (b .args .least) n (l .work) n) e
-    (subst (λ (x : ℤ). AllWorked (b .args .nodes .now) x (l .j) (l .work) (l .j)) z (l .inv .2))
+    let z = ap pos (natural (c .before .before)) ∙ within-natural 9999 (b .args .least) (b .pre .2) in (
+      subst (λ (n : ℕ). AllWorked (b .args .nodes .now) (b .args .least) n (l .work) n) e
+          (subst (λ (x : ℤ). AllWorked (b .args .nodes .now) x (l .j) (l .work) (l .j)) z (l .inv .2)),
+      λ x p. l .inv .3 x (omega (arith, e)),
+    )
 
 pub work-out-spec : {M : Type 1} → statement M
 work-out-spec =

@@ -16,7 +16,7 @@ use Rattle.branch.specs.Lent.{lent, SetHeld}
 use Rattle.stab.specs.Basic.{nat}
 use Rattle.stab.specs.Node as N
 use Rattle.drawn.proofs.DrawnLaws.{drawn-same, drawn-above, walk-bound}
-use Rattle.drawn.proofs.HeldLaws.{set-length, member-read}
+use Rattle.branch.proofs.HeldLaws.{set-length, member-read}
 use Rattle.sets.proofs.SetLaws.{all-at, at-all, fails}
 use Rattle.drawn.proofs.is_drawn.Statement.{statement}
 use Rattle.drawn.proofs.is_drawn.Tie as tie

@@ -40,7 +40,7 @@ returns c =
     let s = start .args .schema-rows in
     let e = ap (λ (rows : ℕ → Row). formulasRefusal rows s s (toZ w32 (ofZ w32 (start .args .root))) (toZ w32 (ofZ w32 (start .args .least)))) (joined-part t s)
     ∙ ap₂ (formulasRefusal (rowAt t) s s) (toZ-ofZ (start .fits .root)) (toZ-ofZ (start .fits .least)) in
-    (c .before .formulas .ensures .0 ∙ e, λ h. subst (λ (rows : ℕ → Row). AllFormed rows s) (joined-part t s) (c .before .formulas .ensures .1 (e ∙ h) .formed))
+    (c .before .formulas .ensures .0 ∙ e, λ h. subst (λ (rows : ℕ → Row). AllFormed rows s) (joined-part t s) (c .before .formulas .ensures .1 .0 (e ∙ h) .formed))
 
 pub formulas-pass-spec : {M : Type 1} → statement M
 formulas-pass-spec =

@@ -8,8 +8,8 @@ use Rattle.stab.specs.Basic.{scan}
 use Rattle.stab.specs.Check.{rowRefusal, finding}
 use Rattle.stab.specs.Formula.{joined}
 use Rattle.stab.proofs.Scans.{scan-none, scan-more, scan-found}
-use Rattle.formula.specs.Rows.{Passed}
-use Rattle.formula.proofs.RowLaws.{passed-none, never}
+use Rattle.formula.specs.Rows.{factsTable, Passed}
+use Rattle.formula.proofs.RowLaws.{passed-none, never, none-kept, table-none, table-more, table-stays}
 use Rattle.formula.proofs.rows.each.Statement.{statement}
 use Rattle.formula.proofs.rows.each.Tie as tie
 
@@ -19,12 +19,13 @@ Inv-loop schema s proof n facts₀ r₀ facts r =
     × (length facts ≡ length facts₀)
     × (scan (rowRefusal (joined schema s proof)) r ≡ none)
     × Passed (joined schema s proof) facts r
+    × (facts ≡ factsTable (joined schema s proof) facts₀ r)
 
 abbrev μ-loop : tie.MeasureT-loop
 μ-loop schema s proof n facts₀ r₀ facts r = n - r
 
 loop-holds : tie.Need-loop-holds Inv-loop μ-loop
-loop-holds c = (omega arith, refl, scan-none _ 0 (λ k l. absurd (omega arith)), passed-none _ _)
+loop-holds c = (omega arith, refl, scan-none _ 0 (λ k l. absurd (omega arith)), passed-none _ _, table-none _ _)
 
 step-requires : tie.Need-step-requires Inv-loop μ-loop
 step-requires c κs = (omega arith, c .before .before .loop .inv .3)
@@ -45,8 +46,18 @@ unfolding finding
 returns c =
     let s = c .before .before .before .before in
     let e = ap finding (c .enum-told2 .given .1) in
-    let h = sym (scan-found _ _ _ _ (s .before .before .loop-test .taken) (s .before .before .before .loop .inv .2) (sym (s .step .ensures .0) ∙ e)) in
-    (e ∙ h, never h)
+    let l = s .before .before .before .loop in
+    let found = sym (s .step .ensures .0) ∙ e in
+    let h = sym (scan-found _ _ _ _ (s .before .before .loop-test .taken) (l .inv .2) found) in (
+      e ∙ h,
+      (
+        never h,
+        s .step .ensures .1 .1
+            ∙ sym (none-kept _ (l .facts) _ (sym found))
+            ∙ l .inv .4
+            ∙ sym (table-stays _ _ _ _ (l .inv .2) found (omega arith)),
+      ),
+    )
 
 add-r : tie.Need-add-r Inv-loop μ-loop
 add-r c = omega arith
@@ -59,7 +70,9 @@ unfolding finding
 loop-again c =
     let s = c .before .before .before .before in
     let h = sym (s .step .ensures .0) ∙ ap finding (c .enum-told .given .1) in
-    (omega arith, s .step .kept .1 .1 .1 .1 .0 ∙ s .before .before .before .loop .inv .1, scan-more _ _ (s .before .before .before .loop .inv .2) h, s .step .ensures .1 h)
+    let l = s .before .before .before .loop in
+    let more = scan-more _ _ (l .inv .2) h in
+    (omega arith, s .step .kept .1 .1 .1 .1 .0 ∙ l .inv .1, more, s .step .ensures .1 .0 h, table-more _ _ _ more h (l .inv .4) (s .step .ensures .1 .1))
 
 same-length-2 : tie.Need-same-length-2 Inv-loop μ-loop
 same-length-2 c = c .before .loop .inv .1
@@ -72,7 +85,10 @@ returns-2 c =
     let rows = joined (a .schema .now) (a .s) (a .proof .now) in
     let e : c .before .loop .r ≡ a .n = omega arith in (
       sym (subst (λ (m : ℕ). scan (rowRefusal rows) m ≡ none) e (i .2)),
-      λ _. subst (λ (m : ℕ). Passed rows (c .before .loop .facts) m) e (i .3),
+      (
+        λ _. subst (λ (m : ℕ). Passed rows (c .before .loop .facts) m) e (i .3),
+        subst (λ (m : ℕ). c .before .loop .facts ≡ factsTable rows (a .facts .now) m) e (i .4),
+      ),
     )
 
 pub each-spec : {M : Type 1} → statement M

@@ -8,9 +8,9 @@ use borrow.Author.Needs.{needs}
 use Rattle.stab.specs.Basic.{nat, scan}
 use Rattle.stab.specs.Check.{rootFits, rowRefusal, finding}
 use Rattle.stab.specs.Formula.{joined, tree}
-use Rattle.stab.proofs.Bools.{and-left}
+use Rattle.stab.proofs.Bools.{and-left, if-true, if-false}
 use Rattle.stab.proofs.Trees.{below-nat}
-use Rattle.formula.specs.Rows.{factsOf, factsAt}
+use Rattle.formula.specs.Rows.{factsOf, factsAt, formulasTable}
 use Rattle.formula.proofs.RowLaws.{fails, passes, kept-facts, loose-none, loose-some, formulas-root, formulas-row, formulas-loose, formulas-none, never}
 use Rattle.formula.proofs.rows.formulas.Statement.{statement}
 use Rattle.formula.proofs.rows.formulas.Tie as tie
@@ -25,10 +25,11 @@ said c =
     c .root-fits .ensures ∙ ap₂ (rootFits (a .args .s)) (toZ-ofZ (a .fits .root)) (toZ-ofZ (a .fits .least))
 
 returns : tie.Need-returns
-unfolding finding
+unfolding finding formulasTable
 returns c =
-    let h = formulas-root _ _ _ _ _ (fails _ (said (c .before)) (c .if1 .taken)) in
-    (h, never h)
+    let unfit = fails _ (said (c .before)) (c .if1 .taken) in
+    let h = formulas-root _ _ _ _ _ unfit in
+    (h, (never h, sym (if-false _ _ _ unfit)))
 
 each-requires : tie.Need-each-requires
 each-requires c κs = search needs
@@ -43,12 +44,13 @@ same-length : tie.Need-same-length
 same-length c = search needs
 
 returns-2 : tie.Need-returns-2
-unfolding finding
+unfolding finding formulasTable
 returns-2 c =
     let e = c .before .before .before .before in
     let f = ap finding (c .enum-told2 .given .1) in
-    let h = formulas-row _ _ _ _ _ (passes _ (said (e .before .before .before)) (e .before .before .if1 .left)) (sym f ∙ e .each .ensures .0) in
-    (f ∙ h, never h)
+    let fit = passes _ (said (e .before .before .before)) (e .before .before .if1 .left) in
+    let h = formulas-row _ _ _ _ _ fit (sym f ∙ e .each .ensures .0) in
+    (f ∙ h, (never h, e .each .ensures .1 .1 ∙ sym (if-true _ _ _ fit)))
 
 natural-requires : tie.Need-natural-requires
 natural-requires c κs = search needs
@@ -75,7 +77,7 @@ unfolding rootFits
 root-less c = omega (arith, below-nat _ _ (and-left _ _ (fits c)), start c .pre)
 
 known-requires : tie.Need-known-requires
-known-requires c κs = omega (arith, root-is c, root-less c, passed c .each .ensures .1 (nothing c) .room)
+known-requires c κs = omega (arith, root-is c, root-less c, passed c .each .ensures .1 .0 (nothing c) .room)
 
 -- the root's numbers
 known : (c : tie.After-known) → let a = start (c .before) .args in c .known .result ≡ factsOf (tree (joined (a .schema .now) (a .s) (a .proof .now)) (nat (a .root)))
@@ -83,30 +85,30 @@ known c =
     let b = c .before in
     c .known .ensures
     ∙ ap (factsAt _) (root-is b)
-    ∙ kept-facts (passed b .each .ensures .1 (nothing b)) _ (root-less b)
+    ∙ kept-facts (passed b .each .ensures .1 .0 (nothing b)) _ (root-less b)
 
 same-length-2 : tie.Need-same-length-2
 same-length-2 c = search needs
 
 returns-3 : tie.Need-returns-3
-unfolding finding
+unfolding finding formulasTable
 returns-3 c =
     let k = c .before .before in
     let b = k .before in (
       formulas-none _ _ _ _ _ (fits b) (nothing b) (loose-none _ (known k) (c .if2 .taken)),
-      λ _. passed b .each .ensures .1 (nothing b),
+      (λ _. passed b .each .ensures .1 .0 (nothing b), passed b .each .ensures .1 .1 ∙ sym (if-true _ _ _ (fits b))),
     )
 
 same-length-3 : tie.Need-same-length-3
 same-length-3 c = search needs
 
 returns-4 : tie.Need-returns-4
-unfolding finding
+unfolding finding formulasTable
 returns-4 c =
     let k = c .before .before in
     let b = k .before in
     let h = formulas-loose _ _ _ _ _ (fits b) (nothing b) (loose-some _ (known k) (c .if2 .left)) in
-    (h, never h)
+    (h, (never h, passed b .each .ensures .1 .1 ∙ sym (if-true _ _ _ (fits b))))
 
 pub formulas-spec : {M : Type 1} → statement M
 formulas-spec =

@@ -65,7 +65,7 @@ nodes-pass-requires : tie.Need-nodes-pass-requires
 nodes-pass-requires c κs =
     let start = c .before .before .before .before .before .before .before .before .before in
     let f = c .before .before .before .before .before in
-    let passed = f .formulas .ensures .1 (nothing-found _ _ (f .formulas .ensures .0) (c .before .enum-told .given .1)) in
+    let passed = f .formulas .ensures .1 .0 (nothing-found _ _ (f .formulas .ensures .0) (c .before .enum-told .given .1)) in
     ((start .pre .0, passed .room, start .pre .2, start .pre .5), passed .known)
 
 -- the same of nodes
@@ -121,7 +121,7 @@ returns-3 c =
     let told = c .before .before .before .before .before .before .before .before in
     let rows-none = rows-passed told in
     let nodes-none = nodes-passed (c .before .before .before .before) in
-    let passed = f .formulas .ensures .1 (nothing-found _ _ (f .formulas .ensures .0) (told .enum-told .given .1)) in
+    let passed = f .formulas .ensures .1 .0 (nothing-found _ _ (f .formulas .ensures .0) (told .enum-told .given .1)) in
     let T = lent start in (
       later _ _ _ rows-none (sym nodes-none),
       λ h. record {
@@ -135,7 +135,7 @@ returns-3 c =
         formed = passed .formed;
         sets = set-fits T nodes-none;
         parents = parent-fits T nodes-none;
-        worked = subst (λ (z : ℤ). AllWorked (now (start .args .nodes)) z (start .args .k) (c .before .before .work-out .last .1 .1 .1 .0) (start .args .k)) (toZ-ofZ (start .fits .least)) (c .before .before .work-out .ensures);
+        worked = subst (λ (z : ℤ). AllWorked (now (start .args .nodes)) z (start .args .k) (c .before .before .work-out .last .1 .1 .1 .0) (start .args .k)) (toZ-ofZ (start .fits .least)) (c .before .before .work-out .ensures .0);
       },
     )
 

@@ -2,9 +2,9 @@ use borrow.Author.Needs.{needs}
 use native.Mathlib.Omega.{arith}
 use mathlib.Core.Path.{sym, _∙_}
 use mir.Facts.{toZ-ofZ}
-use Rattle.steps.proofs.LoweredLaws.{sizes-differ}
-use Rattle.steps.proofs.lowered.is_partner.Statement.{statement}
-use Rattle.steps.proofs.lowered.is_partner.Tie as tie
+use Rattle.alike.proofs.LoweredLaws.{sizes-differ}
+use Rattle.alike.proofs.lowered.is_partner.Statement.{statement}
+use Rattle.alike.proofs.lowered.is_partner.Tie as tie
 
 mul-kept-at : tie.Need-mul-kept-at
 mul-kept-at c = search needs

@@ -14,13 +14,13 @@ use Rattle.stab.specs.Formula.{joined}
 use Rattle.stab.specs.Node.{Tableau, node, nodeAt, set, setOf}
 use Rattle.stab.specs.Rule.{hasLowered}
 use Rattle.stab.proofs.Trees.{below-nat, below-pos}
 use Rattle.alike.specs.Memo.{Remembers}
 use Rattle.alike.proofs.Remembering.{nothing-seen}
 use Rattle.branch.specs.Lent.{lent}
-use Rattle.drawn.proofs.HeldLaws.{set-length, member-nat}
+use Rattle.branch.proofs.HeldLaws.{set-length, member-nat}
 use Rattle.sets.proofs.SetLaws.{all-at, at-all, fails}
-use Rattle.steps.proofs.lowered.all_lowered.Statement.{statement}
-use Rattle.steps.proofs.lowered.all_lowered.Tie as tie
+use Rattle.alike.proofs.lowered.all_lowered.Statement.{statement}
+use Rattle.alike.proofs.lowered.all_lowered.Tie as tie
 use Rattle.stab.proofs.Bools.{asked-false, asked-true}
 
 abbrev Inv-loop : tie.InvT-loop

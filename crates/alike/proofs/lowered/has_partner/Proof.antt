@@ -13,14 +13,14 @@ use Rattle.stab.specs.Basic.{nat}
 use Rattle.stab.specs.Node.{Tableau, node, nodeAt, set, setOf, formula, rows}
 use Rattle.stab.specs.Rule.{isLowered}
 use Rattle.stab.proofs.Trees.{below-nat}
 use Rattle.alike.specs.Memo.{Remembers}
 use Rattle.branch.specs.Lent.{lent}
-use Rattle.drawn.proofs.HeldLaws.{set-length, member-nat}
-use Rattle.steps.proofs.LoweredLaws.{lowered-at, lowered-nowhere}
+use Rattle.branch.proofs.HeldLaws.{set-length, member-nat}
+use Rattle.alike.proofs.LoweredLaws.{lowered-at, lowered-nowhere}
 use Rattle.stab.specs.Formula.{joined, tree}
 use Rattle.stab.specs.Alike.{lower, agree}
-use Rattle.steps.proofs.lowered.has_partner.Statement.{statement}
-use Rattle.steps.proofs.lowered.has_partner.Tie as tie
+use Rattle.alike.proofs.lowered.has_partner.Statement.{statement}
+use Rattle.alike.proofs.lowered.has_partner.Tie as tie
 
 abbrev Inv-loop : tie.InvT-loop
 Inv-loop schema proof nodes members facts t j k z seen₀ start size i₀ seen i =

@@ -1,4 +1,5 @@
 // The lowered rows of a link: refusal 16.
+use crate::compare;
 use branch::counts::Counts;
 use branch::kept;
 use branch::node;
@@ -35,7 +36,7 @@ fn is_partner(
     if kept::kept_at(facts, 4 * z) != kept::kept_at(facts, 4 * x) {
         return false;
     }
-    alike::compare::is_lowered(schema, t.schema, proof, k, z, x, seen)
+    compare::is_lowered(schema, t.schema, proof, k, z, x, seen)
 }
 
 // Row z, lowered by k, stands in the set of node j.

@@ -10,8 +10,8 @@ use Rattle.formula.specs.Column.{column}
 use Rattle.leaves.specs.Compare.{changed}
 use Rattle.leaves.proofs.Compares.{whole-parts, offset-small, limit-offset, iteration-falls, fewer-formed}
 use Rattle.alike.proofs.Remembering.{nothing-seen}
-use Rattle.alike.proofs.compare.is_instance.Statement.{statement}
-use Rattle.alike.proofs.compare.is_instance.Tie as tie
+use Rattle.alike.proofs.is_instance.Statement.{statement}
+use Rattle.alike.proofs.is_instance.Tie as tie
 
 abbrev rows : tie.Start → ℕ → Row
 rows b = joined (b .args .schema .now) (b .args .s) (b .args .proof .now)
