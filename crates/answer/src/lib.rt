@@ -3,7 +3,6 @@ use stab::Place;
 use stab::Refusal;
 use stab::Verdict;
 ghost use mathlib.Core.Path.{_≡_};
-ghost use Prim.Native.Nat.{_+_};
 ghost use Rattle.stab.specs.Answer.{refusalNumber, placeCode, packed, Packs};
 ghost use Rattle.answer.specs.Near.{Coded};
 

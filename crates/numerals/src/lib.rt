@@ -1,8 +1,11 @@
-// Numbers in a text: the bytes of a field, its digits, and the number that goes into a lent table.
+// Parts of a line: headings; and numbers, the bytes of a field, its digits, and what goes into a lent table.
 ghost use mathlib.Core.Path.{_≡_};
+ghost use mathlib.Core.Bool.{true};
 ghost use Prim.Native.Nat.{_+_, _≤_};
 ghost use lib.IntN.{pos};
 ghost use lib.ListN.{length, getD, drop, set};
+ghost use Rattle.stab.proofs.Texts.Lines.{lacks};
+ghost use Rattle.numerals.specs.Headings.{afterHeading};
 ghost use Rattle.numerals.specs.Here.{runLength, runValue};
 ghost use Rattle.numerals.specs.Here.{numberHere};
 ghost use Rattle.signed.specs.Numbers.{signedOf};
@@ -17,6 +20,25 @@ pub fn byte_at(text: &[u8], i: usize) -> usize
     } else {
         256
     }
+}
+
+// The place after a heading's line, if that line stands at a place; 0 if not.
+pub fn heading(text: &[u8], at: usize, h: &[u8]) -> usize
+    requires { ⌜ (at ≤ length (now text)) × (lacks 10 (now h) ≡ true) ⌝ }
+    ensures { λ r. ⌜ r ≡ afterHeading (now (h .entry)) (now (text .entry)) at ⌝ }
+{
+    let mut j = 0;
+    while j < h.len() {
+        if byte_at(text, at + j) != byte_at(h, j) {
+            return 0;
+        }
+        j += 1;
+    }
+    let e = at + h.len();
+    if byte_at(text, e) != 10 {
+        return 0;
+    }
+    e + 1
 }
 
 // Digits that were read: the number that they stand for, and the place after them.

@@ -1,17 +1,16 @@
 // The programs as functions: two texts in, what is printed out.
 mod fault;
-mod print;
 
-use crate::print::print;
 use outcome::check_outcome;
 use outcome::model_outcome;
 use outcome::verdict;
+use printing::print;
 use stab::Fault;
 ghost use mathlib.Core.Path.{_≡_};
 ghost use lib.ListN.{length};
 ghost use Rattle.stab.specs.Text.{padded};
 ghost use Rattle.stab.specs.Program.{checkProgram, modelProgram, checkFault, modelFault};
-ghost use Rattle.program.specs.Printing.{Counts};
+ghost use Rattle.printing.specs.Printing.{Counts};
 
 // What the check program prints for the bytes of schema.txt and of proof.txt: how many bytes, and those, with 0 past them.
 pub fn check_texts(schema: &[u8], proof: &[u8], out: &mut [u8; 64]) -> usize

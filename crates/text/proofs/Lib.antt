@@ -1,6 +1,4 @@
-pub mod Lines
 pub mod Parts
-pub mod Headings
 pub mod RowLaws
 pub mod NodeLaws
 pub mod Openings

@@ -24,7 +24,7 @@ use Rattle.text.specs.Rows.{rowFront, wanted, RowEnded, RowOpen}
 use Rattle.text.specs.Nodes.{NodeRead, SetOf, NodeOf, nodesAhead}
 use Rattle.text.specs.declared.nodes.NodeFound.{NodeFound}
 use Rattle.text.specs.declared.nodes.NodeFound.the-variants.{At, Nothing}
-use Rattle.text.proofs.Lines.{lines-first, lines-nil}
+use Rattle.numerals.proofs.Lines.{lines-first, lines-nil}
 use Rattle.text.proofs.Parts.{sets-append}
 use Rattle.text.proofs.RowLaws.{wanted-if, wanted-not, lineRead, values-are, take-sets, then-stops}
 

@@ -21,7 +21,7 @@ use Rattle.numerals.specs.declared.Step.{Step}
 use Rattle.numerals.specs.declared.Step.the-variants.{Bad, More, Last}
 use Rattle.numerals.proofs.Fields.{ends-space, ends-line, ends-cases}
 use Rattle.numerals.proofs.Steps.{step-space, step-line, end-or-none}
-use Rattle.text.proofs.Lines.{row-none, row-more, row-last, after-more, after-last, past-within}
+use Rattle.numerals.proofs.Lines.{row-none, row-more, row-last, after-more, after-last, past-within}
 
 -- ---- numbers in front
 

@@ -28,7 +28,7 @@ use Rattle.numerals.specs.Here.{firstLine, afterLine, row}
 use Rattle.text.specs.Rows.{wanted, RowEnded, proofAhead}
 use Rattle.signed.specs.Numbers.{cleared}
 use Rattle.text.specs.Texts.{ProofOf}
-use Rattle.text.proofs.Lines.{lines-first, lines-nil, line-end, line-byte}
+use Rattle.numerals.proofs.Lines.{lines-first, lines-nil, line-end, line-byte}
 use Rattle.text.proofs.RowLaws.{wanted-if, lineRead, values-are, take-sets, then-stops}
 use Rattle.text.proofs.Openings.{text-long, text-short, text-on}
 use Rattle.signed.proofs.Tables.{cleared-padded}

@@ -21,7 +21,7 @@ use Rattle.stab.specs.declared.Refusal.the-variants.{Line as BadLine}
 use Rattle.stab.proofs.Bools.{if-true, if-false, decide}
 use Rattle.numerals.specs.Here.{firstLine, afterLine, row}
 use Rattle.text.specs.Rows.{rowFront, wanted, RowEnded, RowOpen, ahead}
-use Rattle.text.proofs.Lines.{lines-first, lines-nil}
+use Rattle.numerals.proofs.Lines.{lines-first, lines-nil}
 
 -- ---- how many numbers there are
 

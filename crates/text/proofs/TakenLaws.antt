@@ -19,7 +19,8 @@ use Rattle.stab.proofs.Bools.{if-true, if-false, decide}
 use Rattle.stab.proofs.Texts.Lines.{lacks}
 use Rattle.stab.proofs.Texts.Rows.{then-is}
 use Rattle.numerals.specs.Here.{afterLine, row}
-use Rattle.text.specs.Rows.{isHeading, afterHeading, wanted, RowOf, RowEnded}
+use Rattle.text.specs.Rows.{wanted, RowOf, RowEnded}
+use Rattle.numerals.specs.Headings.{isHeading, afterHeading}
 use Rattle.text.specs.Nodes.{NodeRead, nodesAhead}
 use Rattle.text.specs.Awaiting.{Whole, rest, goesOn, leftIf, Room, Ready, Moved, headed, rowBy, RowTaken, Listed, asProof, proofWith}
 use Rattle.text.specs.declared.rows.Found.{Found}
@@ -30,7 +31,7 @@ use Rattle.text.specs.declared.awaited.Awaited.the-variants.{Formula, No
 use Rattle.text.proofs.RowLaws.{then-stops, rowsSoFar, rows-done, rows-stop, rows-full, rows-next}
 use Rattle.text.proofs.ProofLaws.{withNodes, proofSoFar, formulas-stop, formulas-full, formulas-next, formulas-missing, formulas-heading}
 use Rattle.text.proofs.NodeLaws.{nodesSoFar, nodes-ahead-none, nodes-done, nodes-stop, nodes-too-many, members-too-many, nodes-next}
-use Rattle.text.proofs.Headings.{heading-stops, heading-passed, heading-reads, heading-inside}
+use Rattle.numerals.proofs.Headings.{heading-stops, heading-passed, heading-reads, heading-inside}
 use Rattle.text.proofs.Openings.{then-then}
 use Rattle.stab.proofs.Texts.ProofRows.{node-heading-lacks}
 

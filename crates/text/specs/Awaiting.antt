@@ -13,7 +13,8 @@ use Rattle.stab.specs.Read.{Reading, read, stopped, _andThen_, headingAt, value
 use Rattle.stab.specs.Read.{SchemaText, readSchemaLines, ModelText, readModelLines, ProofText, readProofLines}
 use Rattle.stab.specs.declared.Refusal.the-variants.{Heading as HeadingRefused, Line as LineRefused, TooMany as TooManyRefused}
 use Rattle.numerals.specs.Here.{afterLine}
-use Rattle.text.specs.Rows.{isHeading, RowOf, ahead, proofAhead}
+use Rattle.text.specs.Rows.{RowOf, ahead, proofAhead}
+use Rattle.numerals.specs.Headings.{isHeading}
 use Rattle.text.specs.Nodes.{nodesAhead}
 use Rattle.text.specs.declared.rows.Found.{Found}
 use Rattle.text.specs.declared.rows.Found.the-variants.{At, Nothing}

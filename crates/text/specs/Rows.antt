@@ -1,5 +1,5 @@
 -- What the functions on lines give.
-use Prim.Native.Nat.{ℕ, suc, _+_, _<_, _≤_}
+use Prim.Native.Nat.{ℕ, _+_, _<_, _≤_}
 use mathlib.Core.Path.{_≡_}
 use mathlib.Core.Bool.{Bool}
 use mathlib.Core.List.{List, _++_}
@@ -8,24 +8,14 @@ use lib.Dec.{eqb}
 use lib.IntN.{ℤ}
 use lib.ListN.{length, drop}
 use lib.Seq.{sets}
-use Rattle.stab.specs.Basic.{if_then_else_, _and_}
-use Rattle.stab.specs.Text.{sameBytes, someIf}
+use Rattle.stab.specs.Basic.{_and_}
+use Rattle.stab.specs.Text.{someIf}
 use Rattle.stab.specs.Read.{Reading, read, _andThen_, ProofText}
-use Rattle.numerals.specs.Here.{firstLine, afterLine, row}
+use Rattle.numerals.specs.Here.{afterLine, row}
 use Rattle.text.specs.declared.rows.Part.{Part}
 use Rattle.text.specs.declared.rows.Part.the-variants.{Bad, Ended, Open}
 use Rattle.text.specs.declared.rows.Found.{Found}
 use Rattle.text.specs.declared.rows.Found.the-variants.{At, Nothing}
-
--- ---- headings
-
--- the first line is the heading
-unfoldable pub isHeading : List ℕ → List ℕ → Bool
-isHeading h xs = firstLine xs .ended and sameBytes (firstLine xs .content) h
-
--- the place after it, 0 where it is another line
-unfoldable pub afterHeading : List ℕ → List ℕ → ℕ → ℕ
-afterHeading h text at = if isHeading h (drop at text) then at + suc (length h) else 0
 
 -- ---- rows
 

@@ -87,7 +87,7 @@ fn heading_line(text: &[u8], at: usize, h: &[u8], line: usize, after: Awaited) -
     requires { ⌜ (at ≤ length (now text)) × (lacks 10 (now h) ≡ true) ⌝ }
     ensures { λ r. ⌜ r ≡ headed (now (h .entry)) (now (text .entry)) at line after ⌝ }
 {
-    let next = rows::heading(text, at, h);
+    let next = numerals::heading(text, at, h);
     if next == 0 {
         return Taken {
             next: at,

@@ -1,30 +1,8 @@
-// Lines of a text: headings, and rows of numbers that go into a lent table.
+// Rows of a text: numbers of a line that go into a lent table.
 use numerals::Step;
-ghost use mathlib.Core.Path.{_≡_};
-ghost use mathlib.Core.Bool.{true};
 ghost use Prim.Native.Nat.{_+_, _≤_, _<_, _^_};
 ghost use lib.ListN.{length};
-ghost use Rattle.stab.proofs.Texts.Lines.{lacks};
-ghost use Rattle.text.specs.Rows.{afterHeading, PartOf, RowOf};
-
-// The place after a heading's line, if that line stands at a place; 0 if not.
-pub fn heading(text: &[u8], at: usize, h: &[u8]) -> usize
-    requires { ⌜ (at ≤ length (now text)) × (lacks 10 (now h) ≡ true) ⌝ }
-    ensures { λ r. ⌜ r ≡ afterHeading (now (h .entry)) (now (text .entry)) at ⌝ }
-{
-    let mut j = 0;
-    while j < h.len() {
-        if numerals::byte_at(text, at + j) != numerals::byte_at(h, j) {
-            return 0;
-        }
-        j += 1;
-    }
-    let e = at + h.len();
-    if numerals::byte_at(text, e) != 10 {
-        return 0;
-    }
-    e + 1
-}
+ghost use Rattle.text.specs.Rows.{PartOf, RowOf};
 
 // What reading numbers of a line comes to: one is no number, or the line has ended, or it goes on after as many as were asked for.
 // `to` is the place after the last in the table, `next` the place to read on from.

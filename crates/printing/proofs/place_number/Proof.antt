@@ -5,8 +5,8 @@ use borrow.Author.Needs.{needs}
 use Rattle.stab.specs.Answer.{placeCode, placeNumber}
 use Rattle.stab.specs.declared.Place.{Place}
 use Rattle.signed.proofs.Signs.{read-back}
-use Rattle.program.proofs.print.place_number.Statement.{statement}
-use Rattle.program.proofs.print.place_number.Tie as tie
+use Rattle.printing.proofs.place_number.Statement.{statement}
+use Rattle.printing.proofs.place_number.Tie as tie
 
 enum-told : tie.Need-enum-told
 enum-told c = search needs

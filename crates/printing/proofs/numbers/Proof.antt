@@ -12,9 +12,9 @@ use Rattle.stab.specs.declared.Verdict.{Verdict}
 use Rattle.stab.specs.declared.Verdict.the-variants.{Accepted, Refused}
 use Rattle.stab.proofs.Packed.{number-range}
 use Rattle.signed.proofs.Signs.{read-back}
-use Rattle.program.specs.Printing.{numberRow}
-use Rattle.program.proofs.print.numbers.Statement.{statement}
-use Rattle.program.proofs.print.numbers.Tie as tie
+use Rattle.printing.specs.Printing.{numberRow}
+use Rattle.printing.proofs.numbers.Statement.{statement}
+use Rattle.printing.proofs.numbers.Tie as tie
 
 code-small : (why : Refusal) (p : Place) → Packs (Refused why p) → placeCode p ≤ 99999
 code-small why Whole h = omega arith

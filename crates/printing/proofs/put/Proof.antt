@@ -8,10 +8,10 @@ use lib.ListN.{length, length-append, length-replicate}
 use Rattle.stab.specs.Text.{bytes, rowLine, headingLine}
 use Rattle.digits.specs.Over.{over}
 use Rattle.digits.proofs.Overs.{Room, lent-start, lent-room, lent-over, lent-count, count-fits}
-use Rattle.program.specs.Printing.{printedRow}
-use Rattle.program.proofs.Prints.{over-zeros}
-use Rattle.program.proofs.print.put.Statement.{statement}
-use Rattle.program.proofs.print.put.Tie as tie
+use Rattle.printing.specs.Printing.{printedRow}
+use Rattle.printing.proofs.Prints.{over-zeros}
+use Rattle.printing.proofs.put.Statement.{statement}
+use Rattle.printing.proofs.put.Tie as tie
 
 abbrev Heading : List ℕ
 Heading = headingLine (bytes "answer place nodes links")

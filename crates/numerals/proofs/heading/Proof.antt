@@ -5,11 +5,11 @@ use borrow.Author.Tests.{eq-eqb, ne-eqb}
 use mathlib.Core.Path.{_≡_, sym, _∙_, ap}
 use lib.ListN.{length, drop, getD}
 use lib.Dec.{eqb}
-use Rattle.text.specs.Rows.{isHeading}
+use Rattle.numerals.specs.Headings.{isHeading}
 use Rattle.numerals.proofs.Runs.{getD-any}
-use Rattle.text.proofs.Headings.{heading-on, heading-off, heading-end, after-yes, after-no}
-use Rattle.text.proofs.rows.heading.Statement.{statement}
-use Rattle.text.proofs.rows.heading.Tie as tie
+use Rattle.numerals.proofs.Headings.{heading-on, heading-off, heading-end, after-yes, after-no}
+use Rattle.numerals.proofs.heading.Statement.{statement}
+use Rattle.numerals.proofs.heading.Tie as tie
 
 abbrev Inv-loop : tie.InvT-loop
 Inv-loop text at h j₀ j = (j ≤ length h) × (isHeading (drop j h) (drop (at + j) text) ≡ isHeading h (drop at text))

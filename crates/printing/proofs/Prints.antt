@@ -21,7 +21,7 @@ use Rattle.stab.proofs.Bools.{and-both}
 use Rattle.stab.proofs.Packed.{number-range}
 use Rattle.digits.specs.Over.{over}
 use Rattle.output.proofs.Spreads.{row-length, spread-most}
-use Rattle.program.specs.Printing.{numberRow, printedRow, Counts}
+use Rattle.printing.specs.Printing.{numberRow, printedRow, Counts}
 
 -- ---- a text over zeros
 

@@ -4,10 +4,10 @@ use lib.ListN.{length}
 use borrow.Author.Needs.{needs}
 use Rattle.stab.specs.Text.{padded}
 use Rattle.stab.specs.Answer.{verdictNumbers}
-use Rattle.program.specs.Printing.{printedRow}
-use Rattle.program.proofs.Prints.{printed-row, row-some, row-fits, row-digits}
-use Rattle.program.proofs.print.print.Statement.{statement}
-use Rattle.program.proofs.print.print.Tie as tie
+use Rattle.printing.specs.Printing.{printedRow}
+use Rattle.printing.proofs.Prints.{printed-row, row-some, row-fits, row-digits}
+use Rattle.printing.proofs.print.Statement.{statement}
+use Rattle.printing.proofs.print.Tie as tie
 
 numbers-requires : tie.Need-numbers-requires
 numbers-requires c κs = search needs

@@ -17,10 +17,10 @@ use Rattle.stab.specs.Read.{read, stopped, require, headingAt}
 use Rattle.stab.specs.declared.Refusal.the-variants.{Heading}
 use Rattle.stab.proofs.Bools.{and-left, and-right, and-first-false, and-second-false, decide, if-true, if-false, false-of-not}
 use Rattle.stab.proofs.Texts.Lines.{lacks}
 use Rattle.numerals.specs.Here.{firstLine, afterLine}
-use Rattle.text.specs.Rows.{isHeading, afterHeading}
+use Rattle.numerals.specs.Headings.{isHeading, afterHeading}
 use Rattle.numerals.proofs.Runs.{at-place}
-use Rattle.text.proofs.Lines.{line-end, line-byte, after-end, after-byte, lines-first, lines-nil}
+use Rattle.numerals.proofs.Lines.{line-end, line-byte, after-end, after-byte, lines-first, lines-nil}
 
 -- ---- byte by byte
 

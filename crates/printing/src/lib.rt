@@ -3,13 +3,13 @@ use stab::Place;
 use stab::Verdict;
 ghost use mathlib.Core.Path.{_≡_};
 ghost use mathlib.Core.Bool.{true};
-ghost use Prim.Native.Nat.{_+_, _≤_};
+ghost use Prim.Native.Nat.{_≤_};
 ghost use lib.ListN.{length};
 ghost use Rattle.stab.specs.Basic.{allOf};
 ghost use Rattle.stab.specs.Text.{fiveDigits, padded};
 ghost use Rattle.stab.specs.Answer.{placeCode, placeNumber, verdictNumbers, Packs};
 ghost use Rattle.stab.specs.Program.{printed};
-ghost use Rattle.program.specs.Printing.{numberRow, printedRow};
+ghost use Rattle.printing.specs.Printing.{numberRow, printedRow};
 
 const HEADING: [u8; 24] = *b"answer place nodes links";
 
