@@ -34,21 +34,14 @@ module _ (work : List ℕ) (j r l e : ℕ) where
   abbrev three : List ℕ
   three = set two (4 * j + 2) e
 
-  kept-before : (x : ℕ) → x < 4 * j → getD (kept work j r l e) x 0 ≡ getD work x 0
+  -- what stands anywhere but at the four places
+  pub kept-other : (x : ℕ) → ((i : ℕ) → i < 4 → x ≡ 4 * j + i → ⊥) → getD (kept work j r l e) x 0 ≡ getD work x 0
   unfolding kept
-  kept-before x p =
-      getD-set-other three (4 * j + 3) x 0 0 (λ q. omega arith)
-      ∙ getD-set-other two (4 * j + 2) x e 0 (λ q. omega arith)
-      ∙ getD-set-other one (4 * j + 1) x l 0 (λ q. omega arith)
-      ∙ getD-set-other work (4 * j) x r 0 (λ q. omega arith)
-
-  pub kept-after : (x : ℕ) → 4 * j + 3 < x → getD (kept work j r l e) x 0 ≡ getD work x 0
-  unfolding kept
-  kept-after x p =
-      getD-set-other three (4 * j + 3) x 0 0 (λ q. omega arith)
-      ∙ getD-set-other two (4 * j + 2) x e 0 (λ q. omega arith)
-      ∙ getD-set-other one (4 * j + 1) x l 0 (λ q. omega arith)
-      ∙ getD-set-other work (4 * j) x r 0 (λ q. omega arith)
+  kept-other x f =
+      getD-set-other three (4 * j + 3) x 0 0 (λ q. f 3 (omega arith) q)
+      ∙ getD-set-other two (4 * j + 2) x e 0 (λ q. f 2 (omega arith) q)
+      ∙ getD-set-other one (4 * j + 1) x l 0 (λ q. f 1 (omega arith) q)
+      ∙ getD-set-other work (4 * j) x r 0 (λ q. f 0 (omega arith) (omega arith))
 
   pub kept-length : length (kept work j r l e) ≡ length work
   unfolding kept
@@ -129,7 +122,7 @@ module _ {nodes : List ℤ} {least : ℤ} {work : List ℕ} {j u : ℕ} (next : 
     elsewhere x f = getD-set-other (kept work j r l e) (4 * u + 3) x (r + 1) 0 f
 
     before : (x : ℕ) → x < 4 * j → (x ≡ 4 * u + 3 → ⊥) → getD (set (kept work j r l e) (4 * u + 3) (r + 1)) x 0 ≡ getD work x 0
-    before x p f = elsewhere x f ∙ kept-before work j r l e x p
+    before x p f = elsewhere x f ∙ kept-other work j r l e x (λ i k q. omega arith)
 
     children-at : (i : ℕ) → i < j → getD (set (kept work j r l e) (4 * u + 3) (r + 1)) (4 * i + 3) 0 ≡ childCountOf nodes (j + 1) i
     children-at i p =
@@ -166,7 +159,7 @@ module _ {nodes : List ℤ} {least : ℤ} {work : List ℕ} {j u : ℕ} (next : 
         }
 
     pub work-stays : Stays (4 * (j + 1)) work (set (kept work j r l e) (4 * u + 3) (r + 1))
-    work-stays x p = elsewhere x (λ w. omega (arith, parent-before)) ∙ kept-after work j r l e x (omega arith)
+    work-stays x p = elsewhere x (λ w. omega (arith, parent-before)) ∙ kept-other work j r l e x (λ i k q. omega arith)
 
     pub work-more : AllWorked nodes least (j + 1) (set (kept work j r l e) (4 * u + 3) (r + 1)) (j + 1)
     work-more i p =
