@@ -75,7 +75,7 @@ enum zorambi_answer_number {
   ZORAMBI_SET = 9,              /* a set's place, order or members; from here to 17 place: the node */
   ZORAMBI_PARENT = 10,          /* no node (-1); a wrong parent, or node 0's set */
   ZORAMBI_DRAWN = 11,           /* the set has a row that neither its parent nor its parent's rule gives */
-  ZORAMBI_STEP = 12,            /* no such rule, or a field, kind, symbol or by that does not fit */
+  ZORAMBI_FIELDS = 12,          /* no such rule, or a field, kind, symbol or by that does not fit */
   ZORAMBI_TARGET = 13,          /* a link to no proper ancestor */
   ZORAMBI_BOUND = 14,           /* a bound, or the index of a clash */
   ZORAMBI_PARTNER = 15,         /* with or other of an unfolding */

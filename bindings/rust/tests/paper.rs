@@ -34,7 +34,7 @@ fn the_record_and_its_neighbours() {
     assert_eq!(with_schema("4 1\n", "4 2\n"), refused(Refusal::Bound, 2));
     assert_eq!(with_proof("-1 1 1 5 7\n", "-1 1 2 5 7\n"), refused(Refusal::Bound, 5));
     assert_eq!(with_proof("1 1 5 7\n", "1 1 5\n"), refused(Refusal::Lowered, 5));
-    assert_eq!(with_proof("4 6 6 8 ", "4 6 8 6 "), refused(Refusal::Step, 6));
+    assert_eq!(with_proof("4 6 6 8 ", "4 6 8 6 "), refused(Refusal::Fields, 6));
     assert_eq!(with_proof("3 4 2 5 6 ", "3 4 2 5 8 "), refused(Refusal::Partner, 4));
     assert_eq!(with_proof("4 6 6 8 -1 -1 0 6 8\n", ""), refused(Refusal::Children, 4));
     assert_eq!(with_proof("0 6 8\n", "0 6 7 8\n"), ACCEPTED);

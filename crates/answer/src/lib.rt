@@ -22,7 +22,7 @@ pub fn number(why: Refusal) -> u64
         Refusal::Set => 9,
         Refusal::Parent => 10,
         Refusal::Drawn => 11,
-        Refusal::Step => 12,
+        Refusal::Fields => 12,
         Refusal::Target => 13,
         Refusal::Bound => 14,
         Refusal::Partner => 15,

@@ -12,7 +12,7 @@ use Rattle.stab.specs.Answer.{refusalNumber, placeNumber, refusedNumbers
 use Rattle.stab.specs.declared.Place.{Place}
 use Rattle.stab.specs.declared.Place.the-variants.{Whole, At}
 use Rattle.stab.specs.declared.Refusal.{Refusal}
-use Rattle.stab.specs.declared.Refusal.the-variants.{TextTooLong, TableTooShort, Heading, Line, TooMany, Root, IllFormed, TooLarge, Set, Parent, Drawn, Step, Target, Bound, Partner, Lowered, Children, Pair, Width, False, Number, Output}
+use Rattle.stab.specs.declared.Refusal.the-variants.{TextTooLong, TableTooShort, Heading, Line, TooMany, Root, IllFormed, TooLarge, Set, Parent, Drawn, Fields, Target, Bound, Partner, Lowered, Children, Pair, Width, False, Number, Output}
 use Rattle.stab.specs.declared.Verdict.{Verdict}
 use Rattle.stab.specs.declared.Verdict.the-variants.{Accepted, Refused}
 use Rattle.stab.proofs.Scans.{count-le}
@@ -33,7 +33,7 @@ number-range TooLarge = (omega arith, omega arith)
 number-range Set = (omega arith, omega arith)
 number-range Parent = (omega arith, omega arith)
 number-range Drawn = (omega arith, omega arith)
-number-range Step = (omega arith, omega arith)
+number-range Fields = (omega arith, omega arith)
 number-range Target = (omega arith, omega arith)
 number-range Bound = (omega arith, omega arith)
 number-range Partner = (omega arith, omega arith)

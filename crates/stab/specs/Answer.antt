@@ -5,7 +5,7 @@ use Rattle.stab.specs.Basic.{nat}
 use Rattle.stab.specs.declared.Place.{Place}
 use Rattle.stab.specs.declared.Place.the-variants.{Whole, At}
 use Rattle.stab.specs.declared.Refusal.{Refusal}
-use Rattle.stab.specs.declared.Refusal.the-variants.{TextTooLong, TableTooShort, Heading, Line, TooMany, Root, IllFormed, TooLarge, Set, Parent, Drawn, Step, Target, Bound, Partner, Lowered, Children, Pair, Width, False, Number, Output}
+use Rattle.stab.specs.declared.Refusal.the-variants.{TextTooLong, TableTooShort, Heading, Line, TooMany, Root, IllFormed, TooLarge, Set, Parent, Drawn, Fields, Target, Bound, Partner, Lowered, Children, Pair, Width, False, Number, Output}
 use Rattle.stab.specs.declared.Verdict.{Verdict}
 use Rattle.stab.specs.declared.Verdict.the-variants.{Accepted, Refused}
 use Rattle.stab.specs.declared.SchemaRead.{SchemaRead}
@@ -31,7 +31,7 @@ refusalNumber TooLarge = 8
 refusalNumber Set = 9
 refusalNumber Parent = 10
 refusalNumber Drawn = 11
-refusalNumber Step = 12
+refusalNumber Fields = 12
 refusalNumber Target = 13
 refusalNumber Bound = 14
 refusalNumber Partner = 15

@@ -12,7 +12,7 @@ use Rattle.stab.specs.Node.{Tableau, rows, rowCount, setEnd, setFits, pa
 use Rattle.stab.specs.Rule.{ofRule, drawn, fieldsFit, targetFits, boundFits, partnersFit, loweredFits, childrenFit}
 use Rattle.stab.specs.declared.Place.the-variants.{Whole, At}
 use Rattle.stab.specs.declared.Refusal.{Refusal}
-use Rattle.stab.specs.declared.Refusal.the-variants.{TableTooShort, TooMany, Root, IllFormed, TooLarge, Set, Parent, Drawn, Step, Target, Bound, Partner, Lowered, Children}
+use Rattle.stab.specs.declared.Refusal.the-variants.{TableTooShort, TooMany, Root, IllFormed, TooLarge, Set, Parent, Drawn, Fields, Target, Bound, Partner, Lowered, Children}
 use Rattle.stab.specs.declared.Finding.{Finding}
 use Rattle.stab.specs.declared.Finding.the-variants.{Nothing, Found}
 use Rattle.stab.specs.declared.Verdict.{Verdict}
@@ -66,7 +66,7 @@ parentRefusal T j = atUnless (parentFits T j) Parent j
 unfoldable pub stepRefusal : Tableau → ℕ → Option Verdict
 stepRefusal T j =
     atUnless (drawn T j) Drawn j otherwise
-    atUnless (fieldsFit T j) Step j otherwise
+    atUnless (fieldsFit T j) Fields j otherwise
     atUnless (targetFits T j) Target j otherwise
     atUnless (boundFits T j) Bound j otherwise
     atUnless (partnersFit T j) Partner j otherwise

@@ -21,7 +21,7 @@ pub enum Refusal {
     Set,
     Parent,
     Drawn,
-    Step,
+    Fields,
     Target,
     Bound,
     Partner,

@@ -11,7 +11,7 @@ use Rattle.stab.specs.Rule.{drawn, drawnFrom, fieldsFit, targetFits, boundFits,
 use Rattle.stab.specs.Check.{finding, atUnless, stepRefusal, nodeRefusal}
 use Rattle.stab.specs.declared.Place.the-variants.{At}
 use Rattle.stab.specs.declared.Refusal.{Refusal}
-use Rattle.stab.specs.declared.Refusal.the-variants.{Drawn, Step, Target, Bound, Partner, Lowered, Children}
+use Rattle.stab.specs.declared.Refusal.the-variants.{Drawn, Fields, Target, Bound, Partner, Lowered, Children}
 use Rattle.stab.specs.declared.Finding.the-variants.{Nothing, Found}
 use Rattle.stab.specs.declared.Verdict.{Verdict}
 use Rattle.stab.specs.declared.Verdict.the-variants.{Refused}
@@ -45,7 +45,7 @@ module _ (T : Tableau) (j : ℕ) where
   drawn-found h = found _ _ _ _ h
 
   module _ (h₁ : drawn T j ≡ true) where
-    pub fields-found : fieldsFit T j ≡ false → finding (Found Step (At j)) ≡ stepRefusal T j
+    pub fields-found : fieldsFit T j ≡ false → finding (Found Fields (At j)) ≡ stepRefusal T j
     unfolding stepRefusal
     fields-found h = found _ _ _ _ h ∙ passes _ _ _ _ h₁
 

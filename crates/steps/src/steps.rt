@@ -115,7 +115,7 @@ fn step(
     }
     if !fields::fields_fit(schema, proof, nodes, members, t, j) {
         return Finding::Found {
-            why: Refusal::Step,
+            why: Refusal::Fields,
             place: Place::At(j),
         };
     }

@@ -14,7 +14,7 @@ use Rattle.stab.specs.Node.{Tableau, Node, Bound, rowCount, isRow, row, 
 use Rattle.stab.specs.Rule.{unused, rule, ofRule, kindFits, onStands, otherFits, linkFits, symbolFits, fieldsFit, targetFits, splitFits, unfoldFits, indexAt, clashFits, voidFits, loopFits, boundFits, shortened, isInstance, partnersFit, isLowered, hasLowered, loweredFits, childrenFit}
 use Rattle.stab.specs.Check.{stepRefusal, nodeRefusal}
 use Rattle.stab.specs.Keeps.{Below, Alike, KeepsParent, Ancestor, KeepsDrawn, KeepsKind, SameIndex, Loops, KeepsStep}
-use Rattle.stab.specs.declared.Refusal.the-variants.{Drawn, Step, Target, Bound as BoundWrong, Partner, Lowered, Children}
+use Rattle.stab.specs.declared.Refusal.the-variants.{Drawn, Fields as FieldsWrong, Target, Bound as BoundWrong, Partner, Lowered, Children}
 use Rattle.stab.proofs.Whole.{eqZ-of, eqZ-true, eqZ-not, not-eqZ}
 use Rattle.stab.proofs.Bools.{decide}
 use Rattle.stab.proofs.Tests.{_tests_, itself, _&_, or-tests, _⇒_, not-tests, if-tests, le-tests, eq-tests, leZ-tests, ltZ-tests, eqZ-tests, below-tests, has-tests, all-tests, agree-tests, _clears_, at-clears, _then_}
@@ -180,7 +180,7 @@ unfolding nodeRefusal stepRefusal childrenFit
 judged-clears T keeps j l =
     Iff·trans
     ((at-clears Drawn j (drawn-tests T j) then
-    at-clears Step j (fields-tests T j) then
+    at-clears FieldsWrong j (fields-tests T j) then
     at-clears Target j (target-tests T keeps j l) then
     at-clears BoundWrong j (bound-tests T j) then
     at-clears Partner j (partners-tests T j) then
