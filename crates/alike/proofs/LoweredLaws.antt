@@ -6,7 +6,6 @@ use mathlib.Core.Bool.{true, false}
 use mathlib.Core.List.{List, [], _∷_}
 use lib.IntN.{ℤ, pos}
 use lib.ListN.{getD, length}
-use Rattle.stab.specs.Basic.{_or_}
 use Rattle.stab.specs.Formula.{Formula, const, lit, join, iter, size}
 use Rattle.stab.specs.Alike.{lower, agree}
 use Rattle.stab.specs.Node.{Tableau}

@@ -8,7 +8,7 @@ use mathlib.Core.List.{List}
 use lib.IntN.{ℤ, pos, negsuc, negℤ}
 use lib.Signed.{ltZ}
 use borrow.Author.Tests.{le-ltb}
-use Rattle.stab.specs.Basic.{_and_, if_then_else_, eqZ, nat, below, count}
+use Rattle.stab.specs.Basic.{if_then_else_, eqZ, nat, below, count}
 use Rattle.stab.specs.Node.{Bound, nodeAt, names, childCountOf, rank, splitBound, childBound, firstBound, boundIf, boundN, boundOf}
 use Rattle.stab.proofs.Bools.{and-first-false, and-second-false, if-true, if-false}
 use Rattle.stab.proofs.Whole.{eqZ-of, eqZ-not, nat-of}

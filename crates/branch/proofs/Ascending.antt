@@ -11,7 +11,7 @@ use lib.Signed.{ltZ}
 use lib.ListN.{getD, length, take, drop, length-drop}
 use lib.Seq.{getD-take, getD-drop, length-take-le}
 use borrow.Author.Tests.{ltb-true, ltb-false}
-use Rattle.stab.specs.Basic.{_and_, eqZ, has, ascending}
+use Rattle.stab.specs.Basic.{eqZ, has, ascending}
 use Rattle.stab.proofs.Bools.{and-left, and-right, or-left, or-right, or-false, decide}
 use Rattle.stab.proofs.Whole.{atom, num, of-lt, lt-of, not-lt-of, of-not-lt, of-eq, eqZ-not}
 use Rattle.stab.proofs.Scans.{below-suc}

@@ -7,7 +7,7 @@ use mathlib.Core.List.{List, [], _∷_, _++_, append-assoc, append-nil}
 use lib.IntN.{ℤ, pos, negsuc}
 use lib.ListN.{length, take, drop, getD, set, length-append, take-append-drop}
 use lib.Seq.{take-suc, set-at}
-use Rattle.stab.specs.Basic.{_and_, allOf}
+use Rattle.stab.specs.Basic.{allOf}
 use Rattle.stab.specs.Text.{decimal, minus, space, rowLine}
 use Rattle.stab.proofs.Bools.{and-left, and-right, and-both, and-first-false, and-second-false}
 use Rattle.stab.proofs.Texts.Lines.{rowBytes, row-line, join, spaced}

@@ -11,7 +11,7 @@ use lib.Dec.{ltb, eqb}
 use lib.IntN.{ℤ, pos, negℤ, _+ℤ_}
 use lib.Signed.{leZ, ltZ}
 use borrow.Author.Tests.{ltb-true, ltb-false, lt-ltb, le-ltb, eqb-true, eq-eqb, ne-eqb}
-use Rattle.stab.specs.Basic.{if_then_else_, _and_, _or_, eqZ, nat, within, count, scan}
+use Rattle.stab.specs.Basic.{if_then_else_, _and_, eqZ, nat, within, count, scan}
 use Rattle.stab.specs.Model.{pairSymbol, pairIndex, pairInRange, pairBefore, pairFollows, pairRefusal, isPair, listed}
 use Rattle.stab.specs.Check.{atUnless}
 use Rattle.stab.specs.declared.Place.the-variants.{At}

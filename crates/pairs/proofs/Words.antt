@@ -1,5 +1,5 @@
 -- The laws of words.
-use Prim.Native.Nat.{ℕ, zero, suc, _+_, _-_, _*_, _%_, _^_, _≤_, _<_}
+use Prim.Native.Nat.{ℕ, zero, suc, _+_, _*_, _%_, _^_, _≤_, _<_}
 use native.Mathlib.Omega.{arith}
 use native.Mathlib.Nat.{add-zero, zero-lt-suc}
 use mathlib.Core.Path.{_≡_, refl, sym, _∙_, ap, ap₂}

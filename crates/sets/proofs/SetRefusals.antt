@@ -1,5 +1,5 @@
 -- The pass over the sets against the definition of refusal 9, and what it says of each set that it passed.
-use Prim.Native.Nat.{ℕ, zero, suc, _+_, _<_, _≤_}
+use Prim.Native.Nat.{ℕ, zero, suc, _+_, _≤_}
 use native.Mathlib.Omega.{arith}
 use mathlib.Core.Path.{_≡_, refl, sym, _∙_, ap, ap₂}
 use mathlib.Core.Bool.{Bool, true, false, not}
@@ -9,7 +9,7 @@ use mathlib.Core.Option.{none, some}
 use lib.Dec.{eqb}
 use lib.IntN.{ℤ, pos, _+ℤ_}
 use lib.Signed.{leZ}
-use lib.ListN.{getD, length}
+use lib.ListN.{length}
 use Rattle.stab.specs.Basic.{_and_, _implies_, eqZ, nat, below, allOf, ascending, scan}
 use Rattle.stab.specs.Formula.{joined, tree, loose, isOuter}
 use Rattle.stab.specs.Node.{Tableau, rows, rowCount, isRow, formula, isOuterRow, node, nodeAt, set, setOf, setEnd, setStart, setFollows, setFits}
@@ -24,8 +24,6 @@ use Rattle.stab.proofs.Whole.{atom, num, _⊕_, le-of, of-le, eqZ-true, nat-pos
 use Rattle.formula.specs.Facts.{bit, AllKnown}
 use Rattle.branch.specs.Sets.{outerBy, listFits, placeFits, setRight, Within, SetKnown, AllSetsKnown}
 use Rattle.branch.specs.Work.{tableau}
-use Rattle.branch.proofs.Ascending.{part-length, part-at}
-use Rattle.sets.proofs.SetLaws.{at-all}
 
 and-assoc : (a b c : Bool) → ((a and b) and c) ≡ (a and (b and c))
 unfolding _and_
@@ -154,18 +152,3 @@ module _ (T : Tableau) (j : ℕ) (known : SetKnown T j) (held : T .memberCount �
   pub set-within : Within (T .nodes) (length (T .members)) j
   unfolding node
   set-within = omega (arith, known .end)
-
-  pub set-length : length (set T j) ≡ nat (node T j .size)
-  unfolding set setOf node
-  set-length = part-length (T .members) _ _ set-within
-
-  pub set-at : (i : ℕ) → i < nat (node T j .size) → getD (set T j) i (pos 0) ≡ getD (T .members) (nat (node T j .start) + i) (pos 0)
-  unfolding set setOf node
-  set-at i p = part-at (T .members) _ _ set-within i p
-
-  -- each member is the number of an outer row
-  pub member-outer : (i : ℕ) → i < nat (node T j .size) → isOuterRow T (getD (T .members) (nat (node T j .start) + i) (pos 0)) ≡ true
-  member-outer i p = ap (isOuterRow T) (sym (set-at i p)) ∙ at-all (isOuterRow T) (pos 0) (set T j) (known .outer) i (omega (arith, set-length))
-
-  pub member-below : (i : ℕ) → i < nat (node T j .size) → below (rowCount T) (getD (T .members) (nat (node T j .start) + i) (pos 0)) ≡ true
-  member-below i p = outer-below T _ (member-outer i p)

@@ -1,12 +1,12 @@
 -- For an auditor: the meaning that `value` computes is the paper's.
-use Prim.Native.Nat.{ℕ, zero, suc, _+_, _<_, _≤_}
+use Prim.Native.Nat.{ℕ, zero, suc, _<_}
 use native.Mathlib.Omega.{arith}
 use mathlib.Core.Path.{_≡_, refl, sym, _∙_, ap}
-use mathlib.Core.Logic.{_⊎_, ⊎-elim, _↔_}
-use mathlib.Core.Bool.{Bool, true, false, false≢true}
+use mathlib.Core.Logic.{⊎-elim, _↔_}
+use mathlib.Core.Bool.{Bool, true, false≢true}
 use lib.IntN.{ℤ, pos, _+ℤ_, _-ℤ_}
 use lib.Signed.{leZ, _≤ℤ_}
-use Rattle.stab.specs.Basic.{_and_, _or_, nat}
+use Rattle.stab.specs.Basic.{nat}
 use Rattle.stab.specs.Formula.{Row, conj, disj, Formula, iter, tree, isBody, wellFormed}
 use Rattle.stab.specs.Meaning.{Assignment, op, empty, over, rangeSize, value}
 use Rattle.stab.specs.Alike.{lower, instance}

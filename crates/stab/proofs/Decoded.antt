@@ -4,7 +4,7 @@ use native.Mathlib.Omega.{arith}
 use mathlib.Core.Path.{_≡_, refl, sym, _∙_, ap, ap₂, subst}
 use mathlib.Core.Bool.{Bool, true, false, false≢true}
 use lib.IntN.{ℤ, pos}
-use Rattle.stab.specs.Basic.{if_then_else_, eqZ, _and_, nat, below}
+use Rattle.stab.specs.Basic.{if_then_else_, eqZ, nat, below}
 use Rattle.stab.specs.Formula.{Row, Op, conj, disj, Kind, constant, literal, junction, iteration, unknown, kindOf, baseOf, Formula, const, lit, join, iter, decode, tree, wellFormedAs, wellFormed, offset, isBody}
 use Rattle.stab.proofs.Bools.{and-left, and-right}
 use Rattle.stab.proofs.Trees.{tree-is, part-of, below-nat}

@@ -8,15 +8,12 @@ pub mod Refusals
 use Prim.Native.Nat.{ℕ}
 use mathlib.Core.Path.{_≡_}
 use mathlib.Core.Logic.{_↔_}
-use mathlib.Core.Option.{none, some}
+use mathlib.Core.Option.{none}
 use Rattle.stab.specs.Node.{Tableau}
 use Rattle.stab.specs.Check.{refusal, linkCount, verdict, check}
 use Rattle.stab.specs.Model.{Model, modelRefusal, checkModel}
 use Rattle.stab.specs.Keeps.{Keeps, KeepsModel}
-use Rattle.stab.specs.declared.Place.{Place}
-use Rattle.stab.specs.declared.Refusal.{Refusal}
-use Rattle.stab.specs.declared.Verdict.{Verdict}
-use Rattle.stab.specs.declared.Verdict.the-variants.{Accepted, Refused}
+use Rattle.stab.specs.declared.Verdict.the-variants.{Accepted}
 use Checked.{tableau-clears}
 use Models.{model-clears}
 use Refusals.{of-refusal, of-model-refusal, accepted}
@@ -38,27 +35,10 @@ model-accepts-exactly M = (
 )
 
 -- an accepted model has both counts 0
-pub model-counts : (M : Model) (n l : ℕ) → checkModel M ≡ Accepted n l → (n ≡ 0) × (l ≡ 0)
+pub model-counts-zero : (M : Model) (n l : ℕ) → checkModel M ≡ Accepted n l → (n ≡ 0) × (l ≡ 0)
 unfolding checkModel
-model-counts M n l h = let a = accepted (modelRefusal M) 0 0 n l (of-model-refusal M) h in (a .1, a .2)
+model-counts-zero M n l h = let a = accepted (modelRefusal M) 0 0 n l (of-model-refusal M) h in (a .1, a .2)
 
--- ---- the same of what is found
-
+-- where nothing is found, the rules are kept
 pub keeps-of : (T : Tableau) → refusal T ≡ none → Keeps T
 keeps-of T = tableau-clears T .0
-
-pub of-keeps : (T : Tableau) → Keeps T → refusal T ≡ none
-of-keeps T = tableau-clears T .1
-
-pub keeps-model-of : (M : Model) → modelRefusal M ≡ none → KeepsModel M
-keeps-model-of M = model-clears M .0
-
-pub of-keeps-model : (M : Model) → KeepsModel M → modelRefusal M ≡ none
-of-keeps-model M = model-clears M .1
-
--- what is found is a refusal, never an acceptance
-pub refusal-refuses : (T : Tableau) (v : Verdict) → refusal T ≡ some v → (why : Refusal) × (place : Place) × (v ≡ Refused why place)
-refusal-refuses T v h = let r = of-refusal T v h in (r .0, r .1, r .2)
-
-pub model-refusal-refuses : (M : Model) (v : Verdict) → modelRefusal M ≡ some v → (why : Refusal) × (place : Place) × (v ≡ Refused why place)
-model-refusal-refuses M v h = let r = of-model-refusal M v h in (r .0, r .1, r .2)

@@ -3,7 +3,7 @@ use Prim.Native.Nat.{ℕ}
 use mathlib.Core.Path.{_≡_, refl, sym, _∙_, ap}
 use mathlib.Core.Bool.{Bool, true, false, not, false≢true, true≢false}
 use lib.IntN.{pos, negℤ}
-use Rattle.stab.specs.Basic.{nat, _or_}
+use Rattle.stab.specs.Basic.{nat}
 use Rattle.stab.specs.Formula.{Row, Kind, constant, literal, junction, iteration, unknown, kindOf, Base, nothing, parameter, index, Formula, const, lit, join, iter, tree, onIndex, loose, fixed, isBody, isOuter, mixes, offset, wellFormedAs, wellFormed}
 use Rattle.stab.specs.Keeps.{Loose, Fixed, Outer, FormedAs}
 use Rattle.stab.proofs.Bools.{false-of-not}

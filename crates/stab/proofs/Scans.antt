@@ -8,8 +8,7 @@ use mathlib.Core.Bool.{Bool, true, false, false≢true}
 use mathlib.Core.List.{List, [], _∷_, List·Memᴰ, List·Memᴰ·head, List·Memᴰ·tail, List·Memᴰ·cases-cons, List·Memᴰ·not-nil}
 use mathlib.Core.Option.{Option, none, some}
 use lib.IntN.{ℤ}
-use Rattle.stab.specs.Basic.{if_then_else_, _or_, scan, count, has, allOf, _and_, eqZ}
-use Rattle.stab.specs.Basic.{_otherwise_}
+use Rattle.stab.specs.Basic.{if_then_else_, scan, count, has, allOf, eqZ}
 use Rattle.stab.proofs.Bools.{otherwise-first, otherwise-second, otherwise-none, otherwise-some, and-left, and-right, and-both, or-cases, or-left, or-right}
 use Rattle.stab.proofs.Whole.{eqZ-true, eqZ-of}
 
@@ -63,13 +62,6 @@ count-true p i h =
 pub count-false : (p : ℕ → Bool) (i : ℕ) → p i ≡ false → count p (i + 1) ≡ count p i
 unfolding count if_then_else_
 count-false p i h = ap (count p) (add-one i) ∙ ap (λ (b : Bool). if b then suc (count p i) else count p i) h
-
-pub count-same : (p q : ℕ → Bool) (n : ℕ) → ((k : ℕ) → k < n → p k ≡ q k) → count p n ≡ count q n
-unfolding count if_then_else_
-count-same p q zero h = refl
-count-same p q (suc n) h =
-    ap (λ (b : Bool). if b then suc (count p n) else count p n) (h n (omega arith))
-    ∙ ap (λ (m : ℕ). if q n then suc m else m) (count-same p q n (λ k l. h k (omega arith)))
 
 pub count-le : (p : ℕ → Bool) (n : ℕ) → count p n ≤ n
 unfolding count if_then_else_

@@ -1,5 +1,5 @@
 -- Demand 3, on the definitions.
-use Prim.Native.Nat.{ℕ, zero, suc, _+_, _<_, _≤_}
+use Prim.Native.Nat.{ℕ, zero, suc, _+_, _<_}
 use native.Mathlib.Omega.{arith}
 use mathlib.Core.Path.{_≡_, refl, sym, _∙_, ap, ap₂, subst}
 use mathlib.Core.Logic.{⊎-elim}
@@ -23,7 +23,7 @@ use Rattle.stab.proofs.Whole.{atom, num, of-le, le-of, leZ-of, of-leZ, 
 use Rattle.stab.proofs.Trees.{tree-agrees, below-nat}
 use Rattle.stab.proofs.Bounds.{bound-first}
 use Rattle.stab.proofs.Tests.{below-tests}
-use Rattle.stab.proofs.Exactness.{accepts-exactly, model-accepts-exactly, model-counts}
+use Rattle.stab.proofs.Exactness.{accepts-exactly, model-accepts-exactly, model-counts-zero}
 use Steps.{Holds, refuted, mem-one}
 mod Steps
 
@@ -83,7 +83,7 @@ pub no-model : (M : Model) (n l : ℕ) → checkModel M ≡ Accepted n l → Irr
 unfolding satisfied schemaRow
 no-model M n l b T same nodes links a =
     let K = accepts-exactly T nodes links .0 a .0 in
-    let c = model-counts M n l b in
+    let c = model-counts-zero M n l b in
     let KM = model-accepts-exactly M .0 (b ∙ ap₂ Accepted (c .0) (c .1)) in
     let least≥0 : leZ (pos 0) (T .least) ≡ true = leZ-of (K .formulas .leastRange .0) in
     let in-range : leZ (T .least) (M .n) ≡ true = ap (λ (z : ℤ). leZ z (M .n)) (same .sameLeast) ∙ leZ-of (KM .inRange .0) in

@@ -27,7 +27,7 @@ use Rattle.stab.proofs.Bools.{and-left, and-right, and-both}
 use Rattle.stab.proofs.Whole.{eqZ-true, eqZ-of}
 use Lines.{text-lines}
 use Kinds.{schema-lines-back, schema-lines-are, proof-lines-back, proof-lines-are, model-lines-back, model-lines-are}
-use Outcomes.{passed, read-text, written, write-text, rows-held, rows-writable, table-length, table-stopped, table-read, output-length, padded-none}
+use Outcomes.{passed, read-text, written, write-text, rows-held, rows-writable, table-stopped, table-read, padded-none}
 
 fits-as : {x text : List ℕ} {n : ℕ} → x ≡ text → length text ≤ n → length x ≤ n
 fits-as e h = rw e h
@@ -203,65 +203,6 @@ unfolding readModel
 model-counts m text s h =
     let i = model-lines-are (lines text) s (passed (leb 8192 m) readModelLines text s h .gives) in
     (omega (arith, i .count), omega (arith, i .count, i .few))
-
--- ---- lent memory keeps its length
-
-proof-lent : (a b d : ℕ) (text : List ℕ) (p : ProofText) → readProof a b d text ≡ read p → (4096 ≤ a) × (9216 ≤ b) × (8192 ≤ d)
-unfolding readProof
-proof-lent a b d text p h =
-    let l = passed (leb 4096 a and leb 9216 b and leb 8192 d) readProofLines text p h .lent in
-    let r = and-right (leb 4096 a) _ l in
-    (leb-true 4096 a (and-left _ _ l), leb-true 9216 b (and-left _ _ r), leb-true 8192 d (and-right (leb 9216 b) _ r))
-
--- the table lent for a schema
-pub schema-table-length : (n : ℕ) (text : List ℕ) → length (schemaTable n (readSchema n text)) ≡ n
-unfolding schemaTable readSchema
-schema-table-length n text =
-    table-length (λ s. s .table) n (readSchema n text)
-    (λ s h. omega (arith, schema-counts n text s h .1, leb-true 4096 n (passed (leb 4096 n) readSchemaLines text s h .lent)))
-
--- the tables lent for a proof: rows
-pub proof-table-length : (a b d : ℕ) (text : List ℕ) → length (proofTable a (readProof a b d text)) ≡ a
-unfolding proofTable
-proof-table-length a b d text =
-    table-length (λ p. p .table) a (readProof a b d text)
-    (λ p h. omega (arith, proof-counts a b d text p h .1, proof-lent a b d text p h .0))
-
--- nodes
-pub node-table-length : (a b d : ℕ) (text : List ℕ) → length (nodeTable b (readProof a b d text)) ≡ b
-unfolding nodeTable
-node-table-length a b d text =
-    table-length (λ p. p .nodes) b (readProof a b d text)
-    (λ p h. omega (arith, proof-counts a b d text p h .3, proof-lent a b d text p h .1))
-
--- members
-pub member-table-length : (a b d : ℕ) (text : List ℕ) → length (memberTable d (readProof a b d text)) ≡ d
-unfolding memberTable
-member-table-length a b d text =
-    table-length (λ p. p .members) d (readProof a b d text)
-    (λ p h. omega (arith, proof-counts a b d text p h .4, proof-lent a b d text p h .2))
-
--- the table lent for a model
-pub pair-table-length : (n : ℕ) (text : List ℕ) → length (pairTable n (readModel n text)) ≡ n
-unfolding pairTable readModel
-pair-table-length n text =
-    table-length (λ s. s .table) n (readModel n text)
-    (λ s h. omega (arith, model-counts n text s h .1, leb-true 8192 n (passed (leb 8192 n) readModelLines text s h .lent)))
-
--- the output lent for a schema text
-pub schema-output-length : (t : List ℤ) (r : ℕ) (root least : ℤ) (n : ℕ) → length (output n (writeSchema t r root least n)) ≡ n
-unfolding writeSchema
-schema-output-length t r root least n = output-length _ _ _ n (schemaText t r root least)
-
--- for a proof text
-pub proof-output-length : (t : List ℤ) (r : ℕ) (nodes : List ℤ) (k : ℕ) (members : List ℤ) (c n : ℕ) → length (output n (writeProof t r nodes k members c n)) ≡ n
-unfolding writeProof
-proof-output-length t r nodes k members c n = output-length _ _ _ n (proofText t r nodes k members)
-
--- for a model text
-pub model-output-length : (v : ℤ) (t : List ℤ) (r n : ℕ) → length (output n (writeModel v t r n)) ≡ n
-unfolding writeModel
-model-output-length v t r n = output-length _ _ _ n (modelText v t r)
 
 -- ---- after a refusal lent memory is all 0; after success it is 0 past the last number or byte
 

@@ -5,7 +5,7 @@ use mathlib.Core.Path.{_≡_, refl, sym, _∙_, ap, ap₂}
 use mathlib.Core.Bool.{Bool, true, false, false≢true}
 use lib.IntN.{ℤ, pos}
 use lib.Signed.{leZ}
-use Rattle.stab.specs.Basic.{_and_, nat, below}
+use Rattle.stab.specs.Basic.{nat, below}
 use Rattle.stab.specs.Formula.{Row, Kind, constant, literal, junction, iteration, unknown, kindOf, Formula, join, iter, partIf, part, decode, treeN, tree}
 use Rattle.stab.proofs.Bools.{and-left, and-right, and-both}
 use Rattle.stab.proofs.Whole.{atom, num, of-lt, le-of, lt-of, plus-nat, nat-pos, nonneg-minus}

@@ -6,7 +6,7 @@ use mathlib.Core.Option.{Option, none, some}
 use lib.Dec.{leb, eqb, ltb}
 use lib.IntN.{ℤ, pos}
 use lib.ListN.{length}
-use Rattle.stab.specs.Basic.{_and_, _or_, _implies_, eqZ, within, nat, below, count, _otherwise_, scan, unless}
+use Rattle.stab.specs.Basic.{_and_, _implies_, eqZ, within, nat, below, count, _otherwise_, scan, unless}
 use Rattle.stab.specs.Formula.{Row, tree, isOuter, wellFormed, smallEnough}
 use Rattle.stab.specs.Node.{Tableau, rows, rowCount, setEnd, setFits, parentFits, nodeAt}
 use Rattle.stab.specs.Rule.{ofRule, drawn, fieldsFit, targetFits, boundFits, partnersFit, loweredFits, childrenFit}

@@ -8,7 +8,7 @@ use mathlib.Core.Option.{Option, none, some}
 use lib.Dec.{leb, ltb, eqb}
 use lib.IntN.{ℤ, pos, negsuc, negℤ}
 use lib.ListN.{length, replicate}
-use Rattle.stab.specs.Basic.{if_then_else_, _and_, _or_, allOf}
+use Rattle.stab.specs.Basic.{if_then_else_, _and_, allOf}
 
 -- the bytes of a text that is written out here
 unfoldable pub bytes : String → List ℕ

@@ -6,7 +6,7 @@ use mathlib.Core.Logic.{⊎-elim}
 use mathlib.Core.Bool.{true, false}
 use lib.Dec.{eqb}
 use lib.IntN.{ℤ, pos, negℤ, _+ℤ_}
-use Rattle.stab.specs.Basic.{_or_, _implies_, eqZ, nat}
+use Rattle.stab.specs.Basic.{_or_, eqZ, nat}
 use Rattle.stab.specs.Node.{Tableau, Node, node, row}
 use Rattle.stab.specs.Rule.{ofRule, shortened, isInstance, partnersFit}
 use Rattle.stab.proofs.Bools.{or-cases}

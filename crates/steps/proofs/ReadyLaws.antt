@@ -10,7 +10,7 @@ use lib.Dec.{leb}
 use lib.IntN.{ℤ, pos, negℤ}
 use lib.Signed.{leZ}
 use borrow.Author.Tests.{leb-true, leb-false}
-use Rattle.stab.specs.Basic.{_and_, _or_, _implies_, nat, below, allOf, ascending}
+use Rattle.stab.specs.Basic.{_and_, nat, below, allOf, ascending}
 use Rattle.stab.specs.Node.{Tableau, node, nodeAt, set, setStart, setEnd, setFollows, setFits, parentFits, rowCount, isOuterRow, isAncestor, aboveN, aboveIf}
 use Rattle.stab.specs.Rule.{ofRule, targetFits}
 use Rattle.stab.proofs.Bools.{and-left, and-right, and-both, or-false, implies-use, decide}

@@ -5,7 +5,7 @@ use mathlib.Core.Bool.{Bool, true, false}
 use mathlib.Core.Option.{Option, none, Option·some-ne-none}
 use lib.Dec.{ltb}
 use lib.IntN.{pos}
-use Rattle.stab.specs.Basic.{_and_, within, below, _otherwise_, scan}
+use Rattle.stab.specs.Basic.{within, below, _otherwise_, scan}
 use Rattle.stab.specs.Node.{Tableau, setFits, parentFits}
 use Rattle.stab.specs.Check.{finding, wholeUnless, atUnless, rootFits, formulasRefusal, setRefusal, parentRefusal, nodeRefusal, tablesHold, withinLimits, refusal, linkCount, verdict, check}
 use Rattle.stab.specs.declared.Place.{Place}

@@ -1,7 +1,7 @@
 -- The mathematics of STAB: at a node that keeps the rules, if all rows of the set are true at some n that satisfies the node's
 -- bound, then so are all rows of some child's set at that n, or of the linked node's set at a smaller n that satisfies its bound.
 -- It is shown for single nodes, not for paths.
-use Prim.Native.Nat.{ℕ, zero, suc, _+_, _<_, _≤_}
+use Prim.Native.Nat.{ℕ, zero, suc, _<_, _≤_}
 use native.Mathlib.Omega.{arith}
 use mathlib.Core.Path.{_≡_, refl, sym, _∙_, ap, ap₂, subst}
 use mathlib.Core.Logic.{_⊎_, inl, inr, ⊎-elim, _≢_}

@@ -1,20 +1,20 @@
 -- Whole texts: what reading and writing have passed where they come to something, and what lent memory then holds.
 use Prim.Native.Nat.{ℕ, _*_, _-_, _≤_}
 use native.Mathlib.Omega.{arith}
-use mathlib.Core.Path.{_≡_, refl, sym, _∙_, ap, subst}
+use mathlib.Core.Path.{_≡_, refl, sym, _∙_, ap}
 use mathlib.Core.Bool.{Bool, true}
 use mathlib.Core.List.{List, [], _++_}
 use mathlib.Core.Option.{Option, none, some}
 use lib.Dec.{leb}
 use lib.IntN.{ℤ, pos}
-use lib.ListN.{length, replicate, length-append, length-replicate}
+use lib.ListN.{length, replicate, length-append}
 use lib.Seq.{take-at}
 use borrow.Author.Tests.{leb-true, le-leb}
 use Rattle.stab.specs.Basic.{_and_, allOf}
 use Rattle.stab.specs.Text.{Line, lines, fiveDigits, textLimit, padded}
 use Rattle.stab.specs.Read.{Reading, read, stopped, require, readText, tableOf}
 use Rattle.stab.specs.Check.{holds}
-use Rattle.stab.specs.Write.{Writing, refused, wrote, writing, writingOf, writeRefusal, outputRefusal, rowsWritable, output}
+use Rattle.stab.specs.Write.{wrote, writing, writingOf, writeRefusal, outputRefusal, rowsWritable}
 use Rattle.stab.specs.declared.Refusal.{Refusal}
 use Rattle.stab.specs.declared.Refusal.the-variants.{TextTooLong, TableTooShort}
 use Rattle.stab.proofs.Bools.{and-left, and-right, and-both, unless-none, none-unless, otherwise-first, otherwise-second, otherwise-none}
@@ -95,18 +95,9 @@ rows-writable w r t more e h = ap (allOf fiveDigits) (take-at t more (w * r) (sy
 
 -- ---- lent memory
 
-pub padded-length : {A : Type 0} (z : A) (n : ℕ) (xs : List A) → length xs ≤ n → length (padded z n xs) ≡ n
-unfolding padded
-padded-length z n xs h = length-append xs (replicate (n - length xs) z) ∙ let e = length-replicate (n - length xs) z in omega arith
-
 pub padded-none : {A : Type 0} (z : A) (n : ℕ) → padded z n [] ≡ replicate n z
 unfolding padded
 padded-none z n = let e : n - 0 ≡ n = omega arith in ap (λ (i : ℕ). replicate i z) e
-
-pub table-length : {A : Type 0} (part : A → List ℤ) (n : ℕ) (r : Reading A) → ((a : A) → r ≡ read a → length (part a) ≤ n) → length (tableOf part n r) ≡ n
-unfolding tableOf
-table-length part n (read a) h = padded-length (pos 0) n (part a) (h a refl)
-table-length part n (stopped why k) h = padded-length (pos 0) n [] (omega arith)
 
 pub table-stopped : {A : Type 0} (part : A → List ℤ) (n : ℕ) (r : Reading A) (why : Refusal) (k : ℕ) → r ≡ stopped why k → tableOf part n r ≡ replicate n (pos 0)
 unfolding tableOf
@@ -115,13 +106,3 @@ table-stopped part n r why k h = ap (tableOf part n) h ∙ padded-none (pos 0) n
 pub table-read : {A : Type 0} (part : A → List ℤ) (n : ℕ) (r : Reading A) (a : A) → r ≡ read a → tableOf part n r ≡ part a ++ replicate (n - length (part a)) (pos 0)
 unfolding tableOf padded
 table-read part n r a h = ap (tableOf part n) h
-
-output-full : (n : ℕ) (w : Writing) → ((text : List ℕ) → w ≡ wrote text → length text ≤ n) → length (output n w) ≡ n
-unfolding output
-output-full n (wrote text) h = padded-length 0 n text (h text refl)
-output-full n (refused why) h = padded-length 0 n [] (omega arith)
-
-pub output-length : (held few writable : Bool) (n : ℕ) (text : List ℕ) → length (output n (writing (writeRefusal held few writable) n text)) ≡ n
-output-length held few writable n text =
-    output-full n (writing (writeRefusal held few writable) n text)
-    (λ out h. let w = written held few writable n text out h in subst (λ (x : List ℕ). length x ≤ n) (w .same) (w .fits))

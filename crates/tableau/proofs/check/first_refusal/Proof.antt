@@ -9,7 +9,7 @@ use lib.IntN.{ℤ}
 use mir.Facts.{toZ-ofZ}
 use denote.Ref.{now}
 use borrow.Author.Tests.{leb-true}
-use Rattle.stab.specs.Basic.{_and_, _otherwise_, scan}
+use Rattle.stab.specs.Basic.{_otherwise_, scan}
 use Rattle.stab.specs.Node.{Tableau, rowCount}
 use Rattle.stab.specs.declared.Verdict.{Verdict}
 use Rattle.stab.specs.Check.{refusal, finding, holds, tablesHold, withinLimits, nodeRefusal}
