@@ -1,6 +1,9 @@
 // When two formulas agree, found by going down the two side by side.
 use crate::memo::remember;
 use crate::memo::was_seen;
+use formula::A;
+use formula::B;
+use formula::KIND;
 use formula::natural_in;
 use leaves::literals_agree;
 use leaves::ranges_agree;
@@ -41,8 +44,8 @@ pub fn agrees(
             return true;
         }
     }
-    let kind = natural_in(schema, s, proof, f, 0);
-    if kind != natural_in(schema, s, proof, g, 0) {
+    let kind = natural_in(schema, s, proof, f, KIND);
+    if kind != natural_in(schema, s, proof, g, KIND) {
         return false;
     }
     if kind < 2 {
@@ -54,14 +57,14 @@ pub fn agrees(
     if was_seen(seen, mode, f, g) {
         return true;
     }
-    let part = natural_in(schema, s, proof, f, 1);
-    let twin = natural_in(schema, s, proof, g, 1);
+    let part = natural_in(schema, s, proof, f, A);
+    let twin = natural_in(schema, s, proof, g, A);
     if kind < 6 {
         if !agrees(schema, s, proof, mode, up, down, part, twin, seen) {
             return false;
         }
-        let right = natural_in(schema, s, proof, f, 2);
-        let right_twin = natural_in(schema, s, proof, g, 2);
+        let right = natural_in(schema, s, proof, f, B);
+        let right_twin = natural_in(schema, s, proof, g, B);
         if !agrees(schema, s, proof, mode, up, down, right, right_twin, seen) {
             return false;
         }

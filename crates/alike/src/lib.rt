@@ -4,6 +4,8 @@ pub mod lowered;
 mod memo;
 
 use crate::compare::agrees;
+use formula::A;
+use formula::C;
 use formula::natural_in;
 use formula::under_in;
 ghost use mathlib.Core.Path.{_≡_};
@@ -21,9 +23,9 @@ pub fn is_instance(schema: &[i32], s: usize, proof: &[i32], on: usize, z: usize)
     requires { ⌜ AllFormed (joined (now schema) s (now proof)) (z + 1) ⌝ }
     ensures { λ r. ⌜ r ≡ agree (instance (joined (now (schema .entry)) s (now (proof .entry)) on .c) (tree (joined (now (schema .entry)) s (now (proof .entry))) (nat (joined (now (schema .entry)) s (now (proof .entry)) on .a)))) (tree (joined (now (schema .entry)) s (now (proof .entry))) z) ⌝ }
 {
-    let up = natural_in(schema, s, proof, on, 3);
-    let down = under_in(schema, s, proof, on, 3);
-    let body = natural_in(schema, s, proof, on, 1);
+    let up = natural_in(schema, s, proof, on, C);
+    let down = under_in(schema, s, proof, on, C);
+    let body = natural_in(schema, s, proof, on, A);
     let mut seen = [0u32; 1024];
     agrees(schema, s, proof, 2, up, down, body, z, &mut seen)
 }

@@ -1,8 +1,9 @@
 // The lowered rows of a link: refusal 16.
 use crate::compare;
 use branch::counts::Counts;
-use branch::kept;
 use branch::node;
+use formula::kept;
+use formula::rows::SIZE;
 ghost use mathlib.Core.Path.{_≡_};
 ghost use Prim.Native.Nat.{_+_, _<_, _≤_, _^_};
 ghost use lib.IntN.{pos};
@@ -33,7 +34,7 @@ fn is_partner(
     ensures { λ r. ⌜ r ≡ agree (lower k (tree (joined (now (schema .entry)) (t .schema) (now (proof .entry))) z)) (tree (joined (now (schema .entry)) (t .schema) (now (proof .entry))) x) ⌝ }
     ensures { λ _. ⌜ Remembers (joined (now (schema .entry)) (t .schema) (now (proof .entry))) k (now (seen .exit)) ⌝ }
 {
-    if kept::kept_at(facts, 4 * z) != kept::kept_at(facts, 4 * x) {
+    if kept::kept_at(facts, 4 * z + SIZE) != kept::kept_at(facts, 4 * x + SIZE) {
         return false;
     }
     compare::is_lowered(schema, t.schema, proof, k, z, x, seen)
@@ -60,8 +61,8 @@ fn has_partner(
     ensures { λ r. ⌜ r ≡ hasLowered (lent (now (schema .entry)) (now (proof .entry)) (now (nodes .entry)) (now (members .entry)) t) k (set (lent (now (schema .entry)) (now (proof .entry)) (now (nodes .entry)) (now (members .entry)) t) j) (pos z) ⌝ }
     ensures { λ _. ⌜ Remembers (joined (now (schema .entry)) (t .schema) (now (proof .entry))) k (now (seen .exit)) ⌝ }
 {
-    let start = node::natural_of(nodes, j, fields::START);
-    let size = node::natural_of(nodes, j, fields::SIZE);
+    let start = node::natural_of(nodes, j, node::START);
+    let size = node::natural_of(nodes, j, node::SIZE);
     let mut i: usize = 0;
     while i < size {
         let x = signed::natural_at(members, start + i);
@@ -92,8 +93,8 @@ pub fn all_lowered(
     requires { ⌜ SetOfRows (now nodes) (now members) (t .schema + t .proof) to ⌝ }
     ensures { λ r. ⌜ r ≡ allOf (hasLowered (lent (now (schema .entry)) (now (proof .entry)) (now (nodes .entry)) (now (members .entry)) t) k (set (lent (now (schema .entry)) (now (proof .entry)) (now (nodes .entry)) (now (members .entry)) t) j)) (set (lent (now (schema .entry)) (now (proof .entry)) (now (nodes .entry)) (now (members .entry)) t) to) ⌝ }
 {
-    let start = node::natural_of(nodes, to, fields::START);
-    let size = node::natural_of(nodes, to, fields::SIZE);
+    let start = node::natural_of(nodes, to, node::START);
+    let size = node::natural_of(nodes, to, node::SIZE);
     let mut seen = [0u32; 1024];
     let mut i: usize = 0;
     while i < size {

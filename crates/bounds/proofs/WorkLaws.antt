@@ -6,7 +6,7 @@ use mathlib.Core.Logic.{⊎-elim}
 use mathlib.Core.List.{List}
 use lib.Dec.{eqb}
 use lib.IntN.{ℤ, pos}
-use lib.ListN.{getD, length, set, length-set}
+use lib.ListN.{getD, length, set}
 use lib.Seq.{getD-set-same, getD-set-other}
 use borrow.Author.Tests.{eqb-true, eqb-false}
 use Rattle.stab.specs.Basic.{nat}
@@ -14,7 +14,9 @@ use Rattle.stab.specs.Node.{Bound, nodeAt, childCountOf, rank, childBound, firs
 use Rattle.stab.proofs.Bools.{decide}
 use Rattle.stab.proofs.Scans.{below-suc}
 use Rattle.formula.specs.Facts.{bit}
-use Rattle.bounds.specs.Bounds.{kept, Next, Stays}
+use Rattle.formula.specs.Kept.{kept}
+use Rattle.formula.proofs.KeptLaws.{kept-other, kept-length, kept-first, kept-second, kept-third, kept-fourth}
+use Rattle.bounds.specs.Bounds.{Next, Stays}
 use Rattle.branch.specs.Parents.{AllUpFit}
 use Rattle.branch.specs.Work.{Worked, AllWorked}
 use Rattle.branch.proofs.ParentLaws.{later-up, parent-less, parent-pos}
@@ -22,73 +24,22 @@ use Rattle.bounds.proofs.BoundLaws.{bound-le, children-le, bound-root, 
 use Rattle.stab.proofs.Whole.{nat-of}
 use Rattle.stab.proofs.Bounds.{bound-child}
 
--- ---- the four numbers stored
-
-module _ (work : List ℕ) (j r l e : ℕ) where
-  abbrev one : List ℕ
-  one = set work (4 * j) r
-
-  abbrev two : List ℕ
-  two = set one (4 * j + 1) l
-
-  abbrev three : List ℕ
-  three = set two (4 * j + 2) e
-
-  -- what stands anywhere but at the four places
-  pub kept-other : (x : ℕ) → ((i : ℕ) → i < 4 → x ≡ 4 * j + i → ⊥) → getD (kept work j r l e) x 0 ≡ getD work x 0
-  unfolding kept
-  kept-other x f =
-      getD-set-other three (4 * j + 3) x 0 0 (λ q. f 3 (omega arith) q)
-      ∙ getD-set-other two (4 * j + 2) x e 0 (λ q. f 2 (omega arith) q)
-      ∙ getD-set-other one (4 * j + 1) x l 0 (λ q. f 1 (omega arith) q)
-      ∙ getD-set-other work (4 * j) x r 0 (λ q. f 0 (omega arith) (omega arith))
-
-  pub kept-length : length (kept work j r l e) ≡ length work
-  unfolding kept
-  kept-length = simp length-set
-
-  module _ (room : 4 * j + 3 < length work) where
-    kept-rank : getD (kept work j r l e) (4 * j) 0 ≡ r
-    unfolding kept
-    kept-rank =
-        getD-set-other three (4 * j + 3) (4 * j) 0 0 (λ q. omega arith)
-        ∙ getD-set-other two (4 * j + 2) (4 * j) e 0 (λ q. omega arith)
-        ∙ getD-set-other one (4 * j + 1) (4 * j) l 0 (λ q. omega arith)
-        ∙ getD-set-same work (4 * j) r 0 (omega arith)
-
-    kept-l : getD (kept work j r l e) (4 * j + 1) 0 ≡ l
-    unfolding kept
-    kept-l =
-        getD-set-other three (4 * j + 3) (4 * j + 1) 0 0 (λ q. omega arith)
-        ∙ getD-set-other two (4 * j + 2) (4 * j + 1) e 0 (λ q. omega arith)
-        ∙ getD-set-same one (4 * j + 1) l 0 (simp length-set (omega arith))
-
-    kept-exact : getD (kept work j r l e) (4 * j + 2) 0 ≡ e
-    unfolding kept
-    kept-exact =
-        getD-set-other three (4 * j + 3) (4 * j + 2) 0 0 (λ q. omega arith)
-        ∙ getD-set-same two (4 * j + 2) e 0 (simp length-set (omega arith))
-
-    kept-children : getD (kept work j r l e) (4 * j + 3) 0 ≡ 0
-    unfolding kept
-    kept-children = getD-set-same three (4 * j + 3) 0 0 (simp length-set (omega arith))
-
 -- ---- the first node
 
-pub work-first : (nodes : List ℤ) (least : ℤ) (work : List ℕ) → 3 < length work → AllUpFit nodes 1 → AllWorked nodes least 1 (kept work 0 0 (nat least) 0) 1
+pub work-first : (nodes : List ℤ) (least : ℤ) (work : List ℕ) → 3 < length work → AllUpFit nodes 1 → AllWorked nodes least 1 (kept work 0 0 (nat least) 0 0) 1
 unfolding firstBound bit
-work-first nodes least work room fits j p = subst (Worked nodes least 1 (kept work 0 0 (nat least) 0)) (sym e) first
+work-first nodes least work room fits j p = subst (Worked nodes least 1 (kept work 0 0 (nat least) 0 0)) (sym e) first
   where
     e : j ≡ 0
     e = omega arith
 
-    first : Worked nodes least 1 (kept work 0 0 (nat least) 0) 0
+    first : Worked nodes least 1 (kept work 0 0 (nat least) 0 0) 0
     first =
         record {
-          rank = kept-rank work 0 0 (nat least) 0 room ∙ sym (rank-first nodes 0 refl);
-          L = kept-l work 0 0 (nat least) 0 room ∙ sym (ap (λ (B : Bound). B .L) (bound-root nodes least));
-          exact = kept-exact work 0 0 (nat least) 0 room ∙ sym (ap (λ (B : Bound). bit (B .exact)) (bound-root nodes least));
-          children = kept-children work 0 0 (nat least) 0 room ∙ sym (children-none nodes 0 fits);
+          rank = kept-first work 0 0 (nat least) 0 0 room ∙ sym (rank-first nodes 0 refl);
+          L = kept-second work 0 0 (nat least) 0 0 room ∙ sym (ap (λ (B : Bound). B .L) (bound-root nodes least));
+          exact = kept-third work 0 0 (nat least) 0 0 room ∙ sym (ap (λ (B : Bound). bit (B .exact)) (bound-root nodes least));
+          children = kept-fourth work 0 0 (nat least) 0 0 room ∙ sym (children-none nodes 0 fits);
         }
 
 -- ---- one node more, a child of u
@@ -118,19 +69,19 @@ module _ {nodes : List ℤ} {least : ℤ} {work : List ℕ} {j u : ℕ} (next : 
 
   module _ (r l e : ℕ) (r-is : r ≡ getD work (4 * u + 3) 0) (l-is : boundOf nodes least j .L ≡ l) (e-is : bit (boundOf nodes least j .exact) ≡ e) where
     -- what stands anywhere but at the parent's children
-    elsewhere : (x : ℕ) → (x ≡ 4 * u + 3 → ⊥) → getD (set (kept work j r l e) (4 * u + 3) (r + 1)) x 0 ≡ getD (kept work j r l e) x 0
-    elsewhere x f = getD-set-other (kept work j r l e) (4 * u + 3) x (r + 1) 0 f
+    elsewhere : (x : ℕ) → (x ≡ 4 * u + 3 → ⊥) → getD (set (kept work j r l e 0) (4 * u + 3) (r + 1)) x 0 ≡ getD (kept work j r l e 0) x 0
+    elsewhere x f = getD-set-other (kept work j r l e 0) (4 * u + 3) x (r + 1) 0 f
 
-    before : (x : ℕ) → x < 4 * j → (x ≡ 4 * u + 3 → ⊥) → getD (set (kept work j r l e) (4 * u + 3) (r + 1)) x 0 ≡ getD work x 0
-    before x p f = elsewhere x f ∙ kept-other work j r l e x (λ i k q. omega arith)
+    before : (x : ℕ) → x < 4 * j → (x ≡ 4 * u + 3 → ⊥) → getD (set (kept work j r l e 0) (4 * u + 3) (r + 1)) x 0 ≡ getD work x 0
+    before x p f = elsewhere x f ∙ kept-other work j r l e 0 x (λ i k q. omega arith)
 
-    children-at : (i : ℕ) → i < j → getD (set (kept work j r l e) (4 * u + 3) (r + 1)) (4 * i + 3) 0 ≡ childCountOf nodes (j + 1) i
+    children-at : (i : ℕ) → i < j → getD (set (kept work j r l e 0) (4 * u + 3) (r + 1)) (4 * i + 3) 0 ≡ childCountOf nodes (j + 1) i
     children-at i p =
         ⊎-elim
         (λ q.
         let v = eqb-true i u q in
-        ap (λ (x : ℕ). getD (set (kept work j r l e) (4 * u + 3) (r + 1)) x 0) (omega arith)
-        ∙ getD-set-same (kept work j r l e) (4 * u + 3) (r + 1) 0 (omega (arith, kept-length work j r l e, parent-before))
+        ap (λ (x : ℕ). getD (set (kept work j r l e 0) (4 * u + 3) (r + 1)) x 0) (omega arith)
+        ∙ getD-set-same (kept work j r l e 0) (4 * u + 3) (r + 1) 0 (omega (arith, kept-length work j r l e 0, parent-before))
         ∙ ap (λ (x : ℕ). x + 1) (r-is ∙ next .done u parent-before .children)
         ∙ sym (children-more nodes j u up-is)
         ∙ ap (childCountOf nodes (j + 1)) (sym v))
@@ -140,7 +91,7 @@ module _ {nodes : List ℤ} {least : ℤ} {work : List ℕ} {j u : ℕ} (next : 
         ∙ sym (children-same nodes j i (λ w. eqb-false i u q (omega (arith, nat-of (nodeAt nodes j .up) i w)))))
         (decide (eqb i u))
 
-    earlier : (i : ℕ) → i < j → Worked nodes least (j + 1) (set (kept work j r l e) (4 * u + 3) (r + 1)) i
+    earlier : (i : ℕ) → i < j → Worked nodes least (j + 1) (set (kept work j r l e 0) (4 * u + 3) (r + 1)) i
     earlier i p =
         record {
           rank = before (4 * i) (omega arith) (λ w. omega arith) ∙ next .done i p .rank;
@@ -149,21 +100,21 @@ module _ {nodes : List ℤ} {least : ℤ} {work : List ℕ} {j u : ℕ} (next : 
           children = children-at i p;
         }
 
-    last : Worked nodes least (j + 1) (set (kept work j r l e) (4 * u + 3) (r + 1)) j
+    last : Worked nodes least (j + 1) (set (kept work j r l e 0) (4 * u + 3) (r + 1)) j
     last =
         record {
-          rank = elsewhere (4 * j) (λ w. omega arith) ∙ kept-rank work j r l e (next .room) ∙ r-is ∙ rank-at;
-          L = elsewhere (4 * j + 1) (λ w. omega arith) ∙ kept-l work j r l e (next .room) ∙ sym l-is;
-          exact = elsewhere (4 * j + 2) (λ w. omega arith) ∙ kept-exact work j r l e (next .room) ∙ sym e-is;
-          children = elsewhere (4 * j + 3) (λ w. omega (arith, parent-before)) ∙ kept-children work j r l e (next .room) ∙ sym (children-none nodes j (next .fits));
+          rank = elsewhere (4 * j) (λ w. omega arith) ∙ kept-first work j r l e 0 (next .room) ∙ r-is ∙ rank-at;
+          L = elsewhere (4 * j + 1) (λ w. omega arith) ∙ kept-second work j r l e 0 (next .room) ∙ sym l-is;
+          exact = elsewhere (4 * j + 2) (λ w. omega arith) ∙ kept-third work j r l e 0 (next .room) ∙ sym e-is;
+          children = elsewhere (4 * j + 3) (λ w. omega (arith, parent-before)) ∙ kept-fourth work j r l e 0 (next .room) ∙ sym (children-none nodes j (next .fits));
         }
 
-    pub work-stays : Stays (4 * (j + 1)) work (set (kept work j r l e) (4 * u + 3) (r + 1))
-    work-stays x p = elsewhere x (λ w. omega (arith, parent-before)) ∙ kept-other work j r l e x (λ i k q. omega arith)
+    pub work-stays : Stays (4 * (j + 1)) work (set (kept work j r l e 0) (4 * u + 3) (r + 1))
+    work-stays x p = elsewhere x (λ w. omega (arith, parent-before)) ∙ kept-other work j r l e 0 x (λ i k q. omega arith)
 
-    pub work-more : AllWorked nodes least (j + 1) (set (kept work j r l e) (4 * u + 3) (r + 1)) (j + 1)
+    pub work-more : AllWorked nodes least (j + 1) (set (kept work j r l e 0) (4 * u + 3) (r + 1)) (j + 1)
     work-more i p =
         ⊎-elim
         (λ q. earlier i q)
-        (λ q. subst (Worked nodes least (j + 1) (set (kept work j r l e) (4 * u + 3) (r + 1))) (sym q) last)
+        (λ q. subst (Worked nodes least (j + 1) (set (kept work j r l e 0) (4 * u + 3) (r + 1))) (sym q) last)
         (below-suc i j (omega arith))

@@ -3,15 +3,11 @@ use Prim.Native.Nat.{ℕ, _+_, _*_, _<_, _≤_}
 use mathlib.Core.Path.{_≡_}
 use mathlib.Core.List.{List}
 use lib.IntN.{ℤ}
-use lib.ListN.{length, getD, set}
+use lib.ListN.{length, getD}
 use Rattle.stab.specs.Basic.{nat}
 use Rattle.stab.specs.Node.{nodeAt}
 use Rattle.branch.specs.Parents.{AllUpFit}
 use Rattle.branch.specs.Work.{AllWorked}
-
--- the four numbers of node j are stored; it has no children yet
-unfoldable pub kept : List ℕ → ℕ → ℕ → ℕ → ℕ → List ℕ
-kept work j rank l exact = set (set (set (set work (4 * j) rank) (4 * j + 1) l) (4 * j + 2) exact) (4 * j + 3) 0
 
 -- node j is next, a child of u, and there is room for it
 pub record Next (nodes : List ℤ) (least : ℤ) (work : List ℕ) (j u : ℕ) : Type 0 where

@@ -1,5 +1,7 @@
 // What is worked out once for each node: its rank, its bound, its number of children.
 use branch::node;
+use branch::worked;
+use formula::kept;
 ghost use mathlib.Core.Path.{_≡_};
 ghost use mathlib.Core.Bool.{true};
 ghost use Prim.Native.Nat.{_+_, _*_, _<_, _≤_, _^_};
@@ -8,7 +10,7 @@ ghost use lib.ListN.{getD, length};
 ghost use Rattle.stab.specs.Basic.{within};
 ghost use Rattle.stab.specs.Node.{Bound, nodeAt, childBound};
 ghost use Rattle.formula.specs.Facts.{bit};
-ghost use Rattle.bounds.specs.Bounds.{kept, Next, Stays};
+ghost use Rattle.bounds.specs.Bounds.{Next, Stays};
 ghost use Rattle.branch.specs.Parents.{AllUpFit};
 ghost use Rattle.branch.specs.Work.{AllWorked};
 
@@ -20,23 +22,12 @@ fn number_of(work: &[u32], j: usize, k: usize) -> u32
     work[4 * j + k]
 }
 
-// Stores the four numbers of node j, which has no children yet.
-fn keep(work: &mut [u32], j: usize, rank: u32, l: u32, exact: u32)
-    requires { ⌜ 4 * j + 3 < length (now work) ⌝ }
-    ensures { λ _. ⌜ now (work .exit) ≡ kept (now (work .entry)) j rank l exact ⌝ }
-{
-    work[4 * j] = rank;
-    work[4 * j + 1] = l;
-    work[4 * j + 2] = exact;
-    work[4 * j + 3] = 0;
-}
-
 // The L of a child of u, by its rank.
 fn child_l(nodes: &[i32], u: usize, l: u32, rank: u32) -> u32
     requires { ⌜ (u < 2 ^ 31) × (l < 2 ^ 31) ⌝ }
     ensures { λ r. ⌜ ((B : Bound) → B .L ≡ l → childBound (nodeAt (now (nodes .entry)) u .rule) B rank .L ≡ r) ⌝ }
 {
-    if !node::is_of(nodes, u, 1, 2) {
+    if !node::is_of(nodes, u, node::RULE, 2) {
         return l;
     }
     if rank == 0 {
@@ -50,7 +41,7 @@ fn child_exact(nodes: &[i32], u: usize, exact: u32, rank: u32) -> u32
     requires { ⌜ u < 2 ^ 31 ⌝ }
     ensures { λ r. ⌜ ((B : Bound) → bit (B .exact) ≡ exact → bit (childBound (nodeAt (now (nodes .entry)) u .rule) B rank .exact) ≡ r) ⌝ }
 {
-    if !node::is_of(nodes, u, 1, 2) {
+    if !node::is_of(nodes, u, node::RULE, 2) {
         return exact;
     }
     if rank == 0 {
@@ -65,11 +56,11 @@ fn work_child(nodes: &[i32], least: usize, work: &mut [u32], j: usize, u: usize)
     ensures { λ _. ⌜ AllWorked (now (nodes .entry)) (pos least) (j + 1) (now (work .exit)) (j + 1) ⌝ }
     ensures { λ _. ⌜ Stays (4 * (j + 1)) (now (work .entry)) (now (work .exit)) ⌝ }
 {
-    let rank = number_of(work, u, 3);
-    let l = child_l(nodes, u, number_of(work, u, 1), rank);
-    let exact = child_exact(nodes, u, number_of(work, u, 2), rank);
-    keep(work, j, rank, l, exact);
-    work[4 * u + 3] = rank + 1;
+    let rank = number_of(work, u, worked::CHILDREN);
+    let l = child_l(nodes, u, number_of(work, u, worked::L), rank);
+    let exact = child_exact(nodes, u, number_of(work, u, worked::EXACT), rank);
+    kept::keep(work, j, rank, l, exact, 0);
+    work[4 * u + worked::CHILDREN] = rank + 1;
 }
 
 // Works out node j after the nodes before it.
@@ -79,9 +70,9 @@ fn work_node(nodes: &[i32], least: usize, work: &mut [u32], j: usize)
     ensures { λ _. ⌜ Stays (4 * (j + 1)) (now (work .entry)) (now (work .exit)) ⌝ }
 {
     if j == 0 {
-        keep(work, 0, 0, least as u32, 0);
+        kept::keep(work, 0, 0, least as u32, 0, 0);
     } else {
-        work_child(nodes, least, work, j, node::natural_of(nodes, j, 0));
+        work_child(nodes, least, work, j, node::natural_of(nodes, j, node::UP));
     }
 }
 

@@ -14,9 +14,9 @@ pub fn is_above(nodes: &[i32], to: usize, j: usize) -> bool
     if j <= to {
         return false;
     }
-    let mut i = node::natural_of(nodes, j, 0);
+    let mut i = node::natural_of(nodes, j, node::UP);
     while to < i {
-        i = node::natural_of(nodes, i, 0);
+        i = node::natural_of(nodes, i, node::UP);
     }
     i == to
 }

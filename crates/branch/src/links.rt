@@ -13,7 +13,7 @@ pub fn links(nodes: &[i32], k: usize) -> usize
     let mut n: usize = 0;
     let mut j: usize = 0;
     while j < k {
-        if node::is_of(nodes, j, 1, 8) {
+        if node::is_of(nodes, j, node::RULE, 8) {
             n += 1;
         }
         j += 1;

@@ -6,10 +6,29 @@ ghost use Rattle.stab.specs.Basic.{eqZ, nat};
 ghost use Rattle.stab.specs.Node.{nodeAt};
 ghost use Rattle.branch.specs.NodeColumn.{nodeColumn};
 
-// The natural part of number k of node j.
+// The numbers by their place.
+pub const UP: usize = 0;
+
+pub const RULE: usize = 1;
+
+pub const ON: usize = 2;
+
+pub const WITH: usize = 3;
+
+pub const OTHER: usize = 4;
+
+pub const TO: usize = 5;
+
+pub const BY: usize = 6;
+
+pub const START: usize = 7;
+
+pub const SIZE: usize = 8;
+
+// The natural part of number k of node j, and how large it can be.
 pub fn natural_of(nodes: &[i32], j: usize, k: usize) -> usize
     requires { ⌜ (j < 2 ^ 32) × (k < 9) ⌝ }
-    ensures { λ v. ⌜ v ≡ nat (nodeColumn (nodeAt (now (nodes .entry)) j) k) ⌝ }
+    ensures { λ v. ⌜ (v ≡ nat (nodeColumn (nodeAt (now (nodes .entry)) j) k)) × (v < 2 ^ 32) ⌝ }
 {
     signed::natural_at(nodes, 9 * j + k)
 }

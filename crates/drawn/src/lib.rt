@@ -1,8 +1,9 @@
 // What a child's set is drawn from: refusal 11.
 use branch::counts::Counts;
-use branch::kept;
 use branch::member;
 use branch::node;
+use branch::worked;
+use formula::kept;
 ghost use mathlib.Core.Path.{_≡_};
 ghost use mathlib.Core.List.{[], _∷_};
 ghost use Prim.Native.Nat.{_<_, _^_};
@@ -43,10 +44,10 @@ fn is_part(schema: &[i32], s: usize, proof: &[i32], r: usize, z: usize) -> bool
     requires { ⌜ r < 2 ^ 32 ⌝ }
     ensures { λ v. ⌜ v ≡ has (pos z) (joined (now (schema .entry)) s (now (proof .entry)) r .a ∷ joined (now (schema .entry)) s (now (proof .entry)) r .b ∷ []) ⌝ }
 {
-    if part_is(schema, s, proof, r, 1, z) {
+    if part_is(schema, s, proof, r, formula::A, z) {
         return true;
     }
-    part_is(schema, s, proof, r, 2, z)
+    part_is(schema, s, proof, r, formula::B, z)
 }
 
 // z is the left part for the first child, the right part for the second.
@@ -55,9 +56,9 @@ fn is_side(schema: &[i32], s: usize, proof: &[i32], r: usize, rank: usize, z: us
     ensures { λ v. ⌜ v ≡ has (pos z) (oneOf (joined (now (schema .entry)) s (now (proof .entry)) r .a) (joined (now (schema .entry)) s (now (proof .entry)) r .b) rank) ⌝ }
 {
     if rank == 0 {
-        return part_is(schema, s, proof, r, 1, z);
+        return part_is(schema, s, proof, r, formula::A, z);
     }
-    part_is(schema, s, proof, r, 2, z)
+    part_is(schema, s, proof, r, formula::B, z)
 }
 
 // z is `with` or `other` of node p.
@@ -65,10 +66,10 @@ fn is_unfolded(nodes: &[i32], p: usize, z: usize) -> bool
     requires { ⌜ p < 2 ^ 32 ⌝ }
     ensures { λ v. ⌜ v ≡ has (pos z) (nodeAt (now (nodes .entry)) p .with ∷ nodeAt (now (nodes .entry)) p .other ∷ []) ⌝ }
 {
-    if number_is(nodes, p, fields::WITH, z) {
+    if number_is(nodes, p, node::WITH, z) {
         return true;
     }
-    number_is(nodes, p, fields::OTHER, z)
+    number_is(nodes, p, node::OTHER, z)
 }
 
 // z is `with` for the first child, `other` for the second.
@@ -77,9 +78,9 @@ fn is_half(nodes: &[i32], p: usize, rank: usize, z: usize) -> bool
     ensures { λ v. ⌜ v ≡ has (pos z) (oneOf (nodeAt (now (nodes .entry)) p .with) (nodeAt (now (nodes .entry)) p .other) rank) ⌝ }
 {
     if rank == 0 {
-        return number_is(nodes, p, fields::WITH, z);
+        return number_is(nodes, p, node::WITH, z);
     }
-    number_is(nodes, p, fields::OTHER, z)
+    number_is(nodes, p, node::OTHER, z)
 }
 
 // The rule of node p gives z to its child of that rank. No set is looked at.
@@ -95,17 +96,17 @@ fn is_given(
     requires { ⌜ p < 2 ^ 32 ⌝ }
     ensures { λ v. ⌜ v ≡ has (pos z) (given (lent (now (schema .entry)) (now (proof .entry)) (now (nodes .entry)) [] t) (nodeAt (now (nodes .entry)) p) rank) ⌝ }
 {
-    let on = fields::small_of(nodes, p, fields::ON);
-    if node::is_of(nodes, p, fields::RULE, 0) {
+    let on = node::natural_of(nodes, p, node::ON);
+    if node::is_of(nodes, p, node::RULE, 0) {
         return is_part(schema, t.schema, proof, on, z);
     }
-    if node::is_of(nodes, p, fields::RULE, 1) {
+    if node::is_of(nodes, p, node::RULE, 1) {
         return is_side(schema, t.schema, proof, on, rank, z);
     }
-    if node::is_of(nodes, p, fields::RULE, 3) {
+    if node::is_of(nodes, p, node::RULE, 3) {
         return is_unfolded(nodes, p, z);
     }
-    if node::is_of(nodes, p, fields::RULE, 4) {
+    if node::is_of(nodes, p, node::RULE, 4) {
         return is_half(nodes, p, rank, z);
     }
     false
@@ -154,12 +155,12 @@ pub fn is_drawn(
     requires { ⌜ ChildKnown (now nodes) (now members) (now work) j ⌝ }
     ensures { λ v. ⌜ v ≡ allOf (drawnFrom (lent (now (schema .entry)) (now (proof .entry)) (now (nodes .entry)) (now (members .entry)) t) (nat (nodeAt (now (nodes .entry)) j .up)) (N.rank (now (nodes .entry)) j)) (set (lent (now (schema .entry)) (now (proof .entry)) (now (nodes .entry)) (now (members .entry)) t) j) ⌝ }
 {
-    let p = fields::small_of(nodes, j, fields::UP);
-    let rank = kept::kept_at(work, 4 * j);
-    let start = node::natural_of(nodes, j, fields::START);
-    let size = node::natural_of(nodes, j, fields::SIZE);
-    let above = node::natural_of(nodes, p, fields::START);
-    let above_size = node::natural_of(nodes, p, fields::SIZE);
+    let p = node::natural_of(nodes, j, node::UP);
+    let rank = kept::kept_at(work, 4 * j + worked::RANK);
+    let start = node::natural_of(nodes, j, node::START);
+    let size = node::natural_of(nodes, j, node::SIZE);
+    let above = node::natural_of(nodes, p, node::START);
+    let above_size = node::natural_of(nodes, p, node::SIZE);
     let mut near: usize = 0;
     let mut i: usize = 0;
     while i < size {

@@ -16,33 +16,6 @@ ghost use Rattle.stab.specs.Rule.{unused, symbolFits, fieldsFit};
 ghost use Rattle.branch.specs.NodeColumn.{nodeColumn};
 ghost use Rattle.branch.specs.Lent.{lent, SetHeld, fitsKind, otherFits, linkFits, rowsFit, restFits};
 
-// The numbers of a node, by their place.
-pub const UP: usize = 0;
-
-pub const RULE: usize = 1;
-
-pub const ON: usize = 2;
-
-pub const WITH: usize = 3;
-
-pub const OTHER: usize = 4;
-
-pub const TO: usize = 5;
-
-pub const BY: usize = 6;
-
-pub const START: usize = 7;
-
-pub const SIZE: usize = 8;
-
-// The natural part of number k of node j, and how large it can be.
-pub fn small_of(nodes: &[i32], j: usize, k: usize) -> usize
-    requires { ⌜ (j < 2 ^ 32) × (k < 9) ⌝ }
-    ensures { λ v. ⌜ (v ≡ nat (nodeColumn (nodeAt (now (nodes .entry)) j) k)) × (v < 2 ^ 32) ⌝ }
-{
-    signed::small_at(nodes, 9 * j + k)
-}
-
 // Number k of node j is one of 0 .. n - 1.
 fn is_below(nodes: &[i32], j: usize, k: usize, n: usize) -> bool
     requires { ⌜ (j < 2 ^ 32) × (k < 9) ⌝ }
@@ -61,8 +34,8 @@ fn in_set(nodes: &[i32], members: &[i32], j: usize, k: usize) -> bool
     requires { ⌜ pos (nat (nodeColumn (nodeAt (now nodes) j) k)) ≡ nodeColumn (nodeAt (now nodes) j) k ⌝ }
     ensures { λ r. ⌜ r ≡ has (nodeColumn (nodeAt (now (nodes .entry)) j) k) (setOf (now (members .entry)) (nodeAt (now (nodes .entry)) j)) ⌝ }
 {
-    let start = node::natural_of(nodes, j, START);
-    let size = node::natural_of(nodes, j, SIZE);
+    let start = node::natural_of(nodes, j, node::START);
+    let size = node::natural_of(nodes, j, node::SIZE);
     member::stands(members, start, size, node::natural_of(nodes, j, k))
 }
 
@@ -87,7 +60,7 @@ fn kind_fits(
         return false;
     }
     let r = node::natural_of(nodes, j, k);
-    formula::is_in(schema, t.schema, proof, r, 0, need)
+    formula::is_in(schema, t.schema, proof, r, formula::KIND, need)
 }
 
 // Where a kind is needed, `on` stands in the node's set.
@@ -100,7 +73,7 @@ fn on_stands(nodes: &[i32], members: &[i32], j: usize, need: i32) -> bool
     if signed::equal(need, -1) {
         return true;
     }
-    in_set(nodes, members, j, ON)
+    in_set(nodes, members, j, node::ON)
 }
 
 // `other` names a row if it is used.
@@ -110,9 +83,9 @@ fn other_fits(nodes: &[i32], t: Counts, j: usize, used: bool) -> bool
     ensures { λ r. ⌜ r ≡ otherFits (t .schema + t .proof) (nodeAt (now (nodes .entry)) j) used ⌝ }
 {
     if used {
-        return is_below(nodes, j, OTHER, t.schema + t.proof);
+        return is_below(nodes, j, node::OTHER, t.schema + t.proof);
     }
-    node::is_of(nodes, j, OTHER, -1)
+    node::is_of(nodes, j, node::OTHER, -1)
 }
 
 // `by` is at least 1 if the link's fields are used; unused, `to` is -1 and `by` 0.
@@ -121,12 +94,12 @@ fn link_fits(nodes: &[i32], j: usize, used: bool) -> bool
     ensures { λ r. ⌜ r ≡ linkFits (nodeAt (now (nodes .entry)) j) used ⌝ }
 {
     if used {
-        return 0 < node::natural_of(nodes, j, BY);
+        return 0 < node::natural_of(nodes, j, node::BY);
     }
-    if !node::is_of(nodes, j, TO, -1) {
+    if !node::is_of(nodes, j, node::TO, -1) {
         return false;
     }
-    node::is_of(nodes, j, BY, 0)
+    node::is_of(nodes, j, node::BY, 0)
 }
 
 // Of a clash: `with` stands in the node's set, and has the symbol of `on`.
@@ -143,12 +116,12 @@ fn symbol_fits(
     requires { ⌜ (below 1024 (nodeAt (now nodes) j .on) ≡ true) × (below 1024 (nodeAt (now nodes) j .with) ≡ true) ⌝ }
     ensures { λ r. ⌜ r ≡ symbolFits (lent (now (schema .entry)) (now (proof .entry)) (now (nodes .entry)) (now (members .entry)) t) j ⌝ }
 {
-    if !in_set(nodes, members, j, WITH) {
+    if !in_set(nodes, members, j, node::WITH) {
         return false;
     }
-    let on = node::natural_of(nodes, j, ON);
-    let with = node::natural_of(nodes, j, WITH);
-    leaves::same_in(schema, t.schema, proof, on, 1, with, 1)
+    let on = node::natural_of(nodes, j, node::ON);
+    let with = node::natural_of(nodes, j, node::WITH);
+    leaves::same_in(schema, t.schema, proof, on, formula::A, with, formula::A)
 }
 
 // `on` and `with` are as the rule says.
@@ -165,13 +138,13 @@ fn rows_fit(
     requires { ⌜ SetHeld (now nodes) (now members) j ⌝ }
     ensures { λ r. ⌜ r ≡ rowsFit (lent (now (schema .entry)) (now (proof .entry)) (now (nodes .entry)) (now (members .entry)) t) j rule ⌝ }
 {
-    if !kind_fits(schema, proof, nodes, t, j, ON, rule.on) {
+    if !kind_fits(schema, proof, nodes, t, j, node::ON, rule.on) {
         return false;
     }
     if !on_stands(nodes, members, j, rule.on) {
         return false;
     }
-    kind_fits(schema, proof, nodes, t, j, WITH, rule.with)
+    kind_fits(schema, proof, nodes, t, j, node::WITH, rule.with)
 }
 
 // `other`, `to` and `by` are as the rule says.
@@ -198,17 +171,17 @@ pub fn fields_fit(
     requires { ⌜ SetHeld (now nodes) (now members) j ⌝ }
     ensures { λ r. ⌜ r ≡ fieldsFit (lent (now (schema .entry)) (now (proof .entry)) (now (nodes .entry)) (now (members .entry)) t) j ⌝ }
 {
-    if !is_below(nodes, j, RULE, 9) {
+    if !is_below(nodes, j, node::RULE, 9) {
         return false;
     }
-    let rule = rules::rule_at(node::natural_of(nodes, j, RULE));
+    let rule = rules::rule_at(node::natural_of(nodes, j, node::RULE));
     if !rows_fit(schema, proof, nodes, members, t, j, rule) {
         return false;
     }
     if !rest_fits(nodes, t, j, rule) {
         return false;
     }
-    if node::is_of(nodes, j, RULE, 6) {
+    if node::is_of(nodes, j, node::RULE, 6) {
         return symbol_fits(schema, proof, nodes, members, t, j);
     }
     true

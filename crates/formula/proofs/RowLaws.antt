@@ -8,8 +8,7 @@ use mathlib.Core.Logic.{_⊎_, inl, inr, ⊎-elim}
 use mathlib.Core.List.{List}
 use mathlib.Core.Option.{Option, none, some, Option·some-ne-none}
 use lib.Dec.{leb, ltb, leb·zero, leb·suc-suc}
-use lib.ListN.{length, getD, set, length-set}
-use lib.Seq.{getD-set-same, getD-set-other}
+use lib.ListN.{length}
 use lib.IntN.{ℤ, pos, negsuc, negℤ}
 use borrow.Author.Tests.{le-leb, lt-leb, leb-true}
 use Rattle.stab.specs.Basic.{if_then_else_, _and_, _or_, eqZ, within, nat, below, _otherwise_, scan}
@@ -25,9 +24,10 @@ use Rattle.stab.proofs.Whole.{num, of-eq, eqZ-not, nat-pos, at-least-0, below-0
 use Rattle.stab.proofs.Scans.{below-suc, scan-found}
 use Rattle.stab.proofs.Decoded.{decoded}
 use Rattle.formula.specs.Facts.{bit, Known}
-use Rattle.formula.specs.Rows.{factsOf, factsAt, kept, keptIf, factsTable, judged, Passed}
+use Rattle.formula.specs.Rows.{factsOf, factsAt, keptFacts, keptIf, factsTable, judged, Passed}
 use Rattle.formula.specs.declared.rows.Facts.{Facts}
 use Rattle.formula.specs.declared.rows.Judged.the-variants.{Ill, Formed}
+use Rattle.formula.proofs.KeptLaws.{kept-other, kept-length, kept-first, kept-second, kept-third, kept-fourth}
 
 -- ---- what a function said of a test, and the branch that it led to
 
@@ -308,52 +308,24 @@ module _ (rows : ℕ → Row) (r : ℕ) where
 -- ---- one row more
 
 module _ (facts : List ℕ) (r : ℕ) (f : Facts) where
-  length-kept : length (kept facts r f) ≡ length facts
-  unfolding kept
-  length-kept = simp length-set
-
-  -- the table after the first store, the second and the third
-  abbrev once : List ℕ
-  once = set facts (4 * r) (f .size)
-
-  abbrev twice : List ℕ
-  twice = set once (4 * r + 1) (f .depth)
-
-  abbrev thrice : List ℕ
-  thrice = set twice (4 * r + 2) (f .loose)
-
-  -- what is kept for other rows stays
-  kept-other : (i : ℕ) → i < 4 * r → getD (kept facts r f) i 0 ≡ getD facts i 0
-  unfolding kept
-  kept-other i h =
-      getD-set-other thrice (4 * r + 3) i (f .fixed) 0 (omega arith)
-      ∙ getD-set-other twice (4 * r + 2) i (f .loose) 0 (omega arith)
-      ∙ getD-set-other once (4 * r + 1) i (f .depth) 0 (omega arith)
-      ∙ getD-set-other facts (4 * r) i (f .size) 0 (omega arith)
-
-  facts-other : (a : ℕ) → a < r → factsAt (kept facts r f) a ≡ factsAt facts a
+  facts-other : (a : ℕ) → a < r → factsAt (keptFacts facts r f) a ≡ factsAt facts a
   unfolding factsAt
   facts-other a h =
+      let other = kept-other facts r (f .size) (f .depth) (f .loose) (f .fixed) in
       facts-same
-      (kept-other (4 * a) (omega arith))
-      (kept-other (4 * a + 1) (omega arith))
-      (kept-other (4 * a + 2) (omega arith))
-      (kept-other (4 * a + 3) (omega arith))
+      (other (4 * a) (λ k l q. omega arith))
+      (other (4 * a + 1) (λ k l q. omega arith))
+      (other (4 * a + 2) (λ k l q. omega arith))
+      (other (4 * a + 3) (λ k l q. omega arith))
 
-  facts-here : 4 * r + 3 < length facts → factsAt (kept facts r f) r ≡ f
-  unfolding factsAt kept
+  facts-here : 4 * r + 3 < length facts → factsAt (keptFacts facts r f) r ≡ f
+  unfolding factsAt
   facts-here h =
       facts-same
-      (getD-set-other thrice (4 * r + 3) (4 * r) (f .fixed) 0 (omega arith)
-      ∙ getD-set-other twice (4 * r + 2) (4 * r) (f .loose) 0 (omega arith)
-      ∙ getD-set-other once (4 * r + 1) (4 * r) (f .depth) 0 (omega arith)
-      ∙ getD-set-same facts (4 * r) (f .size) 0 (omega arith))
-      (getD-set-other thrice (4 * r + 3) (4 * r + 1) (f .fixed) 0 (omega arith)
-      ∙ getD-set-other twice (4 * r + 2) (4 * r + 1) (f .loose) 0 (omega arith)
-      ∙ getD-set-same once (4 * r + 1) (f .depth) 0 (simp length-set (omega arith)))
-      (getD-set-other thrice (4 * r + 3) (4 * r + 2) (f .fixed) 0 (omega arith)
-      ∙ getD-set-same twice (4 * r + 2) (f .loose) 0 (simp length-set (omega arith)))
-      (getD-set-same thrice (4 * r + 3) (f .fixed) 0 (simp length-set (omega arith)))
+      (kept-first facts r (f .size) (f .depth) (f .loose) (f .fixed) h)
+      (kept-second facts r (f .size) (f .depth) (f .loose) (f .fixed) h)
+      (kept-third facts r (f .size) (f .depth) (f .loose) (f .fixed) h)
+      (kept-fourth facts r (f .size) (f .depth) (f .loose) (f .fixed) h)
 
 known-of : (rows : ℕ → Row) (facts : List ℕ) (r : ℕ) → factsAt facts r ≡ factsOf (tree rows r) → Known rows facts r
 unfolding factsAt factsOf
@@ -379,14 +351,14 @@ passed-none rows facts =
     }
 
 pub passed-more : (rows : ℕ → Row) (facts : List ℕ) (r : ℕ) (f : Facts) → Passed rows facts r → 4 * r + 3 < length facts
-    → Formed f ≡ judged rows r → f .size ≤ 4096 → f .depth ≤ 64 → Passed rows (kept facts r f) (r + 1)
+    → Formed f ≡ judged rows r → f .size ≤ 4096 → f .depth ≤ 64 → Passed rows (keptFacts facts r f) (r + 1)
 passed-more rows facts r f passed room h p q =
     record {
-      room = omega (arith, length-kept facts r f);
+      room = omega (arith, kept-length facts r (f .size) (f .depth) (f .loose) (f .fixed));
       known =
           each-more r
-          (λ a l. known-of rows (kept facts r f) a (facts-other facts r f a l ∙ kept-facts passed a l))
-          (known-of rows (kept facts r f) r (facts-here facts r f room ∙ judged-formed rows r h .1));
+          (λ a l. known-of rows (keptFacts facts r f) a (facts-other facts r f a l ∙ kept-facts passed a l))
+          (known-of rows (keptFacts facts r f) r (facts-here facts r f room ∙ judged-formed rows r h .1));
       formed = each-more r (passed .formed) (judged-formed rows r h .0);
       small = each-more r (passed .small) (row-small rows r h p q);
     }
@@ -404,9 +376,9 @@ module _ (rows : ℕ → Row) (facts : List ℕ) (r : ℕ) where
   none-kept h = ap (λ (o : Option Verdict). keptIf o facts r (factsOf (tree rows r))) h
 
   -- one that passes keeps its numbers
-  pub some-kept : {f : Facts} → Formed f ≡ judged rows r → none ≡ rowRefusal rows r → kept facts r f ≡ keptIf (rowRefusal rows r) facts r (factsOf (tree rows r))
+  pub some-kept : {f : Facts} → Formed f ≡ judged rows r → none ≡ rowRefusal rows r → keptFacts facts r f ≡ keptIf (rowRefusal rows r) facts r (factsOf (tree rows r))
   unfolding keptIf
-  some-kept h n = ap (kept facts r) (judged-formed rows r h .1) ∙ ap (λ (o : Option Verdict). keptIf o facts r (factsOf (tree rows r))) n
+  some-kept h n = ap (keptFacts facts r) (judged-formed rows r h .1) ∙ ap (λ (o : Option Verdict). keptIf o facts r (factsOf (tree rows r))) n
 
   -- one row more
   pub table-more : {u w : List ℕ} → scan (rowRefusal rows) (r + 1) ≡ none → rowRefusal rows r ≡ none → u ≡ factsTable rows facts r

@@ -5,13 +5,14 @@ use mathlib.Core.Bool.{true}
 use mathlib.Core.List.{List}
 use mathlib.Core.Option.{Option, none, some}
 use lib.IntN.{ℤ}
-use lib.ListN.{length, getD, set}
+use lib.ListN.{length, getD}
 use Rattle.stab.specs.Basic.{if_then_else_, scan}
 use Rattle.stab.specs.Check.{rowRefusal, rootFits}
 use Rattle.stab.specs.declared.Verdict.{Verdict}
 use Rattle.stab.specs.Formula as F
 use Rattle.stab.specs.Formula.{Row, Formula, tree, wellFormed, smallEnough}
 use Rattle.formula.specs.Facts.{bit, AllKnown, AllFormed}
+use Rattle.formula.specs.Kept.{kept}
 use Rattle.formula.specs.declared.rows.Facts.{Facts}
 use Rattle.formula.specs.declared.rows.Judged.{Judged}
 use Rattle.formula.specs.declared.rows.Judged.the-variants.{Ill, Formed}
@@ -24,13 +25,13 @@ factsOf f = record { size = F.size f; depth = F.depth f; loose = bit (F.loose f)
 unfoldable pub factsAt : List ℕ → ℕ → Facts
 factsAt facts r = record { size = getD facts (4 * r) 0; depth = getD facts (4 * r + 1) 0; loose = getD facts (4 * r + 2) 0; fixed = getD facts (4 * r + 3) 0 }
 
--- the table with four numbers kept for row r
-unfoldable pub kept : List ℕ → ℕ → Facts → List ℕ
-kept facts r f = set (set (set (set facts (4 * r) (f .size)) (4 * r + 1) (f .depth)) (4 * r + 2) (f .loose)) (4 * r + 3) (f .fixed)
+-- the table with these kept for row r
+abbrev pub keptFacts : List ℕ → ℕ → Facts → List ℕ
+keptFacts facts r f = kept facts r (f .size) (f .depth) (f .loose) (f .fixed)
 
 -- those are kept where nothing is found
 unfoldable pub keptIf : Option Verdict → List ℕ → ℕ → Facts → List ℕ
-keptIf none facts r f = kept facts r f
+keptIf none facts r f = keptFacts facts r f
 keptIf (some v) facts r f = facts
 
 -- the table after the pass over n rows: the numbers of each row, up to the first that is refused

@@ -1,4 +1,5 @@
 // Formula rows: which are well formed, and how large they are.
+pub mod kept;
 pub mod rows;
 
 ghost use mathlib.Core.Path.{_≡_};
@@ -7,6 +8,15 @@ ghost use lib.IntN.{negℤ};
 ghost use Rattle.stab.specs.Basic.{eqZ, nat};
 ghost use Rattle.stab.specs.Formula.{joined};
 ghost use Rattle.formula.specs.Column.{column};
+
+// The columns of a row by their number.
+pub const KIND: usize = 0;
+
+pub const A: usize = 1;
+
+pub const B: usize = 2;
+
+pub const C: usize = 3;
 
 // The natural part of column k of row r, schema rows first.
 pub fn natural_in(schema: &[i32], s: usize, proof: &[i32], r: usize, k: usize) -> usize

@@ -11,8 +11,13 @@ ghost use Rattle.stab.specs.Formula.{joined, offset, kindOf, constant, literal,
 ghost use Rattle.stab.specs.Check.{rowRefusal, rootFits, formulasRefusal, finding};
 ghost use Rattle.formula.specs.Column.{column};
 ghost use Rattle.formula.specs.Facts.{bit};
-ghost use Rattle.formula.specs.Rows.{factsOf, factsAt, kept, keptIf, factsTable, formulasTable, judged, Passed};
+ghost use Rattle.formula.specs.Rows.{factsOf, factsAt, keptIf, factsTable, formulasTable, judged, Passed};
+use crate::A;
+use crate::B;
+use crate::C;
+use crate::KIND;
 use crate::is_in;
+use crate::kept;
 use crate::natural_in;
 use crate::under_in;
 use stab::Finding;
@@ -27,6 +32,15 @@ pub struct Facts {
     pub loose: u32,
     pub fixed: u32,
 }
+
+// Their places among the four that are kept.
+pub const SIZE: usize = 0;
+
+pub const DEPTH: usize = 1;
+
+pub const LOOSE: usize = 2;
+
+pub const FIXED: usize = 3;
 
 // What is found of a row before its size is looked at.
 pub enum Judged {
@@ -63,10 +77,10 @@ fn kind_in(schema: &[i32], s: usize, proof: &[i32], r: usize) -> usize
     requires { ⌜ r < 2 ^ 32 ⌝ }
     ensures { λ v. ⌜ kindOf (pos v) ≡ kindOf (joined (now (schema .entry)) s (now (proof .entry)) r .kind) ⌝ }
 {
-    if 0 < under_in(schema, s, proof, r, 0) {
+    if 0 < under_in(schema, s, proof, r, KIND) {
         return 8;
     }
-    natural_in(schema, s, proof, r, 0)
+    natural_in(schema, s, proof, r, KIND)
 }
 
 // 1 where a literal of row r is on i.
@@ -74,10 +88,10 @@ fn on_index(schema: &[i32], s: usize, proof: &[i32], r: usize) -> u32
     requires { ⌜ r < 2 ^ 32 ⌝ }
     ensures { λ v. ⌜ v ≡ bit (onIndex (baseOf (joined (now (schema .entry)) s (now (proof .entry)) r .b))) ⌝ }
 {
-    if is_in(schema, s, proof, r, 2, 0) {
+    if is_in(schema, s, proof, r, B, 0) {
         return 0;
     }
-    if is_in(schema, s, proof, r, 2, 1) {
+    if is_in(schema, s, proof, r, B, 1) {
         return 0;
     }
     1
@@ -92,23 +106,11 @@ fn known(facts: &[u32], r: usize) -> Facts
 {
     let at = 4 * r;
     Facts {
-        size: facts[at],
-        depth: facts[at + 1],
-        loose: facts[at + 2],
-        fixed: facts[at + 3],
+        size: facts[at + SIZE],
+        depth: facts[at + DEPTH],
+        loose: facts[at + LOOSE],
+        fixed: facts[at + FIXED],
     }
-}
-
-// Four numbers are kept for row r.
-fn keep(facts: &mut [u32], r: usize, f: Facts)
-    requires { ⌜ 4 * r + 3 < length (now facts) ⌝ }
-    ensures { λ _. ⌜ now (facts .exit) ≡ kept (now (facts .entry)) r f ⌝ }
-{
-    let at = 4 * r;
-    facts[at] = f.size;
-    facts[at + 1] = f.depth;
-    facts[at + 2] = f.loose;
-    facts[at + 3] = f.fixed;
 }
 
 fn larger(a: u32, b: u32) -> u32
@@ -150,13 +152,13 @@ fn constant(schema: &[i32], s: usize, proof: &[i32], r: usize) -> Judged
     requires { ⌜ (r < 1024) × ((v : Bool) × (kindOf (joined (now schema) s (now proof) r .kind) ≡ constant v)) ⌝ }
     ensures { λ v. ⌜ v ≡ judged (joined (now (schema .entry)) s (now (proof .entry))) r ⌝ }
 {
-    if !is_in(schema, s, proof, r, 1, 0) {
+    if !is_in(schema, s, proof, r, A, 0) {
         return Judged::Ill;
     }
-    if !is_in(schema, s, proof, r, 2, 0) {
+    if !is_in(schema, s, proof, r, B, 0) {
         return Judged::Ill;
     }
-    if !is_in(schema, s, proof, r, 3, 0) {
+    if !is_in(schema, s, proof, r, C, 0) {
         return Judged::Ill;
     }
     Judged::Formed(Facts {
@@ -172,13 +174,13 @@ fn literal(schema: &[i32], s: usize, proof: &[i32], r: usize) -> Judged
     requires { ⌜ (r < 1024) × ((v : Bool) × (kindOf (joined (now schema) s (now proof) r .kind) ≡ literal v)) ⌝ }
     ensures { λ v. ⌜ v ≡ judged (joined (now (schema .entry)) s (now (proof .entry))) r ⌝ }
 {
-    if !below_in(schema, s, proof, r, 1, 256) {
+    if !below_in(schema, s, proof, r, A, 256) {
         return Judged::Ill;
     }
-    if !below_in(schema, s, proof, r, 2, 3) {
+    if !below_in(schema, s, proof, r, B, 3) {
         return Judged::Ill;
     }
-    if !offset_in(schema, s, proof, r, 3) {
+    if !offset_in(schema, s, proof, r, C) {
         return Judged::Ill;
     }
     let loose = on_index(schema, s, proof, r);
@@ -206,17 +208,17 @@ fn junction(schema: &[i32], s: usize, proof: &[i32], r: usize, facts: &[u32]) ->
     requires { ⌜ Passed (joined (now schema) s (now proof)) (now facts) r ⌝ }
     ensures { λ v. ⌜ v ≡ judged (joined (now (schema .entry)) s (now (proof .entry))) r ⌝ }
 {
-    if !below_in(schema, s, proof, r, 1, r) {
+    if !below_in(schema, s, proof, r, A, r) {
         return Judged::Ill;
     }
-    if !below_in(schema, s, proof, r, 2, r) {
+    if !below_in(schema, s, proof, r, B, r) {
         return Judged::Ill;
     }
-    if !is_in(schema, s, proof, r, 3, 0) {
+    if !is_in(schema, s, proof, r, C, 0) {
         return Judged::Ill;
     }
-    let a = part(schema, s, proof, r, 1, facts);
-    let b = part(schema, s, proof, r, 2, facts);
+    let a = part(schema, s, proof, r, A, facts);
+    let b = part(schema, s, proof, r, B, facts);
     let f = both(a, b);
     if f.loose == 0 {
         return Judged::Formed(f);
@@ -233,16 +235,16 @@ fn iteration(schema: &[i32], s: usize, proof: &[i32], r: usize, facts: &[u32]) -
     requires { ⌜ Passed (joined (now schema) s (now proof)) (now facts) r ⌝ }
     ensures { λ v. ⌜ v ≡ judged (joined (now (schema .entry)) s (now (proof .entry))) r ⌝ }
 {
-    if !below_in(schema, s, proof, r, 1, r) {
+    if !below_in(schema, s, proof, r, A, r) {
         return Judged::Ill;
     }
-    if !offset_in(schema, s, proof, r, 2) {
+    if !offset_in(schema, s, proof, r, B) {
         return Judged::Ill;
     }
-    if !offset_in(schema, s, proof, r, 3) {
+    if !offset_in(schema, s, proof, r, C) {
         return Judged::Ill;
     }
-    let f = part(schema, s, proof, r, 1, facts);
+    let f = part(schema, s, proof, r, A, facts);
     if f.fixed == 0 {
         return Judged::Formed(over(f));
     }
@@ -299,7 +301,7 @@ fn step(schema: &[i32], s: usize, proof: &[i32], r: usize, facts: &mut [u32]) ->
             place: Place::At(r),
         };
     }
-    keep(facts, r, f);
+    kept::keep(facts, r, f.size, f.depth, f.loose, f.fixed);
     Finding::Nothing
 }
 

@@ -1,4 +1,7 @@
 // What is compared of two rows without going down: a column, the numbers of two literals, the ranges of two iterations.
+use formula::A;
+use formula::B;
+use formula::C;
 use formula::natural_in;
 use formula::under_in;
 ghost use mathlib.Core.Path.{_≡_};
@@ -61,8 +64,8 @@ fn is_raised(
     requires { ⌜ offset (joined (now schema) s (now proof) g .c) ≡ true ⌝ }
     ensures { λ v. ⌜ v ≡ eqZ (joined (now (schema .entry)) s (now (proof .entry)) f .c +ℤ (pos up -ℤ pos down)) (joined (now (schema .entry)) s (now (proof .entry)) g .c) ⌝ }
 {
-    natural_in(schema, s, proof, f, 3) + up + under_in(schema, s, proof, g, 3)
-        == natural_in(schema, s, proof, g, 3) + under_in(schema, s, proof, f, 3) + down
+    natural_in(schema, s, proof, f, C) + up + under_in(schema, s, proof, g, C)
+        == natural_in(schema, s, proof, g, C) + under_in(schema, s, proof, f, C) + down
 }
 
 // Two literals of one kind agree, the first changed: by mode 1 the literals on the parameter are moved, whose base has the
@@ -84,11 +87,11 @@ pub fn literals_agree(
     requires { ⌜ InRange (joined (now schema) s (now proof) g) ⌝ }
     ensures { λ v. ⌜ v ≡ agree (changed mode (pos up -ℤ pos down) (literalOf (joined (now (schema .entry)) s (now (proof .entry)) f))) (literalOf (joined (now (schema .entry)) s (now (proof .entry)) g)) ⌝ }
 {
-    if !same_in(schema, s, proof, f, 1, g, 1) {
+    if !same_in(schema, s, proof, f, A, g, A) {
         return false;
     }
-    let x = natural_in(schema, s, proof, f, 2);
-    let y = natural_in(schema, s, proof, g, 2);
+    let x = natural_in(schema, s, proof, f, B);
+    let y = natural_in(schema, s, proof, g, B);
     if 0 < mode {
         if x == mode {
             if y != 1 {
@@ -100,7 +103,7 @@ pub fn literals_agree(
     if x != y {
         return false;
     }
-    same_in(schema, s, proof, f, 3, g, 3)
+    same_in(schema, s, proof, f, C, g, C)
 }
 
 // The ranges of two iterations agree, the first's limit changed.
@@ -120,11 +123,11 @@ pub fn ranges_agree(
     requires { ⌜ offset (joined (now schema) s (now proof) g .c) ≡ true ⌝ }
     ensures { λ v. ⌜ v ≡ (eqZ (joined (now (schema .entry)) s (now (proof .entry)) f .b) (joined (now (schema .entry)) s (now (proof .entry)) g .b) and eqZ (limit mode (pos up -ℤ pos down) (joined (now (schema .entry)) s (now (proof .entry)) f .c)) (joined (now (schema .entry)) s (now (proof .entry)) g .c)) ⌝ }
 {
-    if !same_in(schema, s, proof, f, 2, g, 2) {
+    if !same_in(schema, s, proof, f, B, g, B) {
         return false;
     }
     if mode == 1 {
         return is_raised(schema, s, proof, up, down, f, g);
     }
-    same_in(schema, s, proof, f, 3, g, 3)
+    same_in(schema, s, proof, f, C, g, C)
 }

@@ -1,8 +1,9 @@
 // A node's bound against its rule, and the index of a clash: refusal 14.
 // A sum of table numbers is compared by natural parts: what lies below 0 goes to the other side.
 use branch::counts::Counts;
-use branch::kept;
 use branch::node;
+use branch::worked;
+use formula::kept;
 ghost use mathlib.Core.Path.{_≡_};
 ghost use mathlib.Core.Bool.{Bool, true};
 ghost use mathlib.Core.List.{[]};
@@ -37,10 +38,10 @@ fn reaches(schema: &[i32], s: usize, proof: &[i32], r: usize, l: usize) -> bool
     requires { ⌜ offset (joined (now schema) s (now proof) r .c) ≡ true ⌝ }
     ensures { λ v. ⌜ v ≡ leZ (joined (now (schema .entry)) s (now (proof .entry)) r .b +ℤ joined (now (schema .entry)) s (now (proof .entry)) r .c) (pos l) ⌝ }
 {
-    let over = formula::natural_in(schema, s, proof, r, 2)
-        + formula::natural_in(schema, s, proof, r, 3);
-    let under = formula::under_in(schema, s, proof, r, 2)
-        + formula::under_in(schema, s, proof, r, 3);
+    let over = formula::natural_in(schema, s, proof, r, formula::B)
+        + formula::natural_in(schema, s, proof, r, formula::C);
+    let under = formula::under_in(schema, s, proof, r, formula::B)
+        + formula::under_in(schema, s, proof, r, formula::C);
     over <= l + under
 }
 
@@ -62,7 +63,7 @@ fn base_at(schema: &[i32], s: usize, proof: &[i32], r: usize, l: usize) -> usize
     requires { ⌜ (r < 2 ^ 32) × (l < 2 ^ 32) ⌝ }
     ensures { λ v. ⌜ (pos v ≡ base l (pos 0) (baseOf (joined (now (schema .entry)) s (now (proof .entry)) r .b))) × (v < 2 ^ 32) ⌝ }
 {
-    if formula::is_in(schema, s, proof, r, 2, 1) {
+    if formula::is_in(schema, s, proof, r, formula::B, 1) {
         return l;
     }
     0
@@ -75,10 +76,12 @@ fn same_index(schema: &[i32], s: usize, proof: &[i32], on: usize, with: usize, l
     requires { ⌜ offset (joined (now schema) s (now proof) with .c) ≡ true ⌝ }
     ensures { λ v. ⌜ v ≡ eqZ (indexAt l (joined (now (schema .entry)) s (now (proof .entry)) on)) (indexAt l (joined (now (schema .entry)) s (now (proof .entry)) with)) ⌝ }
 {
-    let left = base_at(schema, s, proof, on, l) + formula::natural_in(schema, s, proof, on, 3);
-    let right = base_at(schema, s, proof, with, l) + formula::natural_in(schema, s, proof, with, 3);
-    left + formula::under_in(schema, s, proof, with, 3)
-        == right + formula::under_in(schema, s, proof, on, 3)
+    let left = base_at(schema, s, proof, on, l)
+        + formula::natural_in(schema, s, proof, on, formula::C);
+    let right = base_at(schema, s, proof, with, l)
+        + formula::natural_in(schema, s, proof, with, formula::C);
+    left + formula::under_in(schema, s, proof, with, formula::C)
+        == right + formula::under_in(schema, s, proof, on, formula::C)
 }
 
 // Columns b and c of two rows are equal.
@@ -86,10 +89,10 @@ fn same_place(schema: &[i32], s: usize, proof: &[i32], on: usize, with: usize) -
     requires { ⌜ (on < 2 ^ 32) × (with < 2 ^ 32) ⌝ }
     ensures { λ v. ⌜ v ≡ (eqZ (joined (now (schema .entry)) s (now (proof .entry)) on .b) (joined (now (schema .entry)) s (now (proof .entry)) with .b) and eqZ (joined (now (schema .entry)) s (now (proof .entry)) on .c) (joined (now (schema .entry)) s (now (proof .entry)) with .c)) ⌝ }
 {
-    if !leaves::same_in(schema, s, proof, on, 2, with, 2) {
+    if !leaves::same_in(schema, s, proof, on, formula::B, with, formula::B) {
         return false;
     }
-    leaves::same_in(schema, s, proof, on, 3, with, 3)
+    leaves::same_in(schema, s, proof, on, formula::C, with, formula::C)
 }
 
 // Rule 6: the same index, at every n or at the one that the node knows.
@@ -132,7 +135,7 @@ fn is_exact(work: &[u32], j: usize) -> bool
     requires { ⌜ j < 2 ^ 32 ⌝ }
     ensures { λ r. ⌜ r ≡ eqb (getD (now (work .entry)) (4 * j + 2) 0) 1 ⌝ }
 {
-    kept::kept_at(work, 4 * j + 2) == 1
+    kept::kept_at(work, 4 * j + worked::EXACT) == 1
 }
 
 // Node j is a link whose target's bound allows it, where L is the node's own.
@@ -140,13 +143,13 @@ fn target_allows(nodes: &[i32], work: &[u32], j: usize, l: usize) -> bool
     requires { ⌜ j < 2 ^ 32 ⌝ }
     ensures { λ r. ⌜ ((own : Bool) → r ≡ loopFits (bounded own l) (boundBy (now (work .entry)) (nat (nodeAt (now (nodes .entry)) j .to))) (pos (nat (nodeAt (now (nodes .entry)) j .by)))) ⌝ }
 {
-    let to = fields::small_of(nodes, j, fields::TO);
-    let least = kept::kept_at(work, 4 * to + 1);
+    let to = node::natural_of(nodes, j, node::TO);
+    let least = kept::kept_at(work, 4 * to + worked::L);
     link_fits(
         l,
         is_exact(work, to),
         least,
-        fields::small_of(nodes, j, fields::BY),
+        node::natural_of(nodes, j, node::BY),
     )
 }
 
@@ -166,11 +169,11 @@ pub fn bound_fits(
     requires { ⌜ (ofRule 8 (nodeAt (now nodes) j) ≡ true → nat (nodeAt (now nodes) j .to) < j) ⌝ }
     ensures { λ r. ⌜ r ≡ boundFits (lent (now (schema .entry)) (now (proof .entry)) (now (nodes .entry)) [] t) j ⌝ }
 {
-    let l = kept::kept_at(work, 4 * j + 1);
+    let l = kept::kept_at(work, 4 * j + worked::L);
     let exact = is_exact(work, j);
-    let on = node::natural_of(nodes, j, fields::ON);
-    let with = node::natural_of(nodes, j, fields::WITH);
-    match node::natural_of(nodes, j, fields::RULE) {
+    let on = node::natural_of(nodes, j, node::ON);
+    let with = node::natural_of(nodes, j, node::WITH);
+    match node::natural_of(nodes, j, node::RULE) {
         2 => split_fits(exact, l),
         3 | 4 => reaches(schema, t.schema, proof, on, l),
         6 => clash_fits(schema, t.schema, proof, on, with, exact, l),

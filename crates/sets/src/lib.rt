@@ -3,6 +3,7 @@ pub mod parents;
 
 use branch::member;
 use branch::node;
+use formula::rows::LOOSE;
 use stab::Finding;
 use stab::Place;
 use stab::Refusal;
@@ -31,7 +32,7 @@ fn is_outer(facts: &[u32], n: usize, members: &[i32], at: usize) -> bool
     if n <= r {
         return false;
     }
-    facts[4 * r + 2] == 0
+    facts[4 * r + LOOSE] == 0
 }
 
 // Member i of the list is the number of an outer row, and more than the one before.
@@ -69,16 +70,16 @@ fn place_fits(nodes: &[i32], m: usize, j: usize, from: usize) -> bool
     requires { ⌜ (j < 2 ^ 32) × (setStart (now nodes) j ≡ pos from) × (from ≤ m) ⌝ }
     ensures { λ r. ⌜ r ≡ placeFits (now (nodes .entry)) m j ⌝ }
 {
-    if 0 < node::under_of(nodes, j, 7) {
+    if 0 < node::under_of(nodes, j, node::START) {
         return false;
     }
-    if node::natural_of(nodes, j, 7) != from {
+    if node::natural_of(nodes, j, node::START) != from {
         return false;
     }
-    if 0 < node::under_of(nodes, j, 8) {
+    if 0 < node::under_of(nodes, j, node::SIZE) {
         return false;
     }
-    node::natural_of(nodes, j, 8) <= m - from
+    node::natural_of(nodes, j, node::SIZE) <= m - from
 }
 
 // The set of node j, one of k, is right, where the set before it ends at `from`.
@@ -98,7 +99,7 @@ fn set_is_right(
     if !place_fits(nodes, m, j, from) {
         return false;
     }
-    let len = node::natural_of(nodes, j, 8);
+    let len = node::natural_of(nodes, j, node::SIZE);
     if !list_fits(facts, n, members, from, len) {
         return false;
     }
@@ -122,7 +123,7 @@ pub fn sets(facts: &[u32], n: usize, nodes: &[i32], k: usize, members: &[i32], m
                 place: Place::At(j),
             };
         }
-        from += node::natural_of(nodes, j, 8);
+        from += node::natural_of(nodes, j, node::SIZE);
         j += 1;
     }
     Finding::Nothing

@@ -20,12 +20,12 @@ fn up_fits(nodes: &[i32], j: usize) -> bool
     ensures { λ r. ⌜ r ≡ upFits (now (nodes .entry)) j ⌝ }
 {
     if j == 0 {
-        return node::is_of(nodes, 0, 0, -1);
+        return node::is_of(nodes, 0, node::UP, -1);
     }
-    if 0 < node::under_of(nodes, j, 0) {
+    if 0 < node::under_of(nodes, j, node::UP) {
         return false;
     }
-    node::natural_of(nodes, j, 0) < j
+    node::natural_of(nodes, j, node::UP) < j
 }
 
 // The set of node j is the row z alone.
@@ -33,10 +33,10 @@ fn is_alone(nodes: &[i32], members: &[i32], j: usize, z: i32) -> bool
     requires { ⌜ (j < 2 ^ 32) × Within (now nodes) (length (now members)) j ⌝ }
     ensures { λ r. ⌜ r ≡ isAlone (now (nodes .entry)) (now (members .entry)) j z ⌝ }
 {
-    if node::natural_of(nodes, j, 8) != 1 {
+    if node::natural_of(nodes, j, node::SIZE) != 1 {
         return false;
     }
-    signed::is_at(members, node::natural_of(nodes, j, 7), z)
+    signed::is_at(members, node::natural_of(nodes, j, node::START), z)
 }
 
 // The parent of node j is right, and node 0's set.

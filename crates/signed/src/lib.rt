@@ -60,15 +60,8 @@ pub fn equal(a: i32, b: i32) -> bool
     a == b
 }
 
-// The natural part of what stands at i.
+// The natural part of what stands at i, and how large it can be.
 pub fn natural_at(t: &[i32], i: usize) -> usize
-    ensures { λ r. ⌜ r ≡ nat (getD (now (t .entry)) i (pos 0)) ⌝ }
-{
-    natural(at(t, i))
-}
-
-// The same, and how large it can be.
-pub fn small_at(t: &[i32], i: usize) -> usize
     ensures { λ r. ⌜ (r ≡ nat (getD (now (t .entry)) i (pos 0))) × (r < 2 ^ 32) ⌝ }
 {
     natural(at(t, i))

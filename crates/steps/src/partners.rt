@@ -18,10 +18,10 @@ fn unfolds(nodes: &[i32], j: usize) -> bool
     requires { ⌜ j < 2 ^ 32 ⌝ }
     ensures { λ r. ⌜ r ≡ (ofRule 3 (nodeAt (now (nodes .entry)) j) or ofRule 4 (nodeAt (now (nodes .entry)) j)) ⌝ }
 {
-    if node::is_of(nodes, j, fields::RULE, 3) {
+    if node::is_of(nodes, j, node::RULE, 3) {
         return true;
     }
-    node::is_of(nodes, j, fields::RULE, 4)
+    node::is_of(nodes, j, node::RULE, 4)
 }
 
 // Column c of row `with` is one more than that of row `on`.
@@ -31,9 +31,10 @@ fn is_next(schema: &[i32], s: usize, proof: &[i32], on: usize, with: usize) -> b
     requires { ⌜ offset (joined (now schema) s (now proof) with .c) ≡ true ⌝ }
     ensures { λ v. ⌜ v ≡ eqZ (joined (now (schema .entry)) s (now (proof .entry)) with .c) (joined (now (schema .entry)) s (now (proof .entry)) on .c +ℤ pos 1) ⌝ }
 {
-    formula::natural_in(schema, s, proof, with, 3) + formula::under_in(schema, s, proof, on, 3)
-        == formula::natural_in(schema, s, proof, on, 3)
-            + formula::under_in(schema, s, proof, with, 3)
+    formula::natural_in(schema, s, proof, with, formula::C)
+        + formula::under_in(schema, s, proof, on, formula::C)
+        == formula::natural_in(schema, s, proof, on, formula::C)
+            + formula::under_in(schema, s, proof, with, formula::C)
             + 1
 }
 
@@ -44,10 +45,10 @@ fn is_shortened(schema: &[i32], s: usize, proof: &[i32], on: usize, with: usize)
     requires { ⌜ offset (joined (now schema) s (now proof) with .c) ≡ true ⌝ }
     ensures { λ v. ⌜ v ≡ shortened (joined (now (schema .entry)) s (now (proof .entry)) on) (joined (now (schema .entry)) s (now (proof .entry)) with) ⌝ }
 {
-    if !leaves::same_in(schema, s, proof, with, 1, on, 1) {
+    if !leaves::same_in(schema, s, proof, with, formula::A, on, formula::A) {
         return false;
     }
-    if !leaves::same_in(schema, s, proof, with, 2, on, 2) {
+    if !leaves::same_in(schema, s, proof, with, formula::B, on, formula::B) {
         return false;
     }
     is_next(schema, s, proof, on, with)
@@ -63,11 +64,11 @@ pub fn partners_fit(schema: &[i32], proof: &[i32], nodes: &[i32], t: Counts, j: 
     if !unfolds(nodes, j) {
         return true;
     }
-    let on = node::natural_of(nodes, j, fields::ON);
-    let with = node::natural_of(nodes, j, fields::WITH);
+    let on = node::natural_of(nodes, j, node::ON);
+    let with = node::natural_of(nodes, j, node::WITH);
     if !is_shortened(schema, t.schema, proof, on, with) {
         return false;
     }
-    let other = node::natural_of(nodes, j, fields::OTHER);
+    let other = node::natural_of(nodes, j, node::OTHER);
     alike::is_instance(schema, t.schema, proof, on, other)
 }

@@ -3,9 +3,10 @@ use crate::partners;
 use alike::lowered;
 use branch::above;
 use branch::counts::Counts;
-use branch::kept;
 use branch::node;
+use branch::worked;
 use fields::rules;
+use formula::kept;
 use stab::Finding;
 use stab::Place;
 use stab::Refusal;
@@ -49,13 +50,13 @@ fn target_fits(nodes: &[i32], j: usize) -> bool
     requires { ⌜ (j < 2 ^ 32) × AllUpFit (now nodes) (j + 1) ⌝ }
     ensures { λ r. ⌜ r ≡ (ofRule 8 (nodeAt (now (nodes .entry)) j) implies isAncestor (now (nodes .entry)) (nodeAt (now (nodes .entry)) j .to) j) ⌝ }
 {
-    if !node::is_of(nodes, j, fields::RULE, 8) {
+    if !node::is_of(nodes, j, node::RULE, 8) {
         return true;
     }
-    if 0 < node::under_of(nodes, j, fields::TO) {
+    if 0 < node::under_of(nodes, j, node::TO) {
         return false;
     }
-    above::is_above(nodes, node::natural_of(nodes, j, fields::TO), j)
+    above::is_above(nodes, node::natural_of(nodes, j, node::TO), j)
 }
 
 // 16: of a link, each row of the target's set, lowered, stands in the node's.
@@ -75,11 +76,11 @@ fn lowered_fits(
     requires { ⌜ (ofRule 8 (nodeAt (now nodes) j) ≡ true → (nat (nodeAt (now nodes) j .to) < 2 ^ 32) × SetOfRows (now nodes) (now members) (t .schema + t .proof) (nat (nodeAt (now nodes) j .to))) ⌝ }
     ensures { λ r. ⌜ r ≡ loweredFits (lent (now (schema .entry)) (now (proof .entry)) (now (nodes .entry)) (now (members .entry)) t) j ⌝ }
 {
-    if !node::is_of(nodes, j, fields::RULE, 8) {
+    if !node::is_of(nodes, j, node::RULE, 8) {
         return true;
     }
-    let to = node::natural_of(nodes, j, fields::TO);
-    let by = signed::at(nodes, 9 * j + fields::BY);
+    let to = node::natural_of(nodes, j, node::TO);
+    let by = signed::at(nodes, 9 * j + node::BY);
     lowered::all_lowered(schema, proof, nodes, members, facts, t, j, to, by)
 }
 
@@ -88,8 +89,8 @@ fn children_fit(nodes: &[i32], work: &[u32], j: usize) -> bool
     requires { ⌜ (j < 2 ^ 32) × (below 9 (nodeAt (now nodes) j .rule) ≡ true) ⌝ }
     ensures { λ r. ⌜ r ≡ eqb (getD (now (work .entry)) (4 * j + 3) 0) (ruleOf (nodeAt (now (nodes .entry)) j .rule) .children) ⌝ }
 {
-    let rule = rules::rule_at(node::natural_of(nodes, j, fields::RULE));
-    kept::kept_at(work, 4 * j + 3) == rule.children
+    let rule = rules::rule_at(node::natural_of(nodes, j, node::RULE));
+    kept::kept_at(work, 4 * j + worked::CHILDREN) == rule.children
 }
 
 // What is found of node j: 11 to 16, which look at no later node.

@@ -8,9 +8,10 @@ use lib.ListN.{length, set}
 use Rattle.stab.specs.Basic.{nat}
 use Rattle.stab.specs.Node.{Bound, boundOf}
 use Rattle.formula.specs.Facts.{bit}
+use Rattle.formula.proofs.KeptLaws.{kept-length}
 use Rattle.branch.specs.Work.{AllWorked}
 use Rattle.bounds.specs.Bounds.{Stays}
-use Rattle.bounds.proofs.WorkLaws.{parent-before, l-small, rank-small, bound-at, kept-length, work-more, work-stays}
+use Rattle.bounds.proofs.WorkLaws.{parent-before, l-small, rank-small, bound-at, work-more, work-stays}
 use Rattle.bounds.proofs.work_child.Statement.{statement}
 use Rattle.bounds.proofs.work_child.Tie as tie
 
@@ -57,7 +58,7 @@ slice-write-work : tie.Need-slice-write-work
 slice-write-work c =
     let s = c .before .before .before .before .before .before .before .before .before .before .before .before .before in
     let a = s .args in
-    omega (arith, parent-before (s .pre .2), ap length (c .before .before .keep .ensures), kept-length (a .work .now) (a .j) (c .before .before .before .before .before .before .before .before .before .before .number-of .result) (c .before .before .before .before .before .before .before .child-l .result) (c .before .before .before .before .child-exact .result))
+    omega (arith, parent-before (s .pre .2), ap length (c .before .before .keep .ensures), kept-length (a .work .now) (a .j) (c .before .before .before .before .before .before .before .before .before .before .number-of .result) (c .before .before .before .before .before .before .before .child-l .result) (c .before .before .before .before .child-exact .result) 0)
 
 same-length : tie.Need-same-length
 same-length c = search needs

@@ -6,8 +6,9 @@ use mathlib.Core.List.{List}
 use lib.IntN.{pos}
 use lib.ListN.{getD}
 use Rattle.stab.specs.Basic.{nat}
+use Rattle.formula.proofs.KeptLaws.{kept-other}
 use Rattle.branch.specs.Work.{AllWorked}
-use Rattle.bounds.proofs.WorkLaws.{work-first, kept-other}
+use Rattle.bounds.proofs.WorkLaws.{work-first}
 use Rattle.bounds.proofs.work_node.Statement.{statement}
 use Rattle.bounds.proofs.work_node.Tie as tie
 
@@ -23,7 +24,7 @@ natural-of-requires c κs = search needs
 work-child-requires : tie.Need-work-child-requires
 work-child-requires c κs =
     let s = c .before .before .before .before in
-    (s .pre .0, s .pre .1, record { fits = s .pre .3; later = omega arith; parent = c .natural-of .ensures; room = s .pre .2; done = s .pre .4 })
+    (s .pre .0, s .pre .1, record { fits = s .pre .3; later = omega arith; parent = c .natural-of .ensures .0; room = s .pre .2; done = s .pre .4 })
 
 same-length : tie.Need-same-length
 same-length c = search needs
@@ -38,7 +39,7 @@ returns c =
       subst (λ (n : ℕ). AllWorked (a .nodes .now) (pos (a .least)) (n + 1) (k .last .0) (n + 1)) (sym e)
           (subst (λ (w : List ℕ). AllWorked (a .nodes .now) (pos (a .least)) 1 w 1) (sym (k .ensures))
           (work-first (a .nodes .now) (pos (a .least)) (a .work .now) (omega (arith, s .pre .2, e)) (λ i p. s .pre .3 i (omega arith)))),
-      λ x p. ap (λ (w : List ℕ). getD w x 0) (k .ensures) ∙ kept-other (a .work .now) 0 0 _ 0 x (λ i k q. omega arith),
+      λ x p. ap (λ (w : List ℕ). getD w x 0) (k .ensures) ∙ kept-other (a .work .now) 0 0 _ 0 0 x (λ i k q. omega arith),
     )
 
 same-length-2 : tie.Need-same-length-2

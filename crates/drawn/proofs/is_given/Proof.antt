@@ -8,8 +8,8 @@ use Rattle.drawn.proofs.DrawnLaws.{given-parts, given-side, given-unfol
 use Rattle.drawn.proofs.is_given.Statement.{statement}
 use Rattle.drawn.proofs.is_given.Tie as tie
 
-small-of-requires : tie.Need-small-of-requires
-small-of-requires c κs = search needs
+natural-of-requires : tie.Need-natural-of-requires
+natural-of-requires c κs = search needs
 
 is-of-requires : tie.Need-is-of-requires
 is-of-requires c κs = search needs
@@ -21,7 +21,7 @@ returns : tie.Need-returns
 unfolding ofRule row rows
 returns c =
     c .is-part .ensures
-    ∙ rw (c .before .before .before .small-of .ensures .0)
+    ∙ rw (c .before .before .before .natural-of .ensures .0)
     (ap (has (pos (c .before .before .before .before .args .z))) (given-parts _ _ _ (sym (c .before .before .is-of .ensures) ∙ c .before .if1 .taken)))
 
 is-of-requires-2 : tie.Need-is-of-requires-2
@@ -34,7 +34,7 @@ returns-2 : tie.Need-returns-2
 unfolding ofRule row rows
 returns-2 c =
     c .is-side .ensures
-    ∙ rw (c .before .before .before .before .before .small-of .ensures .0)
+    ∙ rw (c .before .before .before .before .before .natural-of .ensures .0)
     (ap (has (pos (c .before .before .before .before .before .before .args .z))) (given-side _ _ _ (sym (c .before .before .before .before .is-of .ensures) ∙ c .before .before .before .if1 .left) (sym (c .before .before .is-of2 .ensures) ∙ c .before .if2 .taken)))
 
 is-of-requires-3 : tie.Need-is-of-requires-3
@@ -84,7 +84,7 @@ pub is-given-spec : {M : Type 1} → statement M
 is-given-spec =
     tie.close
     (tie.spec
-    small-of-requires
+    natural-of-requires
     is-of-requires
     is-part-requires
     returns

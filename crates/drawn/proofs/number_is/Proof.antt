@@ -18,7 +18,7 @@ natural-of-requires c κs = search needs
 returns-2 : tie.Need-returns-2
 returns-2 c =
     let z = c .before .before .before .args .z in
-    ap (eqb z) (c .natural-of .ensures) ∙ natural-same _ z (omega (arith, c .before .before .under-of .ensures))
+    ap (eqb z) (c .natural-of .ensures .0) ∙ natural-same _ z (omega (arith, c .before .before .under-of .ensures))
 
 pub number-is-spec : {M : Type 1} → statement M
 number-is-spec = tie.close (tie.spec under-of-requires returns natural-of-requires returns-2)

@@ -25,7 +25,7 @@ there c = asked-true (c .before .before .before .is-below .ensures) (c .before .
 
 found : (c : tie.After-rule-at) → c .rule-at .result ≡ rule (Lent (Begin c)) (Begin c .args .j)
 unfolding node
-found c = entry-is (Lent (Begin c)) (Begin c .args .j) _ _ (there c) (c .before .natural-of .ensures) (c .rule-at .ensures)
+found c = entry-is (Lent (Begin c)) (Begin c .args .j) _ _ (there c) (c .before .natural-of .ensures .0) (c .rule-at .ensures)
 
 is-below-requires : tie.Need-is-below-requires
 is-below-requires c κs = search needs
@@ -38,7 +38,7 @@ natural-of-requires : tie.Need-natural-of-requires
 natural-of-requires c κs = search needs
 
 rule-at-requires : tie.Need-rule-at-requires
-rule-at-requires c κs = omega (arith, c .natural-of .ensures, below-nat 9 _ (asked-true (c .before .before .is-below .ensures) (c .before .if1 .left)))
+rule-at-requires c κs = omega (arith, c .natural-of .ensures .0, below-nat 9 _ (asked-true (c .before .before .is-below .ensures) (c .before .if1 .left)))
 
 rows-fit-requires : tie.Need-rows-fit-requires
 rows-fit-requires c κs = search needs

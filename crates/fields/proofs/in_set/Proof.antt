@@ -19,14 +19,14 @@ stands-requires : tie.Need-stands-requires
 unfolding setOf
 stands-requires c κs =
     let held = c .before .before .before .pre .1 .0 in
-    rw (c .before .before .natural-of .ensures, c .before .natural-of2 .ensures) (held .within, held .up)
+    rw (c .before .before .natural-of .ensures .0, c .before .natural-of2 .ensures .0) (held .within, held .up)
 
 returns : tie.Need-returns
 unfolding setOf
 returns c =
     let a = c .before .before .before in
     c .stands .ensures
-    ∙ rw (a .natural-of .ensures, c .before .before .natural-of2 .ensures, c .before .natural-of3 .ensures) (ap (λ (z : ℤ). has z (setOf (a .before .args .members .now) (nodeAt (a .before .args .nodes .now) (a .before .args .j)))) (a .before .pre .1 .1))
+    ∙ rw (a .natural-of .ensures .0, c .before .before .natural-of2 .ensures .0, c .before .natural-of3 .ensures .0) (ap (λ (z : ℤ). has z (setOf (a .before .args .members .now) (nodeAt (a .before .args .nodes .now) (a .before .args .j)))) (a .before .pre .1 .1))
 
 pub in-set-spec : {M : Type 1} → statement M
 in-set-spec =

@@ -18,7 +18,7 @@ natural-of-requires c κs = search needs
 
 returns-2 : tie.Need-returns-2
 returns-2 c =
-    ap (λ (x : ℕ). ltb x (c .before .before .before .args .n)) (c .natural-of .ensures)
+    ap (λ (x : ℕ). ltb x (c .before .before .before .args .n)) (c .natural-of .ensures .0)
     ∙ below-natural (c .before .before .before .args .n) _ (omega (arith, c .before .before .under-of .ensures))
 
 pub is-below-spec : {M : Type 1} → statement M

@@ -40,14 +40,14 @@ natural-of-requires c κs = search needs
 
 is-in-requires : tie.Need-is-in-requires
 is-in-requires c κs =
-    omega (arith, c .natural-of .ensures, below-nat _ _ (asked-true (c .before .before .is-below .ensures) (c .before .if2 .left)))
+    omega (arith, c .natural-of .ensures .0, below-nat _ _ (asked-true (c .before .before .is-below .ensures) (c .before .if2 .left)))
 
 returns-3 : tie.Need-returns-3
 unfolding unused column
 returns-3 c =
     let a = c .before .before .before .before .before .before in
     c .is-in .ensures
-    ∙ rw (toZ-ofZ (a .before .fits .need), c .before .natural-of .ensures)
+    ∙ rw (toZ-ofZ (a .before .fits .need), c .before .natural-of .ensures .0)
     (kind-row _ _ (a .before .args .need) _
     (rw (toZ-ofZ (a .before .fits .need)) at (sym (a .equal .ensures) ∙ c .before .before .before .before .before .if1 .left))
     (asked-true (c .before .before .before .is-below .ensures) (c .before .before .if2 .left)))

@@ -14,7 +14,7 @@ natural-of-requires c κs = search needs
 
 returns : tie.Need-returns
 unfolding linkFits
-returns c = ap (ltb 0) (c .natural-of .ensures) ∙ at-least-1 _ ∙ sym (if-true _ _ _ (c .before .if1 .taken))
+returns c = ap (ltb 0) (c .natural-of .ensures .0) ∙ at-least-1 _ ∙ sym (if-true _ _ _ (c .before .if1 .taken))
 
 is-of-requires : tie.Need-is-of-requires
 is-of-requires c κs = search needs

@@ -26,13 +26,13 @@ natural-of-requires-2 c κs = search needs
 same-in-requires : tie.Need-same-in-requires
 same-in-requires c κs =
     let p = c .before .before .before .before .pre .1 .1 in
-    omega (arith, c .natural-of2 .ensures, c .before .natural-of .ensures, below-nat 1024 _ (p .0), below-nat 1024 _ (p .1))
+    omega (arith, c .natural-of2 .ensures .0, c .before .natural-of .ensures .0, below-nat 1024 _ (p .0), below-nat 1024 _ (p .1))
 
 returns-2 : tie.Need-returns-2
 unfolding symbolFits node set row rows column
 returns-2 c =
     c .same-in .ensures
-    ∙ rw (c .before .natural-of2 .ensures, c .before .before .natural-of .ensures)
+    ∙ rw (c .before .natural-of2 .ensures .0, c .before .before .natural-of .ensures .0)
     (second-decides _ _ (asked-true (c .before .before .before .before .in-set .ensures) (c .before .before .before .if1 .left)))
 
 pub symbol-fits-spec : {M : Type 1} → statement M

@@ -26,12 +26,12 @@ natural-at-requires-2 c κs = search needs
 returns : tie.Need-returns
 returns c =
     let a = c .before .before .args in
-    c .natural-at .ensures ∙ ap nat (schema-column (a .schema .now) (a .s) (a .proof .now) (a .r) (a .k) (c .before .if1 .taken) (c .before .before .pre .1))
+    c .natural-at .ensures .0 ∙ ap nat (schema-column (a .schema .now) (a .s) (a .proof .now) (a .r) (a .k) (c .before .if1 .taken) (c .before .before .pre .1))
 
 returns-2 : tie.Need-returns-2
 returns-2 c =
     let a = c .before .before .args in
-    c .natural-at2 .ensures ∙ ap nat (proof-column (a .schema .now) (a .s) (a .proof .now) (a .r) (a .k) (c .before .if1 .left) (c .before .before .pre .1))
+    c .natural-at2 .ensures .0 ∙ ap nat (proof-column (a .schema .now) (a .s) (a .proof .now) (a .r) (a .k) (c .before .if1 .left) (c .before .before .pre .1))
 
 pub natural-in-spec : {M : Type 1} → statement M
 natural-in-spec =

@@ -24,7 +24,7 @@ Begin c = c .before .before .before .before .before .before
 
 numbered : (c : tie.After-natural-of3) → node (Lent (Begin c)) (Begin c .args .j) .rule ≡ pos (c .natural-of3 .result)
 unfolding node
-numbered c = sym (ap pos (c .natural-of3 .ensures) ∙ below-pos 9 _ (Begin c .pre .1 .0 .rule))
+numbered c = sym (ap pos (c .natural-of3 .ensures .0) ∙ below-pos 9 _ (Begin c .pre .1 .0 .rule))
 
 -- the bound that has been read is the node's
 bound-read : (c : tie.After-natural-of3) → bounded (c .before .before .before .is-exact .result) (c .before .before .before .before .kept-at .result) ≡ bound (Lent (Begin c)) (Begin c .args .j)
@@ -63,7 +63,7 @@ unfolding row rows rowCount node
 clash-fits-requires c κs =
     let p = clash-on (Lent (Begin (c .before))) _ _ (numbered (c .before)) (Begin (c .before) .pre .1 .0) (Begin (c .before) .pre .1 .1 .0) (c .match .keys2) in
     let q = clash-with (Lent (Begin (c .before))) _ _ (numbered (c .before)) (Begin (c .before) .pre .1 .0) (Begin (c .before) .pre .1 .1 .0) (c .match .keys2) in
-    rw (c .before .before .before .natural-of .ensures, c .before .before .natural-of2 .ensures)
+    rw (c .before .before .before .natural-of .ensures .0, c .before .before .natural-of2 .ensures .0)
     ((omega (arith, p .0), omega (arith, q .0), c .before .before .before .before .before .kept-at .ensures .1), (p .1, q .1))
 
 void-fits-requires : tie.Need-void-fits-requires
@@ -71,7 +71,7 @@ unfolding row rows rowCount node
 void-fits-requires c κs =
     let m = c .before in
     let p = void-on (Lent (Begin m)) _ _ (numbered m) (Begin m .pre .1 .0) (Begin m .pre .1 .1 .0) (c .match .keys3) in
-    rw (m .before .before .natural-of .ensures)
+    rw (m .before .before .natural-of .ensures .0)
     ((omega (arith, p .0), m .before .before .before .before .kept-at .ensures .1), (p .1, p .2))
 
 target-allows-requires : tie.Need-target-allows-requires
@@ -82,7 +82,7 @@ unfolding row rows rowCount node
 reaches-requires c κs =
     let m = c .before .before .before in
     let p = unfold-on (Lent (Begin m)) _ _ (numbered m) (Begin m .pre .1 .0) (Begin m .pre .1 .1 .0) (omega arith) (c .if2 .taken) in
-    rw (m .before .before .natural-of .ensures)
+    rw (m .before .before .natural-of .ensures .0)
     ((omega (arith, p .0), m .before .before .before .before .kept-at .ensures .1), (p .1, p .2))
 
 returns : tie.Need-returns
@@ -95,7 +95,7 @@ unfolding row rows node
 returns-2 c =
     let m = c .before .before in
     c .clash-fits .ensures
-    ∙ rw (m .before .before .natural-of .ensures, m .before .natural-of2 .ensures, bound-read m)
+    ∙ rw (m .before .before .natural-of .ensures .0, m .before .natural-of2 .ensures .0, bound-read m)
     (clash-asked (Lent (Begin m)) _ _ (numbered m) (c .before .match .keys2))
 
 returns-3 : tie.Need-returns-3
@@ -103,7 +103,7 @@ unfolding row rows node
 returns-3 c =
     let m = c .before .before in
     c .void-fits .ensures
-    ∙ rw (m .before .before .natural-of .ensures, bound-read m)
+    ∙ rw (m .before .before .natural-of .ensures .0, bound-read m)
     (void-asked (Lent (Begin m)) _ _ (numbered m) (c .before .match .keys3))
 
 returns-4 : tie.Need-returns-4
@@ -124,7 +124,7 @@ unfolding row rows node unfoldFits
 returns-5 c =
     let m = c .before .before .before .before in
     c .reaches .ensures
-    ∙ rw (m .before .before .natural-of .ensures)
+    ∙ rw (m .before .before .natural-of .ensures .0)
     (ap (λ (B : Bound). unfoldFits B (row (Lent (Begin m)) (node (Lent (Begin m)) (Begin m .args .j) .on))) (bound-read m)
     ∙ unfold-asked (Lent (Begin m)) _ _ (numbered m) (omega arith) (c .before .if2 .taken))
 

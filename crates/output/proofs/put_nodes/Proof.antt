@@ -66,7 +66,7 @@ natural-at-requires c κs = search needs
 
 sized : (c : tie.After-natural-at Inv-loop μ-loop) → c .natural-at .result ≡ Size (c .before)
 unfolding nodeAt
-sized c = c .natural-at .ensures
+sized c = c .natural-at .ensures .0
 
 -- the row and the set as they are lent
 abbrev Row : tie.In-loop Inv-loop μ-loop → List ℤ

@@ -37,7 +37,7 @@ moved-requires c κs =
 -- the sum is the key
 known : (c : tie.After-moved) → c .before .natural-at .result * 131072 + c .moved .result ≡ keyAt (now (c .before .before .args .pairs)) (c .before .before .args .k)
 unfolding pairSymbol pairIndex
-known c = key-from _ _ (c .before .before .pre .1) _ _ (c .before .natural-at .ensures) (c .moved .ensures)
+known c = key-from _ _ (c .before .before .pre .1) _ _ (c .before .natural-at .ensures .0) (c .moved .ensures)
 
 add-result : tie.Need-add-result
 add-result c = omega (arith, known c, key-small _ _ (c .before .before .pre .1))

@@ -17,7 +17,7 @@ sub-result : tie.Need-sub-result
 sub-result c = omega arith
 
 returns : tie.Need-returns
-returns c = moved-is (c .before .before .args .x) _ _ _ (c .before .natural-at .ensures) (c .under-at .ensures) (omega arith)
+returns c = moved-is (c .before .before .args .x) _ _ _ (c .before .natural-at .ensures .0) (c .under-at .ensures) (omega arith)
 
 pub moved-spec : {M : Type 1} → statement M
 moved-spec = tie.close (tie.spec natural-at-requires add-result under-at-requires sub-result returns)

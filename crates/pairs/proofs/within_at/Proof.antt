@@ -20,7 +20,7 @@ natural-at-requires c κs = search needs
 returns : tie.Need-returns
 returns c = let a = c .before .before .before .args in
     let z = getD (now (a .t)) (a .i) (pos 0) in
-    ap (λ (n : ℕ). leb n (a .high)) (c .natural-at .ensures)
+    ap (λ (n : ℕ). leb n (a .high)) (c .natural-at .ensures .0)
     ∙ sym (within-is (a .low) (a .high) z ∙ and-first-true _ _ (le-leb _ _ (subst (λ (n : ℕ). n ≤ a .low) (c .before .before .under-at .ensures) (c .before .if1 .taken))))
 
 returns-2 : tie.Need-returns-2

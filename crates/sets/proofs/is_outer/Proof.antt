@@ -23,7 +23,7 @@ natural-at-requires c κs = search needs
 returns-2 : tie.Need-returns-2
 returns-2 c =
     let a = c .before .before .before .before .before .args in
-    outer-past (a .facts .now) (a .n) (getD (a .members .now) (a .at) (pos 0)) (omega (arith, c .before .before .before .under-at .ensures)) (omega (arith, c .before .natural-at .ensures))
+    outer-past (a .facts .now) (a .n) (getD (a .members .now) (a .at) (pos 0)) (omega (arith, c .before .before .before .under-at .ensures)) (omega (arith, c .before .natural-at .ensures .0))
 
 mul-result : tie.Need-mul-result
 mul-result c = search needs
@@ -40,7 +40,7 @@ shared-slice-read-result c = search needs
 returns-3 : tie.Need-returns-3
 returns-3 c =
     let a = c .before .before .before .before .before .before .args in
-    let e = c .before .before .natural-at .ensures in
+    let e = c .before .before .natural-at .ensures .0 in
     ap (λ (r : ℕ). eqb (getD (a .facts .now) (4 * r + 2) 0) 0) e
     ∙ outer-row (a .facts .now) (a .n) (getD (a .members .now) (a .at) (pos 0)) (omega (arith, c .before .before .before .before .under-at .ensures)) (omega (arith, e))
 

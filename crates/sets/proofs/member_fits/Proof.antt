@@ -41,7 +41,7 @@ returns-3 c =
     let b = c .before .before .before .before .before .before in
     let a = b .args in
     c .is-less .ensures
-    ∙ ap (λ (r : ℕ). ltZ (getD (a .members .now) (a .start + a .i - 1) (pos 0)) (pos r)) (c .before .natural-at .ensures)
+    ∙ ap (λ (r : ℕ). ltZ (getD (a .members .now) (a .start + a .i - 1) (pos 0)) (pos r)) (c .before .natural-at .ensures .0)
     ∙ member-next (a .facts .now) (a .n) (a .members .now) (a .start) (a .len) (b .pre .1) (a .i) (b .pre .2) (sym (c .before .before .before .before .is-outer .ensures) ∙ not-false (c .before .before .before .before .is-outer .result) (c .before .before .before .if1 .left)) (c .before .before .if2 .left)
 
 pub member-fits-spec : {M : Type 1} → statement M

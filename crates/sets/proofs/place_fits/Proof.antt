@@ -25,7 +25,7 @@ returns-2 : tie.Need-returns-2
 returns-2 c =
     let b = c .before .before .before .before in
     let a = b .args in
-    place-elsewhere (a .nodes .now) (a .m) (a .j) (a .from) (b .pre .1) (λ e. c .if2 .taken (c .before .natural-of .ensures ∙ nat-of _ _ e))
+    place-elsewhere (a .nodes .now) (a .m) (a .j) (a .from) (b .pre .1) (λ e. c .if2 .taken (c .before .natural-of .ensures .0 ∙ nat-of _ _ e))
 
 under-of-requires-2 : tie.Need-under-of-requires-2
 under-of-requires-2 c κs = search needs
@@ -46,8 +46,8 @@ returns-4 : tie.Need-returns-4
 returns-4 c =
     let b = c .before .before .before .before .before .before .before in
     let a = b .args in
-    ap (λ (n : ℕ). leb n (a .m - a .from)) (c .natural-of2 .ensures)
-    ∙ place-right (a .nodes .now) (a .m) (a .j) (a .from) (b .pre .1) (b .pre .2) (number-is _ _ (omega (arith, c .before .before .before .before .before .before .under-of .ensures)) (sym (c .before .before .before .before .natural-of .ensures) ∙ c .before .before .before .if2 .left)) (omega (arith, c .before .before .under-of2 .ensures))
+    ap (λ (n : ℕ). leb n (a .m - a .from)) (c .natural-of2 .ensures .0)
+    ∙ place-right (a .nodes .now) (a .m) (a .j) (a .from) (b .pre .1) (b .pre .2) (number-is _ _ (omega (arith, c .before .before .before .before .before .before .under-of .ensures)) (sym (c .before .before .before .before .natural-of .ensures .0) ∙ c .before .before .before .if2 .left)) (omega (arith, c .before .before .under-of2 .ensures))
 
 pub place-fits-spec : {M : Type 1} → statement M
 place-fits-spec =

@@ -28,14 +28,14 @@ within : (c : tie.After-natural-of) → c .before .before .before .before .args 
 within c =
     let b = c .before .before .before .before in
     let a = b .args in
-    omega (arith, c .natural-of .ensures, place-within (a .nodes .now) (a .m) (a .j) (a .from) (b .pre .4) (placed c))
+    omega (arith, c .natural-of .ensures .0, place-within (a .nodes .now) (a .m) (a .j) (a .from) (b .pre .4) (placed c))
 
 -- the list that was judged is the node's set
 list : (c : tie.After-list-fits) → listFits (c .before .before .before .before .before .args .facts .now) (c .before .before .before .before .before .args .n) (setOf (c .before .before .before .before .before .args .members .now) (nodeAt (c .before .before .before .before .before .args .nodes .now) (c .before .before .before .before .before .args .j))) ≡ c .list-fits .result
 list c =
     let b = c .before .before .before .before .before in
     let a = b .args in
-    ap (listFits (a .facts .now) (a .n)) (place-part (a .nodes .now) (a .m) (a .j) (a .from) (b .pre .4) (a .members .now) (placed (c .before)) ∙ ap (λ (n : ℕ). take n (drop (a .from) (a .members .now))) (sym (c .before .natural-of .ensures)))
+    ap (listFits (a .facts .now) (a .n)) (place-part (a .nodes .now) (a .m) (a .j) (a .from) (b .pre .4) (a .members .now) (placed (c .before)) ∙ ap (λ (n : ℕ). take n (drop (a .from) (a .members .now))) (sym (c .before .natural-of .ensures .0)))
     ∙ sym (c .list-fits .ensures)
 
 natural-of-requires : tie.Need-natural-of-requires
@@ -65,7 +65,7 @@ returns-3 c =
     right-last (a .facts .now) (a .n) (a .nodes .now) (a .k) (a .members .now) (a .m) (a .j) (placed l)
     (list (c .before .before) ∙ not-false (c .before .before .list-fits .result) (c .before .if2 .left))
     _
-    (place-end (a .nodes .now) (a .m) (a .j) (a .from) (b .pre .4) (placed l) ∙ ap (λ (n : ℕ). pos (a .from + n)) (sym (l .natural-of .ensures)))
+    (place-end (a .nodes .now) (a .m) (a .j) (a .from) (b .pre .4) (placed l) ∙ ap (λ (n : ℕ). pos (a .from + n)) (sym (l .natural-of .ensures .0)))
     (c .if3 .taken)
 
 returns-4 : tie.Need-returns-4

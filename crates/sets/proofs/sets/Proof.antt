@@ -61,7 +61,7 @@ within : (c : tie.After-natural-of Inv-loop μ-loop) → c .before .before .befo
 within c =
     let a = c .before .before .before .before .before .before .args in
     let l = c .before .before .before .before .loop in
-    omega (arith, c .natural-of .ensures, place-within (a .nodes .now) (a .m) (l .j) (l .from) (l .inv .2) (placed c))
+    omega (arith, c .natural-of .ensures .0, place-within (a .nodes .now) (a .m) (l .j) (l .from) (l .inv .2) (placed c))
 
 natural-of-requires : tie.Need-natural-of-requires Inv-loop μ-loop
 natural-of-requires c κs = omega arith
@@ -82,7 +82,7 @@ loop-again c =
     let l = c .before .before .before .before .loop in (
       omega arith,
       within c,
-      place-next (a .nodes .now) (a .m) (l .j) (l .from) (l .inv .2) (placed c) ∙ ap (λ (n : ℕ). pos (l .from + n)) (sym (c .natural-of .ensures)),
+      place-next (a .nodes .now) (a .m) (l .j) (l .from) (l .inv .2) (placed c) ∙ ap (λ (n : ℕ). pos (l .from + n)) (sym (c .natural-of .ensures .0)),
       below-more _ _ (l .inv .3) (right c),
     )
 

@@ -119,13 +119,13 @@ constant-returns t c =
     let start = c .before .before .before in
     c .same .ensures
     ∙ word-same _ (row-at start (start .args .f)) (start .args .width)
-    (λ j l. sym (value-constant _ _ (formed start) _ (c .before .before .natural-at .ensures) (c .before .if1 .taken) _ _ _))
+    (λ j l. sym (value-constant _ _ (formed start) _ (c .before .before .natural-at .ensures .0) (c .before .if1 .taken) _ _ _))
 
 literal-value-requires : (t : ℕ) → formula-value-lts.Need-literal-value-requires (formula-calls t) (formula-value-at t) formula-value.Post
 unfolding rowAt
 literal-value-requires t c κs =
     let start = c .before .before .before in
-    (start .pre .1 .0, start .pre .1 .1, record { low = omega (arith, c .before .before .natural-at .ensures); high = omega (arith, c .before .before .natural-at .ensures) })
+    (start .pre .1 .0, start .pre .1 .1, record { low = omega (arith, c .before .before .natural-at .ensures .0); high = omega (arith, c .before .before .natural-at .ensures .0) })
 
 literal-returns : (t : ℕ) → formula-value-lts.Need-returns-2 (formula-calls t) (formula-value-at t) formula-value.Post
 literal-returns t c =
@@ -150,14 +150,14 @@ moved-requires : (t : ℕ) → formula-value-lts.Need-moved-requires (formula-ca
 unfolding rowAt offset
 moved-requires t c κs =
     let start = c .before .before .before .before .before in
-    let b = iteration-start _ _ (formed start) _ (c .before .before .before .before .natural-at .ensures) (c .if3 .taken) in
+    let b = iteration-start _ _ (formed start) _ (c .before .before .before .before .natural-at .ensures .0) (c .if3 .taken) in
     record { start = omega arith; up = omega (arith, within-nat 9999 9999 _ b); down = omega (arith, within-under 9999 9999 _ b) }
 
 range-size-requires : (t : ℕ) → formula-value-lts.Need-range-size-requires (formula-calls t) (formula-value-at t) formula-value.Post
 unfolding rowAt
 range-size-requires t c κs =
     let start = c .before .before .before .before .before .before in
-    let kind = c .before .before .before .before .before .natural-at .ensures in (
+    let kind = c .before .before .before .before .before .natural-at .ensures .0 in (
       start .pre .1 .0 .row,
       start .pre .1 .0 .width,
       record {
@@ -170,15 +170,15 @@ range-value-requires : (t : ℕ) → formula-value-lts.Need-range-value-requires
 unfolding rowAt
 range-value-requires t c κs =
     let start = c .before .before .before .before .before .before .before in
-    let kind = c .before .before .before .before .before .before .natural-at .ensures in
+    let kind = c .before .before .before .before .before .before .natural-at .ensures .0 in
     let long = c .before .before .if3 .taken in
     let body = below-nat _ _ (iteration-body _ _ (formed start) _ kind long) in
     let reached =
     range-reached _ _ (c .before .moved .ensures) _ _ (start .pre .1 .0 .width) (iteration-start _ _ (formed start) _ kind long) (iteration-end _ _ (formed start) _ kind long)
     in (
-      omega (arith, body, c .before .before .before .natural-at2 .ensures, reached, c .range-size .ensures, start .pre .0),
+      omega (arith, body, c .before .before .before .natural-at2 .ensures .0, reached, c .range-size .ensures, start .pre .0),
       (
-        readable-below _ _ _ _ _ _ (start .pre .1 .0) (omega (arith, body, c .before .before .before .natural-at2 .ensures)),
+        readable-below _ _ _ _ _ _ (start .pre .1 .0) (omega (arith, body, c .before .before .before .natural-at2 .ensures .0)),
         omega (arith, reached, c .range-size .ensures),
       ),
     )
@@ -193,10 +193,10 @@ iteration-is : {t : ℕ} (c : formula-value-lts.After-range-value (formula-calls
 unfolding rowAt
 iteration-is c i =
     let start = c .before .before .before .before .before .before .before .before in
-    let kind = c .before .before .before .before .before .before .before .natural-at .ensures in
+    let kind = c .before .before .before .before .before .before .before .natural-at .ensures .0 in
     let any = opOf (eqb (c .before .before .before .before .before .before .before .natural-at .result) 7) in
     c .range-value .ensures
-    ∙ ap (λ (g : ℕ). over any (value (σ start) (start .args .n) (tree (table start) g)) (unbiased (c .before .before .moved .result)) (c .before .range-size .result)) (c .before .before .before .before .natural-at2 .ensures)
+    ∙ ap (λ (g : ℕ). over any (value (σ start) (start .args .n) (tree (table start) g)) (unbiased (c .before .before .moved .result)) (c .before .range-size .result)) (c .before .before .before .before .natural-at2 .ensures .0)
     ∙ ap₂ (over any (value (σ start) (start .args .n) (tree (table start) (nat (row start .a))))) (first-is _ _ (c .before .before .moved .ensures)) (c .before .range-size .ensures)
     ∙ sym (value-iteration _ _ (formed start) _ kind (c .before .before .before .if3 .taken) _ _ _)
 
@@ -211,9 +211,9 @@ left-requires : (t : ℕ) → formula-value-lts.Need-formula-value-requires (for
 unfolding rowAt
 left-requires t c κs =
     let start = c .before .before .before .before .before in
-    let left = below-nat _ _ (junction-left _ _ (formed start) _ (c .before .before .before .before .natural-at .ensures) (c .before .before .if2 .left) (c .if3 .left)) in (
-      omega (arith, left, c .before .natural-at2 .ensures, start .pre .0),
-      (readable-below _ _ _ _ _ _ (start .pre .1 .0) (omega (arith, left, c .before .natural-at2 .ensures)), start .pre .1 .1),
+    let left = below-nat _ _ (junction-left _ _ (formed start) _ (c .before .before .before .before .natural-at .ensures .0) (c .before .before .if2 .left) (c .if3 .left)) in (
+      omega (arith, left, c .before .natural-at2 .ensures .0, start .pre .0),
+      (readable-below _ _ _ _ _ _ (start .pre .1 .0) (omega (arith, left, c .before .natural-at2 .ensures .0)), start .pre .1 .1),
     )
 
 settled-requires : (t : ℕ) → formula-value-lts.Need-settled-requires (formula-calls t) (formula-value-at t) formula-value.Post
@@ -227,7 +227,7 @@ unfolding rowAt wordAt
 left-is c =
     let start = c .before .before .before .before .before .before in
     c .formula-value .ensures
-    ∙ ap (λ (g : ℕ). word (row-at start g) (start .args .width)) (c .before .before .natural-at2 .ensures)
+    ∙ ap (λ (g : ℕ). word (row-at start g) (start .args .width)) (c .before .before .natural-at2 .ensures .0)
 
 whole-is : {t : ℕ} (c : formula-value-lts.After-formula-value (formula-calls t) (formula-value-at t) formula-value.Post) →
     let start = c .before .before .before .before .before .before in
@@ -237,7 +237,7 @@ unfolding rowAt
 whole-is c =
     let start = c .before .before .before .before .before .before in
     word-same _ (row-at start (start .args .f)) (start .args .width)
-    (λ j l. sym (value-junction _ _ (formed start) _ (c .before .before .before .before .before .natural-at .ensures) (c .before .before .before .if2 .left) (c .before .if3 .left) _ _ _))
+    (λ j l. sym (value-junction _ _ (formed start) _ (c .before .before .before .before .before .natural-at .ensures .0) (c .before .before .before .if2 .left) (c .before .if3 .left) _ _ _))
 
 left-returns : (t : ℕ) → formula-value-lts.Need-returns-4 (formula-calls t) (formula-value-at t) formula-value.Post
 unfolding wordAt
@@ -264,10 +264,10 @@ right-requires t c κs =
     let at = c .before .before .before in
     let start = at .before .before .before .before .before .before in
     let right =
-    below-nat _ _ (junction-right _ _ (formed start) _ (at .before .before .before .before .before .natural-at .ensures) (at .before .before .before .if2 .left) (at .before .if3 .left))
+    below-nat _ _ (junction-right _ _ (formed start) _ (at .before .before .before .before .before .natural-at .ensures .0) (at .before .before .before .if2 .left) (at .before .if3 .left))
     in (
-      omega (arith, right, c .natural-at3 .ensures, start .pre .0),
-      (readable-below _ _ _ _ _ _ (start .pre .1 .0) (omega (arith, right, c .natural-at3 .ensures)), start .pre .1 .1),
+      omega (arith, right, c .natural-at3 .ensures .0, start .pre .0),
+      (readable-below _ _ _ _ _ _ (start .pre .1 .0) (omega (arith, right, c .natural-at3 .ensures .0)), start .pre .1 .1),
     )
 
 joined-requires : (t : ℕ) → formula-value-lts.Need-joined-requires (formula-calls t) (formula-value-at t) formula-value.Post
@@ -279,7 +279,7 @@ right-returns t c =
     let at = c .before .before .before .before .before in
     let start = at .before .before .before .before .before .before in
     c .joined .ensures
-    ∙ ap₂ (joinedWord _) (left-is at) (c .before .formula-value2 .ensures ∙ ap (λ (g : ℕ). word (row-at start g) (start .args .width)) (c .before .before .natural-at3 .ensures))
+    ∙ ap₂ (joinedWord _) (left-is at) (c .before .formula-value2 .ensures ∙ ap (λ (g : ℕ). word (row-at start g) (start .args .width)) (c .before .before .natural-at3 .ensures .0))
     ∙ joined-word (row-at start (nat (row start .a))) (row-at start (nat (row start .b))) _ (start .args .width)
     ∙ whole-is at
 

@@ -49,7 +49,7 @@ returns c =
     c .before .before .symbol-word .ensures
     ∙ word-same (symbol-at start) (value-at start) (start .args .width)
     (λ j l.
-    sym (signed-true _ _ (eq-eqb (nat (row start .kind)) 2 (sym (c .before .natural-at .ensures) ∙ c .if1 .taken)))
+    sym (signed-true _ _ (eq-eqb (nat (row start .kind)) 2 (sym (c .before .natural-at .ensures .0) ∙ c .if1 .taken)))
     ∙ sym (value-literal _ _ (formed start) _ refl (start .pre .2 .low) (start .pre .2 .high) _ _ _))
 
 ones-requires : tie.Need-ones-requires
@@ -72,7 +72,7 @@ returns-2 c =
     turned
     ∙ word-same (λ j. not (symbol-at start j)) (value-at start) (start .args .width)
     (λ j l.
-    sym (signed-false _ _ (ne-eqb (nat (row start .kind)) 2 (λ e. c .before .if1 .left (c .before .before .natural-at .ensures ∙ e))))
+    sym (signed-false _ _ (ne-eqb (nat (row start .kind)) 2 (λ e. c .before .if1 .left (c .before .before .natural-at .ensures .0 ∙ e))))
     ∙ sym (value-literal _ _ (formed start) _ refl (start .pre .2 .low) (start .pre .2 .high) _ _ _))
 
 pub literal-value-spec : {M : Type 1} → statement M

@@ -79,11 +79,11 @@ natural-at-requires-2 c κs = search needs
 module _ (c : tie.After-natural-at) where
   symbol-is : pos (c .natural-at .result) ≡ row (c .before .before .before) .a
   unfolding rowAt within
-  symbol-is = ap pos (c .natural-at .ensures) ∙ nat-pos _ (and-left _ _ (symbol (c .before .before .before)))
+  symbol-is = ap pos (c .natural-at .ensures .0) ∙ nat-pos _ (and-left _ _ (symbol (c .before .before .before)))
 
   symbol-few : c .natural-at .result ≤ 255
   unfolding rowAt
-  symbol-few = omega (arith, c .natural-at .ensures, within-nat 0 255 _ (symbol (c .before .before .before)))
+  symbol-few = omega (arith, c .natural-at .ensures .0, within-nat 0 255 _ (symbol (c .before .before .before)))
 
   index-few : c .before .moved .result ≤ 95533
   unfolding rowAt offset
@@ -114,7 +114,7 @@ returns c =
     ap (λ (m : ℕ). eqb m 1) (c .before .listed-word .ensures)
     ∙ word-one (σ start (pos (at .natural-at .result))) (at .before .moved .result)
     ∙ ap₂ (σ start) (symbol-is at) (index-is at)
-    ∙ ap (λ (z : ℤ). σ start (row start .a) (z +ℤ row start .c)) (base-fixed (start .args .n) _ _ (row start .b) (based start) (omega (arith, c .before .before .before .natural-at2 .ensures, c .before .before .if1 .taken))))
+    ∙ ap (λ (z : ℤ). σ start (row start .a) (z +ℤ row start .c)) (base-fixed (start .args .n) _ _ (row start .b) (based start) (omega (arith, c .before .before .before .natural-at2 .ensures .0, c .before .before .if1 .taken))))
 
 listed-word-requires-2 : tie.Need-listed-word-requires-2
 listed-word-requires-2 c κs =
@@ -128,7 +128,7 @@ returns-2 c =
     let start = c .before .before .before .before .before .before in
     let at = c .before .before .before in
     let moves : (i : ℤ) → (base (start .args .n) i (baseOf (row start .b)) +ℤ row start .c) ≡ (i +ℤ row start .c) =
-    λ i. ap (λ (z : ℤ). z +ℤ row start .c) (base-moves (start .args .n) i (row start .b) (omega (arith, c .before .before .natural-at2 .ensures, c .before .if1 .left)))
+    λ i. ap (λ (z : ℤ). z +ℤ row start .c) (base-moves (start .args .n) i (row start .b) (omega (arith, c .before .before .natural-at2 .ensures .0, c .before .if1 .left)))
     in
     c .listed-word2 .ensures
     ∙ word-same _ (λ j. symbolValue (σ start) (start .args .n) (row start) (unbiased (start .args .i + j))) (start .args .width)

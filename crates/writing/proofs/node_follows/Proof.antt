@@ -33,7 +33,7 @@ returns-2 c =
     let s = c .before .before .before .before in
     sym
     (start-fails (s .args .nodes .now) (s .args .j) (s .args .start) (s .pre .1)
-    (start-other _ (s .args .start) (λ e. c .if2 .taken (c .before .natural-at .ensures ∙ e))))
+    (start-other _ (s .args .start) (λ e. c .if2 .taken (c .before .natural-at .ensures .0 ∙ e))))
 
 -- the set starts where it has to
 starts : (c : tie.Else2) →
@@ -43,7 +43,7 @@ starts c =
     let s = c .before .before .before .before in
     start-same _ (s .args .start)
     (sym (c .before .before .before .under-at .ensures) ∙ c .before .before .if1 .left)
-    (sym (c .before .natural-at .ensures) ∙ c .if2 .left)
+    (sym (c .before .natural-at .ensures .0) ∙ c .if2 .left)
 
 add-under-at : tie.Need-add-under-at
 add-under-at c = search needs

@@ -44,7 +44,7 @@ loop-holds c = (omega arith, λ a p. absurd (omega arith), nothing-seen _ _ 1024
 add-natural-at : tie.Need-add-natural-at Inv-loop μ-loop
 add-natural-at c =
     let s = c .before .before .before .before .before in
-    omega (arith, c .before .before .before .natural-of .ensures, c .before .before .natural-of2 .ensures, s .pre .1 .1 .1 .1 .held .within, s .good)
+    omega (arith, c .before .before .before .natural-of .ensures .0, c .before .before .natural-of2 .ensures .0, s .pre .1 .1 .1 .1 .held .within, s .good)
 
 natural-at-requires : tie.Need-natural-at-requires Inv-loop μ-loop
 natural-at-requires c κs = search needs
@@ -60,7 +60,7 @@ abbrev Member : tie.After-natural-at Inv-loop μ-loop → ℤ
 Member c = getD (setOf (Begin c .args .members .now) (nodeAt (Begin c .args .nodes .now) (Begin c .args .to))) (c .before .before .loop .i) (pos 0)
 
 inside : (c : tie.After-natural-at Inv-loop μ-loop) → c .before .before .loop .i < nat (nodeAt (Begin c .args .nodes .now) (Begin c .args .to) .size)
-inside c = omega (arith, c .before .before .before .natural-of2 .ensures)
+inside c = omega (arith, c .before .before .before .natural-of2 .ensures .0)
 
 named : (c : tie.After-natural-at Inv-loop μ-loop) → below (Begin c .args .t .schema + Begin c .args .t .proof) (Member c) ≡ true
 named c = Begin c .pre .1 .1 .1 .1 .rows _ (inside c)
@@ -68,7 +68,7 @@ named c = Begin c .pre .1 .1 .1 .1 .rows _ (inside c)
 read : (c : tie.After-natural-at Inv-loop μ-loop) → c .natural-at .result ≡ nat (Member c)
 read c =
     let s = Begin c in
-    member-nat (s .args .nodes .now) (s .args .members .now) (s .args .to) (s .pre .1 .1 .1 .1 .held) _ (inside c) _ _ (c .natural-at .ensures) (c .before .before .before .before .natural-of .ensures)
+    member-nat (s .args .nodes .now) (s .args .members .now) (s .args .to) (s .pre .1 .1 .1 .1 .held) _ (inside c) _ _ (c .natural-at .ensures .0) (c .before .before .before .before .natural-of .ensures .0)
 
 slice-aggregate-has-partner : tie.Need-slice-aggregate-has-partner Inv-loop μ-loop
 slice-aggregate-has-partner c = sym (c .before .before .before .loop .inv .2 .room)
@@ -117,7 +117,7 @@ unfolding set node
 returns-2 c =
     let s = c .before .before .before .before .before in
     sym (all-at _ (pos 0) _
-    (λ i q. rw (toZ-ofZ (s .fits .k)) at (c .before .loop .inv .1 i (omega (arith, c .before .before .natural-of2 .ensures, set-length (s .args .nodes .now) (s .args .members .now) (s .args .to) (s .pre .1 .1 .1 .1 .held))))))
+    (λ i q. rw (toZ-ofZ (s .fits .k)) at (c .before .loop .inv .1 i (omega (arith, c .before .before .natural-of2 .ensures .0, set-length (s .args .nodes .now) (s .args .members .now) (s .args .to) (s .pre .1 .1 .1 .1 .held))))))
 
 pub all-lowered-spec : {M : Type 1} → statement M
 all-lowered-spec =

@@ -48,7 +48,7 @@ loop-holds c =
 add-natural-at : tie.Need-add-natural-at Inv-loop μ-loop
 add-natural-at c =
     let s = first (c .before .before .before) in
-    omega (arith, c .before .before .before .natural-of .ensures, c .before .before .natural-of2 .ensures, s .pre .1 .1 .1 .0 .held .within, s .good)
+    omega (arith, c .before .before .before .natural-of .ensures .0, c .before .before .natural-of2 .ensures .0, s .pre .1 .1 .1 .0 .held .within, s .good)
 
 natural-at-requires : tie.Need-natural-at-requires Inv-loop μ-loop
 natural-at-requires c κs = search needs
@@ -64,12 +64,12 @@ abbrev Member : tie.After-natural-at Inv-loop μ-loop → ℤ
 Member c = getD (setOf (Begin c .args .members .now) (nodeAt (Begin c .args .nodes .now) (Begin c .args .j))) (c .before .before .loop .i) (pos 0)
 
 inside : (c : tie.After-natural-at Inv-loop μ-loop) → c .before .before .loop .i < nat (nodeAt (Begin c .args .nodes .now) (Begin c .args .j) .size)
-inside c = omega (arith, c .before .before .before .natural-of2 .ensures)
+inside c = omega (arith, c .before .before .before .natural-of2 .ensures .0)
 
 read : (c : tie.After-natural-at Inv-loop μ-loop) → c .natural-at .result ≡ nat (Member c)
 read c =
     let s = Begin c in
-    member-nat (s .args .nodes .now) (s .args .members .now) (s .args .j) (s .pre .1 .1 .1 .0 .held) _ (inside c) _ _ (c .natural-at .ensures) (c .before .before .before .before .natural-of .ensures)
+    member-nat (s .args .nodes .now) (s .args .members .now) (s .args .j) (s .pre .1 .1 .1 .0 .held) _ (inside c) _ _ (c .natural-at .ensures .0) (c .before .before .before .before .natural-of .ensures .0)
 
 is-partner-requires : tie.Need-is-partner-requires Inv-loop μ-loop
 is-partner-requires c κs =
@@ -127,7 +127,7 @@ unfolding set node
 returns-2 c =
     let s = first (c .before .before .before) in (
       lowered-nowhere (Lent s) _ _ _
-          (λ i q. rw (toZ-ofZ (s .fits .k)) at (c .before .loop .inv .1 i (omega (arith, c .before .before .natural-of2 .ensures, set-length (s .args .nodes .now) (s .args .members .now) (s .args .j) (s .pre .1 .1 .1 .0 .held))))),
+          (λ i q. rw (toZ-ofZ (s .fits .k)) at (c .before .loop .inv .1 i (omega (arith, c .before .before .natural-of2 .ensures .0, set-length (s .args .nodes .now) (s .args .members .now) (s .args .j) (s .pre .1 .1 .1 .0 .held))))),
       rw (toZ-ofZ (s .fits .k)) at (c .before .loop .inv .2),
     )
 

@@ -29,8 +29,8 @@ loop-holds c =
     let b = c .before .before in
     let a = b .args in
     let fits = b .pre .1 (a .j) (omega arith) in (
-      up-less (a .nodes .now) (a .to) (a .j) (c .natural-of .result) fits (omega arith) (c .natural-of .ensures),
-      up-step (a .nodes .now) (a .to) (a .j) (c .natural-of .result) fits (omega arith) (c .natural-of .ensures),
+      up-less (a .nodes .now) (a .to) (a .j) (c .natural-of .result) fits (omega arith) (c .natural-of .ensures .0),
+      up-step (a .nodes .now) (a .to) (a .j) (c .natural-of .result) fits (omega arith) (c .natural-of .ensures .0),
     )
 
 natural-of-requires-2 : tie.Need-natural-of-requires-2 Inv-loop μ-loop
@@ -43,7 +43,7 @@ fits c = c .before .before .before .before .before .pre .1 (c .before .before .l
 loop-less : tie.Need-loop-less Inv-loop μ-loop
 loop-less c =
     let a = c .before .before .before .before .before .args in
-    up-less (a .nodes .now) (a .to) (c .before .before .loop .i) (c .natural-of2 .result) (fits c) (omega arith) (c .natural-of2 .ensures)
+    up-less (a .nodes .now) (a .to) (c .before .before .loop .i) (c .natural-of2 .result) (fits c) (omega arith) (c .natural-of2 .ensures .0)
 
 loop-again : tie.Need-loop-again Inv-loop μ-loop
 loop-again c =
@@ -52,7 +52,7 @@ loop-again c =
       omega (arith, loop-less c),
       l .inv .1
           ∙ go-up (a .to) (l .i) _ (c .before .loop-test .taken)
-          ∙ up-step (a .nodes .now) (a .to) (l .i) (c .natural-of2 .result) (fits c) (omega arith) (c .natural-of2 .ensures),
+          ∙ up-step (a .nodes .now) (a .to) (l .i) (c .natural-of2 .result) (fits c) (omega arith) (c .natural-of2 .ensures .0),
     )
 
 returns-2 : tie.Need-returns-2 Inv-loop μ-loop

@@ -17,7 +17,7 @@ natural-at-requires c κs = search needs
 returns : tie.Need-returns
 returns c =
     let b = c .before in
-    c .natural-at .ensures ∙ ap nat (column-at (b .args .nodes .now) (b .args .j) (b .args .k) (b .pre .1))
+    (c .natural-at .ensures .0 ∙ ap nat (column-at (b .args .nodes .now) (b .args .j) (b .args .k) (b .pre .1)), c .natural-at .ensures .1)
 
 pub natural-of-spec : {M : Type 1} → statement M
 natural-of-spec = tie.close (tie.spec mul-natural-at add-natural-at natural-at-requires returns)

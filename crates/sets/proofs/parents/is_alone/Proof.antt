@@ -16,7 +16,7 @@ returns : tie.Need-returns
 returns c =
     let b = c .before .before in
     let a = b .args in
-    alone-not (a .nodes .now) (a .members .now) (a .j) (a .z) (b .pre .1) (λ e. c .if1 .taken (c .before .natural-of .ensures ∙ e))
+    alone-not (a .nodes .now) (a .members .now) (a .j) (a .z) (b .pre .1) (λ e. c .if1 .taken (c .before .natural-of .ensures .0 ∙ e))
 
 natural-of-requires-2 : tie.Need-natural-of-requires-2
 natural-of-requires-2 c κs = search needs
@@ -29,8 +29,8 @@ returns-2 c =
     let b = c .before .before .before .before in
     let a = b .args in
     c .is-at .ensures
-    ∙ ap₂ eqZ (ap (λ (i : ℕ). getD (a .members .now) i (pos 0)) (c .before .natural-of2 .ensures)) (toZ-ofZ (b .fits .z))
-    ∙ alone-at (a .nodes .now) (a .members .now) (a .j) (a .z) (b .pre .1) (sym (c .before .before .before .natural-of .ensures) ∙ c .before .before .if1 .left)
+    ∙ ap₂ eqZ (ap (λ (i : ℕ). getD (a .members .now) i (pos 0)) (c .before .natural-of2 .ensures .0)) (toZ-ofZ (b .fits .z))
+    ∙ alone-at (a .nodes .now) (a .members .now) (a .j) (a .z) (b .pre .1) (sym (c .before .before .before .natural-of .ensures .0) ∙ c .before .before .if1 .left)
 
 pub is-alone-spec : {M : Type 1} → statement M
 is-alone-spec =

@@ -29,7 +29,7 @@ natural-of-requires c κs = search needs
 returns-3 : tie.Need-returns-3
 returns-3 c =
     let a = c .before .before .before .before .args in
-    ap (λ (n : ℕ). ltb n (a .j)) (c .natural-of .ensures)
+    ap (λ (n : ℕ). ltb n (a .j)) (c .natural-of .ensures .0)
     ∙ below-natural (a .j) _ (omega (arith, c .before .before .under-of .ensures))
     ∙ up-later (a .nodes .now) (a .j) (c .before .before .before .if1 .left)
 

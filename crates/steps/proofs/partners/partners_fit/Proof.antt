@@ -41,7 +41,7 @@ is-shortened-requires c κs =
     let k = numbered (c .before .before) in
     let p = unfold-on (Lent s) _ _ (k .1) (s .pre .1 .0) (s .pre .1 .1) (k .2) (k .3) in
     let q = unfold-with (Lent s) _ _ (k .1) (s .pre .1 .0) (s .pre .1 .1) (k .2) (k .3) in
-    rw (c .before .natural-of .ensures, c .natural-of2 .ensures) ((omega (arith, p .0), omega (arith, q .0)), (p .2, q .2))
+    rw (c .before .natural-of .ensures .0, c .natural-of2 .ensures .0) ((omega (arith, p .0), omega (arith, q .0)), (p .2, q .2))
 
 returns-2 : tie.Need-returns-2
 unfolding node row rows
@@ -49,7 +49,7 @@ returns-2 c =
     let s = c .before .before .before .before .before .before in
     not-shortened (Lent s) _
     (asked-true (c .before .before .before .before .before .unfolds .ensures) (c .before .before .before .before .if1 .left))
-    (rw (c .before .before .before .natural-of .ensures, c .before .before .natural-of2 .ensures) at (asked-false (c .before .is-shortened .ensures) (c .if2 .taken)))
+    (rw (c .before .before .before .natural-of .ensures .0, c .before .before .natural-of2 .ensures .0) at (asked-false (c .before .is-shortened .ensures) (c .if2 .taken)))
 
 natural-of-requires-3 : tie.Need-natural-of-requires-3
 natural-of-requires-3 c κs = search needs
@@ -63,7 +63,7 @@ is-instance-requires c κs =
     let p = unfold-on (Lent s) _ _ (k .1) (s .pre .1 .0) (s .pre .1 .1) (k .2) (k .3) in
     let q = unfold-kind (Lent s) _ _ (k .1) (s .pre .1 .0) (s .pre .1 .1) (k .2) (k .3) in
     let r = unfold-other (Lent s) _ _ (k .1) (s .pre .1 .0) (s .pre .1 .1) (k .2) (k .3) in
-    rw (c .before .before .before .before .natural-of .ensures, c .natural-of3 .ensures)
+    rw (c .before .before .before .before .natural-of .ensures .0, c .natural-of3 .ensures .0)
     ((omega (arith, p .0), omega (arith, r)), (q, (λ a h. s .pre .1 .1 a (omega (arith, p .0)), λ a h. s .pre .1 .1 a (omega (arith, r)))))
 
 returns-3 : tie.Need-returns-3
@@ -72,10 +72,10 @@ returns-3 c =
     let e = c .before .before .before .before .before .before in
     let s = e .before .before in
     c .is-instance .ensures
-    ∙ rw (c .before .before .before .before .before .natural-of .ensures, c .before .natural-of3 .ensures)
+    ∙ rw (c .before .before .before .before .before .natural-of .ensures .0, c .before .natural-of3 .ensures .0)
     (instance-decides (Lent s) _
     (asked-true (e .before .unfolds .ensures) (e .if1 .left))
-    (rw (c .before .before .before .before .before .natural-of .ensures, c .before .before .before .before .natural-of2 .ensures) at (asked-true (c .before .before .before .is-shortened .ensures) (c .before .before .if2 .left))))
+    (rw (c .before .before .before .before .before .natural-of .ensures .0, c .before .before .before .before .natural-of2 .ensures .0) at (asked-true (c .before .before .before .is-shortened .ensures) (c .before .before .if2 .left))))
 
 pub partners-fit-spec : {M : Type 1} → statement M
 partners-fit-spec =

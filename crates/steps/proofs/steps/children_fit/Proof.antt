@@ -13,7 +13,7 @@ natural-of-requires : tie.Need-natural-of-requires
 natural-of-requires c κs = search needs
 
 rule-at-requires : tie.Need-rule-at-requires
-rule-at-requires c κs = omega (arith, c .natural-of .ensures, below-nat 9 _ (c .before .before .pre .1))
+rule-at-requires c κs = omega (arith, c .natural-of .ensures .0, below-nat 9 _ (c .before .before .pre .1))
 
 mul-kept-at : tie.Need-mul-kept-at
 mul-kept-at c = search needs
@@ -28,7 +28,7 @@ returns : tie.Need-returns
 returns c =
     let r = c .before .before in
     ap₂ eqb (c .before .kept-at .ensures .0)
-    (ap (λ (x : Rule). x .children) (r .rule-at .ensures ∙ ap ruleOf (ap pos (r .before .natural-of .ensures) ∙ below-pos 9 _ (r .before .before .before .pre .1))))
+    (ap (λ (x : Rule). x .children) (r .rule-at .ensures ∙ ap ruleOf (ap pos (r .before .natural-of .ensures .0) ∙ below-pos 9 _ (r .before .before .before .pre .1))))
 
 pub children-fit-spec : {M : Type 1} → statement M
 children-fit-spec =

@@ -33,13 +33,13 @@ all-lowered-requires c κs =
     let e = c .before .before in
     let p = e .before .before .before .pre in
     let q = p .1 .1 .1 .1 (asked-true (e .before .is-of .ensures) (e .if1 .left)) in
-    rw (c .before .natural-of .ensures) ((p .0 .0, q .0, p .0 .1), (p .1 .0, (p .1 .1 .0, (p .1 .1 .1 .0, q .1))))
+    rw (c .before .natural-of .ensures .0) ((p .0 .0, q .0, p .0 .1), (p .1 .0, (p .1 .1 .0, (p .1 .1 .1 .0, q .1))))
 
 returns-2 : tie.Need-returns-2
 unfolding loweredFits ofRule node nodeAt
 returns-2 c =
     let e = c .before .before .before in
-    rw (read-back _ (c .before .at .ok), c .before .at .ensures, c .before .before .natural-of .ensures) at (c .all-lowered .ensures)
+    rw (read-back _ (c .before .at .ok), c .before .at .ensures, c .before .before .natural-of .ensures .0) at (c .all-lowered .ensures)
     ∙ implies-made _ _ (asked-true (e .before .is-of .ensures) (e .if1 .left))
 
 pub lowered-fits-spec : {M : Type 1} → statement M

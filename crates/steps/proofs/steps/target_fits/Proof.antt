@@ -38,7 +38,7 @@ unfolding ofRule
 returns-3 c =
     let s = c .before .before .before .before .before .before in
     c .is-above .ensures
-    ∙ ap (λ (z : ℤ). isAncestor (s .args .nodes .now) z (s .args .j)) (ap pos (c .before .natural-of .ensures) ∙ is-natural _ (omega (arith, c .before .before .before .under-of .ensures)))
+    ∙ ap (λ (z : ℤ). isAncestor (s .args .nodes .now) z (s .args .j)) (ap pos (c .before .natural-of .ensures .0) ∙ is-natural _ (omega (arith, c .before .before .before .under-of .ensures)))
     ∙ implies-made _ _ (asked-true (c .before .before .before .before .before .is-of .ensures) (c .before .before .before .before .if1 .left))
 
 pub target-fits-spec : {M : Type 1} → statement M
