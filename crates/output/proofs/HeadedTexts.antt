@@ -1,8 +1,7 @@
 -- A heading, one line, a heading, rows: the parts of such a text.
-use Prim.Native.Nat.{ℕ, _+_, _*_, _/_, _<_, _≤_}
+use Prim.Native.Nat.{ℕ, _+_, _*_, _≤_}
 use native.Mathlib.Omega.{arith}
-use native.Mathlib.Nat.{mul-comm, le-div-iff-mul-le, div-lt-iff-lt-mul}
-use mathlib.Core.Path.{_≡_, refl, sym, _∙_, ap, subst}
+use mathlib.Core.Path.{_≡_, refl, sym, _∙_, ap}
 use mathlib.Core.Bool.{Bool, true, false}
 use mathlib.Core.List.{List, [], _∷_, _++_}
 use lib.Dec.{leb}
@@ -42,14 +41,6 @@ module _ (first : List ℕ) (line : List ℤ) (second : List ℕ) (w : ℕ) (t :
         row-length line a,
         rows-length w r t b c,
       )
-
--- ---- a table against its count
-
-pub held-of : (n w r : ℕ) → 1 ≤ w → r ≤ n / w → w * r ≤ n
-held-of n w r h e = subst (λ (k : ℕ). k ≤ n) (mul-comm r w) (le-div-iff-mul-le h .0 e)
-
-pub not-held : (n w r : ℕ) → 1 ≤ w → n / w < r → n < w * r
-not-held n w r h e = subst (λ (k : ℕ). n < k) (mul-comm r w) (div-lt-iff-lt-mul h .0 e)
 
 -- ---- a schema's text and a model's
 

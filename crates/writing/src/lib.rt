@@ -164,7 +164,7 @@ fn write_headed(
     ensures { λ r. ⌜ r ≡ written (writeHeaded (now (first .entry)) (now (line .entry)) (now (second .entry)) w most (now (t .entry)) rows (length (now (out .entry)))) ⌝ }
     ensures { λ r. ⌜ now (out .exit) ≡ output (length (now (out .entry))) (writeHeaded (now (first .entry)) (now (line .entry)) (now (second .entry)) w most (now (t .entry)) rows (length (now (out .entry)))) ⌝ }
 {
-    if t.len() / w < rows {
+    if !signed::holds(t, w, rows) {
         return refuse(out, Refusal::TableTooShort);
     }
     if most < rows {
@@ -191,13 +191,13 @@ fn proof_held(
 ) -> bool
     ensures { λ r. ⌜ r ≡ (holds (now (t .entry)) 4 rows and holds (now (nodes .entry)) 9 count and holds (now (members .entry)) 1 m) ⌝ }
 {
-    if t.len() / 4 < rows {
+    if !signed::holds(t, 4, rows) {
         return false;
     }
-    if nodes.len() / 9 < count {
+    if !signed::holds(nodes, 9, count) {
         return false;
     }
-    m <= members.len()
+    signed::holds(members, 1, m)
 }
 
 // There are no more rows and members than allowed.

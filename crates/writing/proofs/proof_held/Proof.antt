@@ -1,40 +1,35 @@
-use Prim.Native.Nat.{_*_}
-use native.Mathlib.Omega.{arith}
-use mathlib.Core.Path.{_≡_, sym, _∙_, ap}
-use borrow.Author.Tests.{le-leb, lt-leb}
-use lib.Dec.{leb}
-use lib.ListN.{length}
-use Rattle.stab.specs.Check.{holds}
-use Rattle.stab.proofs.Bools.{and-first-false, and-second-false}
-use Rattle.output.proofs.HeadedTexts.{held-of, not-held}
-use Rattle.writing.proofs.Writings.{both-held}
+use mathlib.Core.Path.{sym, _∙_}
+use borrow.Author.Needs.{needs}
+use Rattle.stab.proofs.Bools.{and-first-false, and-first-true, asked-false, asked-true}
 use Rattle.writing.proofs.proof_held.Statement.{statement}
 use Rattle.writing.proofs.proof_held.Tie as tie
 
+holds-requires : tie.Need-holds-requires
+holds-requires c κs = search needs
+
 returns : tie.Need-returns
-unfolding holds
-returns c =
-    let a = c .before .args in
-    sym (and-first-false _ _ (lt-leb _ _ (not-held (length (a .t .now)) 4 (a .rows) (omega arith) (c .if1 .taken))))
+returns c = sym (and-first-false _ _ (asked-false (c .before .holds .ensures) (c .if1 .taken)))
+
+holds-requires-2 : tie.Need-holds-requires-2
+holds-requires-2 c κs = search needs
 
 returns-2 : tie.Need-returns-2
-unfolding holds
 returns-2 c =
-    let a = c .before .before .args in
     sym
-    (and-second-false (leb (4 * a .rows) (length (a .t .now))) _
-    (and-first-false _ _ (lt-leb _ _ (not-held (length (a .nodes .now)) 9 (a .count) (omega arith) (c .if2 .taken)))))
+    (and-first-true _ _ (asked-true (c .before .before .before .holds .ensures) (c .before .before .if1 .left))
+    ∙ and-first-false _ _ (asked-false (c .before .holds2 .ensures) (c .if2 .taken)))
+
+holds-requires-3 : tie.Need-holds-requires-3
+holds-requires-3 c κs = search needs
 
 returns-3 : tie.Need-returns-3
-unfolding holds
 returns-3 c =
-    let a = c .before .before .args in
-    let one : a .m ≡ 1 * a .m = omega arith in
-    ap (λ k. leb k (length (a .members .now))) one
+    c .holds3 .ensures
     ∙ sym
-    (both-held _ _ _
-    (le-leb _ _ (held-of (length (a .t .now)) 4 (a .rows) (omega arith) (c .before .if1 .left)))
-    (le-leb _ _ (held-of (length (a .nodes .now)) 9 (a .count) (omega arith) (c .if2 .left))))
+    (and-first-true _ _ (asked-true (c .before .before .before .before .holds .ensures) (c .before .before .before .if1 .left))
+    ∙ and-first-true _ _ (asked-true (c .before .before .holds2 .ensures) (c .before .if2 .left)))
 
 pub proof-held-spec : {M : Type 1} → statement M
-proof-held-spec = tie.close (tie.spec returns returns-2 returns-3)
+proof-held-spec =
+    tie.close
+    (tie.spec holds-requires returns holds-requires-2 returns-2 holds-requires-3 returns-3)

@@ -4,7 +4,7 @@ use mathlib.Core.Path.{_≡_, sym, _∙_}
 use mathlib.Core.Bool.{Bool, true}
 use mathlib.Core.List.{List}
 use borrow.Author.Needs.{needs}
-use borrow.Author.Tests.{le-leb, lt-leb, not-true, not-false}
+use borrow.Author.Tests.{le-leb, lt-leb, leb-true, not-true, not-false}
 use lib.Dec.{leb}
 use lib.ListN.{length, take}
 use lib.Seq.{length-take-le}
@@ -12,9 +12,8 @@ use Rattle.stab.specs.Basic.{_and_, allOf}
 use Rattle.stab.specs.Text.{fiveDigits}
 use Rattle.stab.specs.Check.{holds}
 use Rattle.stab.specs.Write.{rowsWritable}
-use Rattle.stab.proofs.Bools.{and-both, and-first-false, and-second-false}
+use Rattle.stab.proofs.Bools.{and-both, and-first-false, and-second-false, asked-false, asked-true}
 use Rattle.output.specs.Headed.{headedText, writeHeaded}
-use Rattle.output.proofs.HeadedTexts.{held-of, not-held}
 use Rattle.writing.proofs.Writings.{too-short, too-many, no-number, left, answered}
 use Rattle.writing.proofs.write_headed.Statement.{statement}
 use Rattle.writing.proofs.write_headed.Tie as tie
@@ -37,13 +36,14 @@ Ok s = allOf fiveDigits (s .args .line .now) and allOf fiveDigits (take (s .args
 
 -- and what is known where each has passed
 abbrev S₁ : tie.Else1 → tie.Start
-S₁ c = c .before .before .before .before
-
-within : (c : tie.Else1) → S₁ c .args .w * S₁ c .args .rows ≤ length (S₁ c .args .t .now)
-within c = held-of (length (S₁ c .args .t .now)) (S₁ c .args .w) (S₁ c .args .rows) (S₁ c .pre .1) (c .if1 .left)
+S₁ c = c .before .before .before .before .before
 
 held : (c : tie.Else1) → Held (S₁ c) ≡ true
-held c = le-leb _ _ (within c)
+unfolding holds
+held c = asked-true (c .before .holds .ensures) (c .if1 .left)
+
+within : (c : tie.Else1) → S₁ c .args .w * S₁ c .args .rows ≤ length (S₁ c .args .t .now)
+within c = leb-true _ _ (held c)
 
 few : (c : tie.Else2) → Few (S₁ (c .before)) ≡ true
 few c = le-leb _ _ (c .if2 .left)
@@ -51,8 +51,8 @@ few c = le-leb _ _ (c .if2 .left)
 front : (c : tie.Else3) → allOf fiveDigits (S₁ (c .before .before .before) .args .line .now) ≡ true
 front c = sym (c .before .writable .ensures) ∙ not-false _ (c .if3 .left)
 
-div-if1 : tie.Need-div-if1
-div-if1 c = search needs
+holds-requires : tie.Need-holds-requires
+holds-requires c κs = search needs
 
 refuse-requires : tie.Need-refuse-requires
 refuse-requires c κs = search needs
@@ -64,10 +64,9 @@ returns : tie.Need-returns
 unfolding writeHeaded holds rowsWritable
 returns c =
     let b = c .before .before .before .before in
-    let s = b .before .before .before .before in
+    let s = b .before .before .before .before .before in
     answered (N s)
-    (too-short (Held s) (Few s) (Ok s) (N s) (Whole s)
-    (lt-leb _ _ (not-held (length (s .args .t .now)) (s .args .w) (s .args .rows) (s .pre .1) (b .if1 .taken))))
+    (too-short (Held s) (Few s) (Ok s) (N s) (Whole s) (asked-false (b .before .holds .ensures) (b .if1 .taken)))
     (c .before .before .refuse .ensures)
 
 refuse-requires-2 : tie.Need-refuse-requires-2
@@ -165,7 +164,7 @@ pub write-headed-spec : {M : Type 1} → statement M
 write-headed-spec =
     tie.close
     (tie.spec
-    div-if1
+    holds-requires
     refuse-requires
     same-length
     returns
