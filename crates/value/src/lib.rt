@@ -1,4 +1,7 @@
 // The value of a formula under a list of true pairs, at up to 63 numbers at once.
+use formula::A;
+use formula::B;
+use formula::C;
 use pairs::listed_word;
 use pairs::moved;
 ghost use mathlib.Core.Path.{_≡_};
@@ -59,10 +62,10 @@ fn base_of(schema: &[i32], f: usize, n: usize, i: usize) -> usize
     requires { ⌜ (f < 1024) × (n ≤ 9999) × Reached i ⌝ }
     ensures { λ r. ⌜ Reached r × (unbiased r ≡ base n (unbiased i) (baseOf (rowAt (now (schema .entry)) f .b))) ⌝ }
 {
-    if signed::is_at(schema, 4 * f + 2, 0) {
+    if signed::is_at(schema, 4 * f + B, 0) {
         return 65536;
     }
-    if signed::is_at(schema, 4 * f + 2, 1) {
+    if signed::is_at(schema, 4 * f + B, 1) {
         return 65536 + n;
     }
     i
@@ -81,9 +84,9 @@ fn symbol_word(
     requires { ⌜ Readable (now schema) f n (now pairs) count × ReachedWord i width × IsLiteral (now schema) f ⌝ }
     ensures { λ r. ⌜ r ≡ wordAt (symbolValue (listed (now (pairs .entry)) count) n (rowAt (now (schema .entry)) f)) i width ⌝ }
 {
-    let x = moved(base_of(schema, f, n, i), schema, 4 * f + 3);
-    let symbol = signed::natural_at(schema, 4 * f + 1);
-    if signed::natural_at(schema, 4 * f + 2) < 2 {
+    let x = moved(base_of(schema, f, n, i), schema, 4 * f + C);
+    let symbol = signed::natural_at(schema, 4 * f + A);
+    if signed::natural_at(schema, 4 * f + B) < 2 {
         return same(listed_word(pairs, count, symbol, x, 1) == 1, width);
     }
     listed_word(pairs, count, symbol, x, width)
@@ -114,8 +117,8 @@ fn range_size(schema: &[i32], f: usize, n: usize) -> usize
     requires { ⌜ (f < 1024) × (n ≤ 9999) × Iterates (now schema) f ⌝ }
     ensures { λ r. ⌜ r ≡ rangeSize (rowAt (now (schema .entry)) f .b) (pos n -ℤ rowAt (now (schema .entry)) f .c) ⌝ }
 {
-    let up = n + 1 + signed::under_at(schema, 4 * f + 2) + signed::under_at(schema, 4 * f + 3);
-    let down = signed::natural_at(schema, 4 * f + 2) + signed::natural_at(schema, 4 * f + 3);
+    let up = n + 1 + signed::under_at(schema, 4 * f + B) + signed::under_at(schema, 4 * f + C);
+    let down = signed::natural_at(schema, 4 * f + B) + signed::natural_at(schema, 4 * f + C);
     if up < down { 0 } else { up - down }
 }
 
@@ -139,9 +142,9 @@ pub fn formula_value(
     if kind < 4 {
         return literal_value(schema, f, n, i, width, pairs, count);
     }
-    let a = signed::natural_at(schema, 4 * f + 1);
+    let a = signed::natural_at(schema, 4 * f + A);
     if 6 <= kind {
-        let first = moved(65536, schema, 4 * f + 2);
+        let first = moved(65536, schema, 4 * f + B);
         let left = range_size(schema, f, n);
         let held = range_value(schema, a, n, kind == 7, first, left, pairs, count);
         return same(held, width);
@@ -151,7 +154,7 @@ pub fn formula_value(
     if settled(any, v, width) {
         return v;
     }
-    let b = signed::natural_at(schema, 4 * f + 2);
+    let b = signed::natural_at(schema, 4 * f + B);
     joined(any, v, formula_value(schema, b, n, i, width, pairs, count))
 }
 
