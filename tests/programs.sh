@@ -1,6 +1,7 @@
 #!/usr/bin/env bash
 # The programs, through ./zorambi check and ./zorambi model: on every record against its `expected` file and the other
-# implementation, and on files that are no texts at all against the other implementation.
+# implementation, and on files that are no texts at all against the other implementation. And that the copies of the
+# records are the records.
 set -u
 cd "$(dirname "$0")/.." || exit 2
 here=$PWD
@@ -99,12 +100,13 @@ other_neighbour "no node" proof.txt '7,$d' "refused: no node (10)"
 other_neighbour "an ill-formed schema row" schema.txt 's/^7 0 2 0$/7 9 2 0/' "schema.txt:6: 7 9 2 0"
 other_neighbour "an ill-formed proof row" proof.txt 's/^6 1 2 1$/6 1 2 99999/' "proof.txt:4: 6 1 2 99999"
 other_neighbour "a heading" schema.txt 's/^root/Root/' "schema.txt:1: Root least"
+other_neighbour "bytes that are not printable" proof.txt 's/^6 1 2 1$/6 1\x1b[2J\x00\xff\\ 1/' 'proof.txt:4: 6 1\x1b[2J\x00\xff\\ 1'
 
 # ---- models of 01: root 3
 
 record "$work/m"
 sed -i 's/^4 1$/3 1/' "$work/m/schema.txt"
-model() { printf "$1" >"$work/m/model.txt"; }
+model() { printf '%b' "$1" >"$work/m/model.txt"; }
 expect_model() { # NAME NUMBERS
   out=$(./zorambi model "$work/m" 2>"$work/err")
   same "$1" "answer place nodes links
@@ -150,29 +152,66 @@ spoil "CR LF in schema.txt" schema.txt < <(printf 'root least\r\n4 1\r\nkind a b
 spoil "no last byte 10" schema.txt < <(printf 'root least\n4 1\nkind a b c\n2 0 2 0')
 spoil "-0" schema.txt < <(printf 'root least\n4 -0\nkind a b c\n2 0 2 0\n')
 spoil "007" schema.txt < <(printf 'root least\n4 007\nkind a b c\n2 0 2 0\n')
-for f in schema.txt proof.txt; do
+missing() { # PROGRAM FILE: a record without the file, with a folder in its place, with one that cannot be read
+  local judge=check_record
+  [ "$1" = model ] && judge=check_model_record
   record "$work/g"
-  rm "$work/g/$f"
-  check_record "$work/g" "no $f"
-  mkdir "$work/g/$f"
-  check_record "$work/g" "a folder for $f"
-  rmdir "$work/g/$f"
-  ln -s /proc/self/mem "$work/g/$f"
-  check_record "$work/g" "$f that cannot be read"
+  printf 'n\n3\nsymbol index\n0 1\n' >"$work/g/model.txt"
+  rm "$work/g/$2"
+  "$judge" "$work/g" "no $2"
+  said "no $2" "refused: a heading (3) at line 1"
+  said "no $2" "$2:1: "
+  mkdir "$work/g/$2"
+  "$judge" "$work/g" "a folder for $2"
+  rmdir "$work/g/$2"
+  ln -s /proc/self/mem "$work/g/$2"
+  "$judge" "$work/g" "$2 that cannot be read"
   rm -r "$work/g"
+}
+missing check schema.txt
+missing check proof.txt
+missing model schema.txt
+missing model model.txt
+
+# ---- the records as the program `cases` has them
+
+# The texts are the same, and what the program is held to is what the records themselves expect.
+if diff -r --exclude=README.md --exclude=expected --exclude=why records crates/cases/data; then
+  passed=$((passed + 1))
+else
+  failed=$((failed + 1))
+  echo "crates/cases/data is not what records is"
+fi
+listed() { # LINE
+  if grep -qxF -- "$1" crates/cases/stdout; then
+    passed=$((passed + 1))
+  else
+    failed=$((failed + 1))
+    echo "crates/cases/stdout has no line '$1'"
+  fi
+}
+for r in records/accepted/* records/refused/*; do
+  listed "${r#records/}: $(cat "$r/expected")"
+  if [ -f "$r/model.txt" ]; then listed "${r#records/}, its model: 0 0 0 0"; fi
 done
 
 # ---- wrong use
 
-for words in "" "check" "check $work/none" "model" "check records records"; do
-  ./zorambi $words >/dev/null 2>&1
+wrong_use() { # WORD...
+  ./zorambi "$@" >/dev/null 2>&1
   if [ $? -eq 2 ]; then
     passed=$((passed + 1))
   else
     failed=$((failed + 1))
-    echo "./zorambi $words: wrong use is not told apart"
+    echo "./zorambi $*: wrong use is not told apart"
   fi
-done
+}
+wrong_use
+wrong_use check
+wrong_use check "$work/none"
+wrong_use check ""
+wrong_use model
+wrong_use check records records
 
 echo "$passed passed, $failed failed"
 [ "$failed" -eq 0 ]

@@ -1,4 +1,5 @@
-//! Record folders: those with a schema's and a proof's text.
+//! Record folders: those with a schema's or a proof's text. Where one of the two is missing it counts as empty, and the record is
+//! refused for that.
 
 use crate::judge::{PROOF, SCHEMA};
 use std::fs;
@@ -18,9 +19,9 @@ pub fn find(folder: &Path) -> Found {
     let mut waiting = vec![folder.to_path_buf()];
     while let Some(folder) = waiting.pop() {
         match list(&folder) {
-            Ok(Listed { folders, texts }) => {
+            Ok(Listed { folders, has_text }) => {
                 waiting.extend(folders);
-                if texts == 2 {
+                if has_text {
                     found.records.push(folder);
                 }
             }
@@ -34,17 +35,16 @@ pub fn find(folder: &Path) -> Found {
 
 struct Listed {
     folders: Vec<PathBuf>,
-    /// How many of the two texts are there.
-    texts: usize,
+    has_text: bool,
 }
 
 fn list(folder: &Path) -> io::Result<Listed> {
-    let mut listed = Listed { folders: Vec::new(), texts: 0 };
+    let mut listed = Listed { folders: Vec::new(), has_text: false };
     for entry in fs::read_dir(folder)? {
         let entry = entry?;
         let name = entry.file_name();
         if name == SCHEMA || name == PROOF {
-            listed.texts += 1;
+            listed.has_text = true;
         } else if entry.file_type()?.is_dir() {
             listed.folders.push(entry.path());
         }

@@ -142,8 +142,8 @@ fn which_folders_are_records() {
     put(&folder.join("deep/deeper/deepest"), SCHEMA, PROOF);
     put(&folder.join("deep/deeper"), SCHEMA, PROOF);
     fs::create_dir_all(folder.join("empty")).unwrap();
-    fs::create_dir_all(folder.join("schema only")).unwrap();
-    fs::write(folder.join("schema only/schema.txt"), SCHEMA).unwrap();
+    fs::create_dir_all(folder.join("notes only")).unwrap();
+    fs::write(folder.join("notes only/notes.txt"), SCHEMA).unwrap();
     symlink(&folder, folder.join("around")).unwrap();
     let output = run(&[&folder]);
     assert_eq!(output.status.code(), Some(0));
@@ -155,7 +155,33 @@ fn which_folders_are_records() {
     assert_eq!(lines(&output), expected);
 }
 
-/// The fields of a CSV text, by the usual rules of quoting.
+#[test]
+fn one_of_two_texts() {
+    let folder = scratch("one");
+    put(&folder.join("both"), SCHEMA, PROOF);
+    put(&folder.join("schema only"), SCHEMA, PROOF);
+    fs::remove_file(folder.join("schema only/proof.txt")).unwrap();
+    put(&folder.join("proof only"), SCHEMA, PROOF);
+    fs::remove_file(folder.join("proof only/schema.txt")).unwrap();
+    let table = folder.join("table.csv");
+    let output = run(&[&folder, Path::new("--csv"), &table]);
+    assert_eq!(output.status.code(), Some(1));
+    let heading = "refused 3 at line 1 (a heading that is absent or different)";
+    let path = |name: &str| folder.join(name).display().to_string();
+    let expected = [
+        format!("{}: accepted 7 nodes 1 link", path("both")),
+        format!("{}: {heading}: schema.txt:1", path("proof only")),
+        format!("{}: {heading}: proof.txt:1", path("schema only")),
+        "3 records: 1 accepted, 2 refused (2 with 3)".to_string(),
+    ];
+    assert_eq!(lines(&output), expected);
+    let rows = fields(&fs::read_to_string(table).unwrap());
+    assert_eq!(rows.len(), 4);
+    assert_eq!(rows[2][..6], [&path("proof only"), "refused", "3", "1", "0", "0"].map(str::to_string));
+    assert_eq!(rows[3][..6], [&path("schema only"), "refused", "3", "1", "0", "0"].map(str::to_string));
+}
+
+/// The fields of a CSV text, by the rules of RFC 4180.
 fn fields(text: &str) -> Vec<Vec<String>> {
     let (mut rows, mut row, mut field, mut quoted) = (Vec::new(), Vec::new(), String::new(), false);
     let mut bytes = text.chars().peekable();
@@ -164,10 +190,12 @@ fn fields(text: &str) -> Vec<Vec<String>> {
             '"' if quoted && bytes.peek() == Some(&'"') => field.push(bytes.next().unwrap()),
             '"' => quoted = !quoted,
             ',' if !quoted => row.push(std::mem::take(&mut field)),
-            '\n' if !quoted => {
+            '\r' if !quoted => {
+                assert_eq!(bytes.next(), Some('\n'));
                 row.push(std::mem::take(&mut field));
                 rows.push(std::mem::take(&mut row));
             }
+            '\n' if !quoted => panic!("a line ends without CR"),
             _ => field.push(c),
         }
     }

@@ -1,0 +1,178 @@
+#!/usr/bin/env bash
+# The script ./zorambi by itself, with stand-ins for rt and for the programs: when it proves again, what it says
+# meanwhile, and what it makes of a program that goes wrong.
+set -u
+cd "$(dirname "$0")/.." || exit 2
+work=$(mktemp -d) || exit 2
+trap 'rm -rf "$work"' EXIT
+passed=0
+failed=0
+
+# A repository of three crates, two of which the program check_proof is made of.
+mkdir -p "$work/kit" "$work/repo/crates/low/src" "$work/repo/crates/low/must-fail" "$work/repo/crates/check_proof/src" "$work/record"
+cp zorambi "$work/repo/zorambi"
+printf '# NAME: what it depends on\nlow:\nother: low\nzorambi: low\ncheck_proof: low io libc\n' >"$work/repo/crates.txt"
+echo one >"$work/repo/crates/low/src/lib.rt"
+echo two >"$work/repo/crates/low/src/more.rt"
+echo three >"$work/repo/crates/check_proof/src/main.rt"
+
+# rt's stand-in notes each proof and makes what it is asked for; `during` is run while it proves. The program's
+# stand-in is the file `program`.
+cat >"$work/kit/rt" <<'R'
+#!/bin/sh
+at=$(dirname "$0")/..
+[ "$1" = version ] && exec cat "$at/version"
+echo "$1 $2" >>"$at/proofs"
+echo "fn low::f: proved"
+echo "rt: low proved (unchanged since it was last proved)"
+sh "$at/during" || { echo "rt: $2 NOT PROVED (exit 1, 1 s)"; exit 1; }
+mkdir -p target/bin target/staticlib
+if [ "$1" = check ]; then
+  cp "$at/program" "target/bin/$2"
+  echo "rt: $2 proved (1 s)"
+else
+  echo made >"target/staticlib/lib$2.a"
+  echo "rt: target/staticlib/lib$2.a has the functions of $2"
+fi
+R
+chmod +x "$work/kit/rt"
+echo kit-1 >"$work/version"
+: >"$work/during"
+
+# The program's stand-in from now on: a shell script, and the kit makes it anew.
+program() { # SCRIPT
+  printf '#!/bin/sh\n%s\n' "$1" >"$work/program"
+  chmod +x "$work/program"
+  rm -rf "$work/repo/target"
+}
+accepts='printf "answer place nodes links\n0 0 7 1\n"'
+refuses='printf "answer place nodes links\n4 3 0 0\n"'
+
+# Runs ./zorambi: what it prints, says and ends with, and how often rt proved.
+use() { # WORD...
+  : >"$work/proofs"
+  (cd "$work/repo" && PATH=$work/kit:$PATH && ./zorambi "$@") >"$work/out" 2>"$work/err"
+  status=$?
+  proofs=$(wc -l <"$work/proofs")
+}
+check() {
+  use check "$work/record"
+}
+
+# One expectation.
+expect() { # NAME TEST...
+  local name=$1
+  shift
+  if "$@"; then
+    passed=$((passed + 1))
+  else
+    failed=$((failed + 1))
+    echo "$name: exit status $status, $proofs proofs; printed: $(tr '\n' '|' <"$work/out"); said: $(tr '\n' '|' <"$work/err")"
+  fi
+}
+ended() { # STATUS PROOFS
+  [ "$status" -eq "$1" ] && [ "$proofs" -eq "$2" ]
+}
+said() { # LINE...
+  printf '%s\n' "$@" | cmp -s - "$work/err"
+}
+
+# ---- when it proves
+
+program "$accepts"
+first="proving and building check_proof first; from nothing this takes some minutes"
+check
+expect "first use" ended 0 1
+expect "first use, what is said" said "$first" "proved 1 of 2 crates" "proved 2 of 2 crates"
+check
+expect "second use" ended 0 0
+expect "second use, what is said" cmp -s "$work/err" /dev/null
+
+# A change, then a use with a proof, then one without.
+changed() { # NAME
+  check
+  expect "$1" ended 0 1
+  check
+  expect "$1, used again" ended 0 0
+}
+echo two more >>"$work/repo/crates/low/src/more.rt"
+changed "a source edited"
+echo one >"$work/repo/crates/low/src/lib.rt.new"
+touch -d '2001-01-01' "$work/repo/crates/low/src/lib.rt.new"
+mv "$work/repo/crates/low/src/lib.rt.new" "$work/repo/crates/low/src/new.rt"
+changed "a source added that is old"
+mv "$work/repo/crates/low/src/new.rt" "$work/repo/crates/low/src/newer.rt"
+changed "a source renamed"
+rm "$work/repo/crates/low/src/more.rt"
+changed "a source deleted"
+echo '# a remark' >>"$work/repo/crates.txt"
+changed "the list of crates edited"
+echo kit-2 >"$work/version"
+changed "another kit"
+echo '# by hand' >>"$work/repo/target/bin/check_proof"
+changed "another program in its place"
+rm "$work/repo/target/bin/check_proof"
+changed "the program deleted"
+echo 'an edit' >"$work/repo/crates/low/must-fail/wrong.edit"
+check
+expect "a must-fail edit is no source" ended 0 0
+
+echo "echo meanwhile >>crates/low/src/lib.rt" >"$work/during"
+echo four >>"$work/repo/crates/low/src/lib.rt"
+check
+expect "a source edited while it proves" ended 0 1
+: >"$work/during"
+changed "a source edited while it proved"
+
+echo false >"$work/during"
+echo five >>"$work/repo/crates/low/src/lib.rt"
+check
+expect "not proved" ended 2 1
+expect "not proved, what is said" said "$first" "proved 1 of 2 crates" "fn low::f: proved" \
+  "rt: low proved (unchanged since it was last proved)" "rt: check_proof NOT PROVED (exit 1, 1 s)" "check_proof is not proved"
+check
+expect "still not proved" ended 2 1
+: >"$work/during"
+changed "proved again"
+
+# Only the library is made here: the repository has no crate of tests, so the command fails after that.
+use bench
+expect "the library" ended 1 1
+use bench
+expect "the library again" ended 1 0
+rm "$work/repo/crates/low/src/newer.rt"
+use bench
+expect "the library after a source is deleted" ended 1 1
+
+# ---- what it makes of a program's end
+
+ends() { # NAME SCRIPT STATUS
+  program "$2"
+  check
+  expect "$1" ended "$3" 1
+}
+ends "acceptance" "$accepts" 0
+ends "refusal" "$refuses" 1
+ends "death after an acceptance is printed" "$accepts; kill -SEGV \$\$" 2
+ends "another exit status after a refusal" "$refuses; exit 1" 2
+ends "nothing printed" "" 2
+ends "no heading" 'echo "0 0 7 1"' 2
+ends "half a line" 'printf "answer place nodes links\n0 0"' 2
+ends "an answer that there is not" 'printf "answer place nodes links\n23 0 0 0\n"' 2
+ends "a line more" "$accepts; echo 0" 2
+
+# ---- bytes of a record
+
+red='printf "schema.txt:3: \033[31m a\\\\b\tc\000d\200\377 e\n" >&2'
+shown='schema.txt:3: \x1b[31m a\\b\x09c\x00d\x80\xff e'
+program "$refuses; $red"
+check
+expect "escaped bytes of a refused record" said "$first" "proved 1 of 2 crates" "proved 2 of 2 crates" \
+  "refused: a line's form (4) at line 3" "$shown"
+program "$red"
+check
+expect "escaped bytes where there is no verdict" said "$first" "proved 1 of 2 crates" "proved 2 of 2 crates" \
+  "check_proof ended without a verdict, with exit status 0" "$shown"
+
+echo "$passed passed, $failed failed"
+[ "$failed" -eq 0 ]
