@@ -27,7 +27,8 @@ use Rattle.stab.proofs.Bools.{and-left, and-right}
 use Rattle.stab.proofs.Texts.{schema-back, proof-back, model-back}
 use Rattle.stab.proofs.Texts.Rows.{require-true}
 use Rattle.stab.proofs.Texts.Outcomes.{written as passes, padded-none}
-use Rattle.round.specs.Again.{schemaAgain, proofAgain, modelAgain, tableAgain}
+use Rattle.round.specs.Again.{schemaAgain, proofAgain, modelAgain, tableAgain, kept}
+use Rattle.round.proofs.Kept.{none-kept}
 
 -- ---- rows that were written, read from the front of the output
 
@@ -152,6 +153,11 @@ module _ (v : ℤ) (t : List ℤ) (rows n m : ℕ) where
       )
 
 -- ---- rows that were not written
+
+pub output-unwritten : (w : Writing) (n : ℕ) (why : Refusal) (p : Place) → written w ≡ WriteRefused why p → (a : ℕ) → output n w ≡ kept 0 a (output n w)
+unfolding written output
+output-unwritten (wrote text) n why p e a = cc
+output-unwritten (refused u) n why p e a = none-kept 0 a n
 
 pub table-unwritten : (w : Writing) (full : Bool) (m : ℕ) (numbers : List ℤ) (why : Refusal) (p : Place) → written w ≡ WriteRefused why p
     → replicate m (pos 0) ≡ tableAgain w full m numbers

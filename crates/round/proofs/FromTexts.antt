@@ -20,7 +20,8 @@ use Rattle.stab.specs.declared.Written.the-variants.{Refused as WriteRefused}
 use Rattle.stab.proofs.Bools.{none-unless, otherwise-none}
 use Rattle.stab.proofs.Texts.{schema-same, proof-same, model-same}
 use Rattle.stab.proofs.Texts.Outcomes.{Written as Passes, written as passes, padded-none}
-use Rattle.round.specs.Again.{textAgain, bytesAgain}
+use Rattle.round.specs.Again.{textAgain, bytesAgain, kept}
+use Rattle.round.proofs.Kept.{none-kept}
 
 -- ---- rows whose text fits into one output: into another it is that text, or 22
 
@@ -105,19 +106,24 @@ model-again text m n v pairs = go (readModel m text) refl
 -- ---- a text that was not read
 
 pub schema-unread : (r : Reading SchemaText) (why : Refusal) (p : Place) (n : ℕ) (text : List ℕ) → schemaAnswer r ≡ SchemaRefused why p
-    → (WriteRefused why p ≡ textAgain r n text) × (replicate n 0 ≡ bytesAgain r n text)
-unfolding schemaAnswer textAgain bytesAgain
-schema-unread (read s) why p n text e = (cc, cc)
-schema-unread (stopped w k) why p n text e = let f : SchemaRefused w (At k) ≡ SchemaRefused why p = e in (cc, sym (padded-none 0 n))
+    → (WriteRefused why p ≡ textAgain r n text) × (replicate n 0 ≡ bytesAgain r n text) × ((m a : ℕ) → schemaTable m r ≡ kept (pos 0) a (schemaTable m r))
+unfolding schemaAnswer textAgain bytesAgain schemaTable tableOf
+schema-unread (read s) why p n text e = (cc, cc, λ m a. cc)
+schema-unread (stopped w k) why p n text e = let f : SchemaRefused w (At k) ≡ SchemaRefused why p = e in (cc, sym (padded-none 0 n), λ m a. none-kept (pos 0) a m)
 
 pub proof-unread : (r : Reading ProofText) (why : Refusal) (p : Place) (n : ℕ) (text : List ℕ) → proofAnswer r ≡ ProofRefused why p
     → (WriteRefused why p ≡ textAgain r n text) × (replicate n 0 ≡ bytesAgain r n text)
-unfolding proofAnswer textAgain bytesAgain
-proof-unread (read s) why p n text e = (cc, cc)
-proof-unread (stopped w k) why p n text e = let f : ProofRefused w (At k) ≡ ProofRefused why p = e in (cc, sym (padded-none 0 n))
+    × ((m a : ℕ) → proofTable m r ≡ kept (pos 0) a (proofTable m r))
+    × ((m a : ℕ) → nodeTable m r ≡ kept (pos 0) a (nodeTable m r))
+    × ((m a : ℕ) → memberTable m r ≡ kept (pos 0) a (memberTable m r))
+unfolding proofAnswer textAgain bytesAgain proofTable nodeTable memberTable tableOf
+proof-unread (read s) why p n text e = (cc, cc, λ m a. cc, λ m a. cc, λ m a. cc)
+proof-unread (stopped w k) why p n text e =
+    let f : ProofRefused w (At k) ≡ ProofRefused why p = e in
+    (cc, sym (padded-none 0 n), λ m a. none-kept (pos 0) a m, λ m a. none-kept (pos 0) a m, λ m a. none-kept (pos 0) a m)
 
 pub model-unread : (r : Reading ModelText) (why : Refusal) (p : Place) (n : ℕ) (text : List ℕ) → modelAnswer r ≡ ModelRefused why p
-    → (WriteRefused why p ≡ textAgain r n text) × (replicate n 0 ≡ bytesAgain r n text)
-unfolding modelAnswer textAgain bytesAgain
-model-unread (read s) why p n text e = (cc, cc)
-model-unread (stopped w k) why p n text e = let f : ModelRefused w (At k) ≡ ModelRefused why p = e in (cc, sym (padded-none 0 n))
+    → (WriteRefused why p ≡ textAgain r n text) × (replicate n 0 ≡ bytesAgain r n text) × ((m a : ℕ) → pairTable m r ≡ kept (pos 0) a (pairTable m r))
+unfolding modelAnswer textAgain bytesAgain pairTable tableOf
+model-unread (read s) why p n text e = (cc, cc, λ m a. cc)
+model-unread (stopped w k) why p n text e = let f : ModelRefused w (At k) ≡ ModelRefused why p = e in (cc, sym (padded-none 0 n), λ m a. none-kept (pos 0) a m)

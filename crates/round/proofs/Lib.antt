@@ -1,2 +1,3 @@
-pub mod FromTexts
 pub mod FromRows
+pub mod FromTexts
+pub mod Kept

@@ -1,9 +1,10 @@
 -- What a way there and back comes to: a text that is read and written, and rows that are written and read.
-use Prim.Native.Nat.{ℕ}
+use Prim.Native.Nat.{ℕ, zero, suc}
 use mathlib.Core.Bool.{Bool, true, false}
 use mathlib.Core.List.{List, []}
 use mathlib.Core.Option.{none}
 use lib.IntN.{ℤ, pos}
+use lib.ListN.{length}
 use Rattle.stab.specs.Text.{padded}
 use Rattle.stab.specs.Read.{Reading, read, stopped}
 use Rattle.stab.specs.Write.{Writing, refused, wrote, writing, written, output}
@@ -17,6 +18,12 @@ use Rattle.stab.specs.declared.ModelRead.{ModelRead}
 use Rattle.stab.specs.declared.ModelRead.the-variants.{Model, Refused as ModelRefused}
 use Rattle.stab.specs.declared.Written.{Written}
 use Rattle.stab.specs.declared.Written.the-variants.{Refused as WriteRefused}
+
+-- ---- "Lent result memory is then all 0": what stays of lent memory where the answer has this number, and what is 0 in it
+
+unfoldable pub kept : {A : Type 0} → A → ℕ → List A → List A
+kept nothing zero memory = memory
+kept nothing (suc refusal) memory = padded nothing (length memory) []
 
 -- ---- a text that is read, and written into an output of n bytes: the text itself, or 22 where the output is shorter; or the refusal in reading
 

@@ -1,12 +1,15 @@
-use mathlib.Core.Path.{_≡_, sym, _∙_}
+use mathlib.Core.Path.{_≡_, sym, _∙_, ap}
+use lib.IntN.{pos}
 use lib.ListN.{length}
 use mir.Syntax.{w32}
 use mir.Val.{ofZ, toZ}
 use borrow.Author.Needs.{needs}
 use Rattle.signed.proofs.Signs.{read-back}
 use Rattle.stab.specs.Read.{readModel, modelAnswer, pairTable}
+use Rattle.stab.specs.Answer.{writtenNumbers}
 use Rattle.stab.specs.Write.{writeModel}
 use Rattle.stab.specs.declared.ModelRead.the-variants.{Model, Refused}
+use Rattle.round.specs.Again.{kept}
 use Rattle.round.proofs.FromTexts.{model-again, model-unread}
 use Rattle.round.proofs.model_again.Statement.{statement}
 use Rattle.round.proofs.model_again.Tie as tie
@@ -31,6 +34,9 @@ was-refused c = sym (c .before .before .before .read-model .ensures .0) ∙ c .w
 write-model-requires : tie.Need-write-model-requires
 write-model-requires c κs = search needs
 
+keep-table-requires : tie.Need-keep-table-requires
+keep-table-requires c κs = search needs
+
 enum-known-why : tie.Need-enum-known-why
 enum-known-why c = search needs
 
@@ -45,7 +51,7 @@ same-length-2 c = search needs
 
 returns : tie.Need-returns
 returns c =
-    let b = c .before .before in
+    let b = c .before .before .before .before .before in
     let k = b .before .before .before in
     let d = k .before .before .before .before in
     let a = d .before .before .before .before .args in
@@ -56,7 +62,7 @@ returns c =
     ≡ writeModel (v .0) (pairTable (length (a .pairs .now)) (readModel (length (a .pairs .now)) (a .text .now))) (v .1 .0) (length (a .out .now)) =
     λ i. writeModel (n i) (t i) (v .1 .0) (length (a .out .now)) in
     let g = model-again (a .text .now) (length (a .pairs .now)) (length (a .out .now)) (v .0) (v .1 .0) (was-read (k .before)) _ same in
-    (b .write-model .ensures .0 ∙ g .0, (b .write-model .ensures .1 ∙ g .1, t))
+    (b .write-model .ensures .0 ∙ g .0, (b .write-model .ensures .1 ∙ g .1, c .before .keep-table .ensures ∙ ap (kept (pos 0) (writtenNumbers (b .write-model .result) .answer)) t))
 
 same-length-3 : tie.Need-same-length-3
 same-length-3 c = search needs
@@ -70,7 +76,7 @@ returns-2 c =
     let d = w .before .before .before in
     let a = d .before .before .before .before .args in
     let g = model-unread _ _ _ (length (a .out .now)) (a .text .now) (was-refused w) in
-    (g .0, (c .before .before .clear .ensures ∙ g .1, d .read-model .ensures .1))
+    (g .0, (c .before .before .clear .ensures ∙ g .1, d .read-model .ensures .1 ∙ g .2 _ _))
 
 pub model-again-spec : {M : Type 1} → statement M
 model-again-spec =
@@ -79,6 +85,7 @@ model-again-spec =
     read-model-requires
     enum-known-n
     write-model-requires
+    keep-table-requires
     enum-known-why
     clear-requires
     same-length

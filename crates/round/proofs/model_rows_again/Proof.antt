@@ -8,9 +8,11 @@ use lib.Seq.{length-take-le}
 use mir.Facts.{toZ-ofZ}
 use borrow.Author.Needs.{needs}
 use Rattle.stab.specs.Read.{readModel, modelAnswer, pairTable}
+use Rattle.stab.specs.Answer.{modelNumbers}
 use Rattle.stab.specs.Write.{Writing, writeModel, written, output}
 use Rattle.stab.specs.declared.Written.the-variants.{Text, Refused}
-use Rattle.round.proofs.FromRows.{bytes-within, model-rows-again, model-unwritten, table-unwritten}
+use Rattle.round.specs.Again.{kept}
+use Rattle.round.proofs.FromRows.{bytes-within, model-rows-again, model-unwritten, table-unwritten, output-unwritten}
 use Rattle.signed.proofs.Tables.{cleared-all}
 use Rattle.round.proofs.model_rows_again.Statement.{statement}
 use Rattle.round.proofs.model_rows_again.Tie as tie
@@ -57,6 +59,9 @@ slice-aggregate-read-model c = sym (length-take-le _ _ (within (c .before .befor
 read-model-requires : tie.Need-read-model-requires
 read-model-requires c κs = search needs
 
+keep-model-requires : tie.Need-keep-model-requires
+keep-model-requires c κs = search needs
+
 enum-known-why : tie.Need-enum-known-why
 enum-known-why c = search needs
 
@@ -71,7 +76,8 @@ same-length-2 c = search needs
 
 returns : tie.Need-returns
 returns c =
-    let r = c .before in
+    let keep = c .before .before in
+    let r = keep .before .before .before in
     let b = r .before .before .before .before in
     let w = b .before .before .before .before in
     let s = w .before .before .before in
@@ -80,7 +86,7 @@ returns c =
     let g = model-rows-again (s .args .n) (s .args .pairs .now) (s .args .pair-rows) (length (s .args .out .now)) m bytes (has-text b) in
     let out = was-written w .1 in (
       r .read-model .ensures .0 ∙ ap (λ (l : List ℕ). modelAnswer (readModel m (take bytes l))) out ∙ g .0,
-      (r .read-model .ensures .1 ∙ ap (λ (l : List ℕ). pairTable m (readModel m (take bytes l))) out ∙ g .1, out),
+      (r .read-model .ensures .1 ∙ ap (λ (l : List ℕ). pairTable m (readModel m (take bytes l))) out ∙ g .1, keep .keep-model .ensures ∙ ap (kept 0 (modelNumbers (r .read-model .result) .answer)) out),
     )
 
 same-length-3 : tie.Need-same-length-3
@@ -96,7 +102,7 @@ returns-2 c =
     let s = w .before .before .before in
     let m = length (s .args .back .now) in (
       model-unwritten (W s) (leb 8192 m) (s .args .n) (s .args .pair-rows) _ _ (has-none y),
-      (c .before .clear .ensures ∙ cleared-all _ ∙ table-unwritten (W s) (leb 8192 m) m (take (2 * s .args .pair-rows) (s .args .pairs .now)) _ _ (has-none y), was-written w .1),
+      (c .before .clear .ensures ∙ cleared-all _ ∙ table-unwritten (W s) (leb 8192 m) m (take (2 * s .args .pair-rows) (s .args .pairs .now)) _ _ (has-none y), was-written w .1 ∙ output-unwritten (W s) _ _ _ (has-none y) _),
     )
 
 pub model-rows-again-spec : {M : Type 1} → statement M
@@ -108,6 +114,7 @@ model-rows-again-spec =
     slice-reshare-prefix-read-model
     slice-aggregate-read-model
     read-model-requires
+    keep-model-requires
     enum-known-why
     clear-requires
     same-length

@@ -8,9 +8,11 @@ use lib.Seq.{length-take-le}
 use borrow.Author.Needs.{needs}
 use Rattle.stab.specs.Basic.{_and_}
 use Rattle.stab.specs.Read.{Reading, ProofText, readProof, proofAnswer, proofTable, nodeTable, memberTable}
+use Rattle.stab.specs.Answer.{proofNumbers}
 use Rattle.stab.specs.Write.{Writing, writeProof, written}
 use Rattle.stab.specs.declared.Written.the-variants.{Text, Refused}
-use Rattle.round.proofs.FromRows.{bytes-within, proof-rows-again, proof-unwritten, table-unwritten}
+use Rattle.round.specs.Again.{kept}
+use Rattle.round.proofs.FromRows.{bytes-within, proof-rows-again, proof-unwritten, table-unwritten, output-unwritten}
 use Rattle.signed.proofs.Tables.{cleared-all}
 use Rattle.round.proofs.proof_rows_again.Statement.{statement}
 use Rattle.round.proofs.proof_rows_again.Tie as tie
@@ -53,6 +55,9 @@ slice-aggregate-read-proof c = sym (length-take-le _ _ (within (c .before .befor
 read-proof-requires : tie.Need-read-proof-requires
 read-proof-requires c κs = search needs
 
+keep-proof-requires : tie.Need-keep-proof-requires
+keep-proof-requires c κs = search needs
+
 enum-known-why : tie.Need-enum-known-why
 enum-known-why c = search needs
 
@@ -79,7 +84,8 @@ same-length-4 c = search needs
 
 returns : tie.Need-returns
 returns c =
-    let r = c .before .before .before in
+    let keep = c .before .before in
+    let r = keep .before .before .before .before .before in
     let b = r .before .before .before .before .before .before in
     let w = b .before .before .before .before in
     let s = w .before .before .before in
@@ -94,7 +100,7 @@ returns c =
         e .1 .0 ∙ ap (λ (l : List ℕ). proofTable (length (a .back-table .now)) (reads s bytes l)) out ∙ g .1,
         (
           e .1 .1 .0 ∙ ap (λ (l : List ℕ). nodeTable (length (a .back-nodes .now)) (reads s bytes l)) out ∙ g .2,
-          (e .1 .1 .1 ∙ ap (λ (l : List ℕ). memberTable (length (a .back-members .now)) (reads s bytes l)) out ∙ g .3, out),
+          (e .1 .1 .1 ∙ ap (λ (l : List ℕ). memberTable (length (a .back-members .now)) (reads s bytes l)) out ∙ g .3, keep .keep-proof .ensures ∙ ap (kept 0 (proofNumbers (r .read-proof .result) .answer)) out),
         ),
       ),
     )
@@ -128,7 +134,7 @@ returns-2 c =
           second .clear2 .ensures ∙ cleared-all _ ∙ table-unwritten (W s) (full s) (length (a .back-nodes .now)) (take (9 * a .node-rows) (a .nodes .now)) _ _ none,
           (
             third .clear3 .ensures ∙ cleared-all _ ∙ table-unwritten (W s) (full s) (length (a .back-members .now)) (take (a .member-count) (a .members .now)) _ _ none,
-            w .write-proof .ensures .1,
+            w .write-proof .ensures .1 ∙ output-unwritten (W s) _ _ _ none _,
           ),
         ),
       ),
@@ -143,6 +149,7 @@ proof-rows-again-spec =
     slice-reshare-prefix-read-proof
     slice-aggregate-read-proof
     read-proof-requires
+    keep-proof-requires
     enum-known-why
     clear-requires
     clear-requires-2

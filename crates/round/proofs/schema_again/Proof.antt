@@ -1,12 +1,15 @@
-use mathlib.Core.Path.{_≡_, sym, _∙_}
+use mathlib.Core.Path.{_≡_, sym, _∙_, ap}
+use lib.IntN.{pos}
 use lib.ListN.{length}
 use mir.Syntax.{w32}
 use mir.Val.{ofZ, toZ}
 use borrow.Author.Needs.{needs}
 use Rattle.signed.proofs.Signs.{read-back}
 use Rattle.stab.specs.Read.{readSchema, schemaAnswer, schemaTable}
+use Rattle.stab.specs.Answer.{writtenNumbers}
 use Rattle.stab.specs.Write.{writeSchema}
 use Rattle.stab.specs.declared.SchemaRead.the-variants.{Schema, Refused}
+use Rattle.round.specs.Again.{kept}
 use Rattle.round.proofs.FromTexts.{schema-again, schema-unread}
 use Rattle.round.proofs.schema_again.Statement.{statement}
 use Rattle.round.proofs.schema_again.Tie as tie
@@ -31,6 +34,9 @@ was-refused c = sym (c .before .before .before .read-schema .ensures .0) ∙ c .
 write-schema-requires : tie.Need-write-schema-requires
 write-schema-requires c κs = search needs
 
+keep-table-requires : tie.Need-keep-table-requires
+keep-table-requires c κs = search needs
+
 enum-known-why : tie.Need-enum-known-why
 enum-known-why c = search needs
 
@@ -45,7 +51,7 @@ same-length-2 c = search needs
 
 returns : tie.Need-returns
 returns c =
-    let b = c .before .before in
+    let b = c .before .before .before .before .before in
     let k = b .before .before .before in
     let d = k .before .before .before .before in
     let a = d .before .before .before .before .args in
@@ -58,7 +64,7 @@ returns c =
     ≡ writeSchema (schemaTable (length (a .table .now)) (readSchema (length (a .table .now)) (a .text .now))) rows (v .0) (v .1 .0) (length (a .out .now)) =
     λ i. writeSchema (t i) rows (root i) (least i) (length (a .out .now)) in
     let g = schema-again (a .text .now) (length (a .table .now)) (length (a .out .now)) (v .0) (v .1 .0) rows (was-read (k .before)) _ same in
-    (b .write-schema .ensures .0 ∙ g .0, (b .write-schema .ensures .1 ∙ g .1, t))
+    (b .write-schema .ensures .0 ∙ g .0, (b .write-schema .ensures .1 ∙ g .1, c .before .keep-table .ensures ∙ ap (kept (pos 0) (writtenNumbers (b .write-schema .result) .answer)) t))
 
 same-length-3 : tie.Need-same-length-3
 same-length-3 c = search needs
@@ -72,7 +78,7 @@ returns-2 c =
     let d = w .before .before .before in
     let a = d .before .before .before .before .args in
     let g = schema-unread _ _ _ (length (a .out .now)) (a .text .now) (was-refused w) in
-    (g .0, (c .before .before .clear .ensures ∙ g .1, d .read-schema .ensures .1))
+    (g .0, (c .before .before .clear .ensures ∙ g .1, d .read-schema .ensures .1 ∙ g .2 _ _))
 
 pub schema-again-spec : {M : Type 1} → statement M
 schema-again-spec =
@@ -81,6 +87,7 @@ schema-again-spec =
     read-schema-requires
     enum-known-root
     write-schema-requires
+    keep-table-requires
     enum-known-why
     clear-requires
     same-length

@@ -8,9 +8,11 @@ use lib.Seq.{length-take-le}
 use mir.Facts.{toZ-ofZ}
 use borrow.Author.Needs.{needs}
 use Rattle.stab.specs.Read.{readSchema, schemaAnswer, schemaTable}
+use Rattle.stab.specs.Answer.{schemaNumbers}
 use Rattle.stab.specs.Write.{Writing, writeSchema, written, output}
 use Rattle.stab.specs.declared.Written.the-variants.{Text, Refused}
-use Rattle.round.proofs.FromRows.{bytes-within, schema-rows-again, schema-unwritten, table-unwritten}
+use Rattle.round.specs.Again.{kept}
+use Rattle.round.proofs.FromRows.{bytes-within, schema-rows-again, schema-unwritten, table-unwritten, output-unwritten}
 use Rattle.signed.proofs.Tables.{cleared-all}
 use Rattle.round.proofs.schema_rows_again.Statement.{statement}
 use Rattle.round.proofs.schema_rows_again.Tie as tie
@@ -57,6 +59,9 @@ slice-aggregate-read-schema c = sym (length-take-le _ _ (within (c .before .befo
 read-schema-requires : tie.Need-read-schema-requires
 read-schema-requires c κs = search needs
 
+keep-schema-requires : tie.Need-keep-schema-requires
+keep-schema-requires c κs = search needs
+
 enum-known-why : tie.Need-enum-known-why
 enum-known-why c = search needs
 
@@ -71,7 +76,8 @@ same-length-2 c = search needs
 
 returns : tie.Need-returns
 returns c =
-    let r = c .before in
+    let keep = c .before .before in
+    let r = keep .before .before .before in
     let b = r .before .before .before .before in
     let w = b .before .before .before .before in
     let s = w .before .before .before in
@@ -80,7 +86,7 @@ returns c =
     let g = schema-rows-again (s .args .table .now) (s .args .rows) (s .args .root) (s .args .least) (length (s .args .out .now)) m bytes (has-text b) in
     let out = was-written w .1 in (
       r .read-schema .ensures .0 ∙ ap (λ (l : List ℕ). schemaAnswer (readSchema m (take bytes l))) out ∙ g .0,
-      (r .read-schema .ensures .1 ∙ ap (λ (l : List ℕ). schemaTable m (readSchema m (take bytes l))) out ∙ g .1, out),
+      (r .read-schema .ensures .1 ∙ ap (λ (l : List ℕ). schemaTable m (readSchema m (take bytes l))) out ∙ g .1, keep .keep-schema .ensures ∙ ap (kept 0 (schemaNumbers (r .read-schema .result) .answer)) out),
     )
 
 same-length-3 : tie.Need-same-length-3
@@ -96,7 +102,7 @@ returns-2 c =
     let s = w .before .before .before in
     let m = length (s .args .back .now) in (
       schema-unwritten (W s) (leb 4096 m) (s .args .root) (s .args .least) (s .args .rows) _ _ (has-none y),
-      (c .before .clear .ensures ∙ cleared-all _ ∙ table-unwritten (W s) (leb 4096 m) m (take (4 * s .args .rows) (s .args .table .now)) _ _ (has-none y), was-written w .1),
+      (c .before .clear .ensures ∙ cleared-all _ ∙ table-unwritten (W s) (leb 4096 m) m (take (4 * s .args .rows) (s .args .table .now)) _ _ (has-none y), was-written w .1 ∙ output-unwritten (W s) _ _ _ (has-none y) _),
     )
 
 pub schema-rows-again-spec : {M : Type 1} → statement M
@@ -108,6 +114,7 @@ schema-rows-again-spec =
     slice-reshare-prefix-read-schema
     slice-aggregate-read-schema
     read-schema-requires
+    keep-schema-requires
     enum-known-why
     clear-requires
     same-length
