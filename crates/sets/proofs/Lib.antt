@@ -1,2 +1,3 @@
 pub mod SetLaws
 pub mod SetRefusals
+pub mod Faults

@@ -5,7 +5,7 @@ use mathlib.Core.Path.{_≡_, refl, sym, _∙_, ap, ap₂}
 use mathlib.Core.Bool.{Bool, true, false, not}
 use mathlib.Core.Logic.{⊎-elim}
 use mathlib.Core.List.{List, [], _∷_}
-use mathlib.Core.Option.{none, some}
+use mathlib.Core.Option.{none}
 use lib.Dec.{eqb}
 use lib.IntN.{ℤ, pos, _+ℤ_}
 use lib.Signed.{leZ}
@@ -14,10 +14,8 @@ use Rattle.stab.specs.Basic.{_and_, _implies_, eqZ, nat, below, allOf, ascendin
 use Rattle.stab.specs.Formula.{joined, tree, loose, isOuter}
 use Rattle.stab.specs.Node.{Tableau, rows, rowCount, isRow, formula, isOuterRow, node, nodeAt, set, setOf, setEnd, setStart, setFollows, setFits}
 use Rattle.stab.specs.Check.{setRefusal, atUnless}
-use Rattle.stab.specs.declared.Place.the-variants.{At}
 use Rattle.stab.specs.declared.Refusal.the-variants.{Set}
-use Rattle.stab.specs.declared.Verdict.the-variants.{Refused}
-use Rattle.stab.proofs.Bools.{and-left, and-right, and-first-false, decide, unless-none, none-unless, some-unless}
+use Rattle.stab.proofs.Bools.{and-left, and-right, and-first-false, decide, unless-none}
 use Rattle.stab.proofs.Scans.{none-scan}
 use Rattle.stab.proofs.Trees.{below-nat}
 use Rattle.stab.proofs.Whole.{atom, num, _⊕_, le-of, of-le, eqZ-true, nat-pos, plus-nat, nonneg-minus}
@@ -63,17 +61,9 @@ module _ (schema : List ℤ) (s : ℕ) (proof : List ℤ) (p : ℕ) (facts : Lis
         and-assoc (setFollows nodes j) (leZ (setEnd nodes j) (pos m)) _
         ∙ ap (λ (b : Bool). setFollows nodes j and (leZ (setEnd nodes j) (pos m) and (ascending (setOf members (nodeAt nodes j)) and b))) (all-same _ _ (outer-same root least nodes k members m) (setOf members (nodeAt nodes j)))
 
-    set-refusal : setRefusal (tableau schema s proof p root least nodes k members m) j ≡ atUnless (setRight facts n nodes k members m j) Set j
+    pub set-refusal : setRefusal (tableau schema s proof p root least nodes k members m) j ≡ atUnless (setRight facts n nodes k members m j) Set j
     unfolding setRight setRefusal tableau
     set-refusal = ap (λ (b : Bool). atUnless (b and (eqb (suc j) k implies eqZ (setEnd nodes j) (pos m))) Set j) (sym same-fits)
-
-    pub set-passes : setRight facts n nodes k members m j ≡ true → setRefusal (tableau schema s proof p root least nodes k members m) j ≡ none
-    unfolding atUnless
-    set-passes h = set-refusal ∙ none-unless _ _ h
-
-    pub set-refused : setRight facts n nodes k members m j ≡ false → setRefusal (tableau schema s proof p root least nodes k members m) j ≡ some (Refused Set (At j))
-    unfolding atUnless
-    set-refused h = set-refusal ∙ some-unless _ _ h
 
 -- ---- what a set that was not refused is
 

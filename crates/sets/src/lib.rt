@@ -8,17 +8,14 @@ use stab::Finding;
 use stab::Place;
 use stab::Refusal;
 ghost use mathlib.Core.Path.{_≡_};
-ghost use mathlib.Core.List.{List};
-ghost use Prim.Native.Nat.{ℕ, _+_, _*_, _<_, _≤_, _^_};
-ghost use lib.IntN.{ℤ, pos};
+ghost use Prim.Native.Nat.{_+_, _*_, _<_, _≤_, _^_};
+ghost use lib.IntN.{pos};
 ghost use lib.ListN.{getD, length, take, drop};
 ghost use Rattle.stab.specs.Basic.{scan};
-ghost use Rattle.stab.specs.Formula.{joined};
 ghost use Rattle.stab.specs.Node.{setStart};
-ghost use Rattle.stab.specs.Check.{finding, setRefusal};
-ghost use Rattle.formula.specs.Facts.{AllKnown};
+ghost use Rattle.stab.specs.Check.{finding};
 ghost use Rattle.branch.specs.Sets.{outerBy, memberFits, listFits, placeFits, setRight};
-ghost use Rattle.branch.specs.Work.{tableau};
+ghost use Rattle.sets.specs.Faults.{setFault};
 
 // The member at `at` is the number of an outer row.
 fn is_outer(facts: &[u32], n: usize, members: &[i32], at: usize) -> bool
@@ -112,7 +109,7 @@ fn set_is_right(
 // The first node whose set is not right, for n formula rows with their facts.
 pub fn sets(facts: &[u32], n: usize, nodes: &[i32], k: usize, members: &[i32], m: usize) -> Finding
     requires { ⌜ (4 * n ≤ length (now facts)) × (k ≤ 1024) × (m ≤ length (now members)) ⌝ }
-    ensures { λ r. ⌜ ((schema : List ℤ) (s : ℕ) (proof : List ℤ) (p : ℕ) (root least : ℤ) → s + p ≡ n → AllKnown (joined schema s proof) (now (facts .entry)) n → finding r ≡ scan (setRefusal (tableau schema s proof p root least (now (nodes .entry)) k (now (members .entry)) m)) k) ⌝ }
+    ensures { λ r. ⌜ finding r ≡ scan (setFault (now (facts .entry)) n (now (nodes .entry)) k (now (members .entry)) m) k ⌝ }
 {
     let mut from: usize = 0;
     let mut j: usize = 0;

@@ -4,15 +4,13 @@ use stab::Finding;
 use stab::Place;
 use stab::Refusal;
 ghost use mathlib.Core.Path.{_≡_};
-ghost use mathlib.Core.List.{List};
 ghost use Prim.Native.Nat.{ℕ, _<_, _≤_, _^_};
-ghost use lib.IntN.{ℤ};
 ghost use lib.ListN.{length};
 ghost use Rattle.stab.specs.Basic.{scan};
-ghost use Rattle.stab.specs.Check.{finding, parentRefusal};
+ghost use Rattle.stab.specs.Check.{finding};
 ghost use Rattle.branch.specs.Parents.{upFits, isAlone, parentRight};
 ghost use Rattle.branch.specs.Sets.{Within};
-ghost use Rattle.branch.specs.Work.{tableau};
+ghost use Rattle.sets.specs.Faults.{parentFault};
 
 // Node 0 has -1, any other node a smaller number.
 fn up_fits(nodes: &[i32], j: usize) -> bool
@@ -56,7 +54,7 @@ fn parent_is_right(nodes: &[i32], members: &[i32], root: i32, j: usize) -> bool
 // The first node with a wrong parent, or node 0 with a wrong set.
 pub fn parents(nodes: &[i32], k: usize, members: &[i32], root: i32) -> Finding
     requires { ⌜ (k ≤ 1024) × ((j : ℕ) → j < k → Within (now nodes) (length (now members)) j) ⌝ }
-    ensures { λ r. ⌜ ((schema : List ℤ) (s : ℕ) (proof : List ℤ) (p : ℕ) (least : ℤ) (m : ℕ) → finding r ≡ scan (parentRefusal (tableau schema s proof p root least (now (nodes .entry)) k (now (members .entry)) m)) k) ⌝ }
+    ensures { λ r. ⌜ finding r ≡ scan (parentFault (now (nodes .entry)) (now (members .entry)) root) k ⌝ }
 {
     let mut j: usize = 0;
     while j < k {

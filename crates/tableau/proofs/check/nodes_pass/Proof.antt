@@ -1,5 +1,5 @@
 use native.Mathlib.Omega.{arith}
-use mathlib.Core.Path.{_≡_, refl, _∙_, ap}
+use mathlib.Core.Path.{_≡_, _∙_, ap}
 use mathlib.Core.Option.{none}
 use lib.IntN.{ℤ}
 use lib.Dec.{ltb}
@@ -14,6 +14,7 @@ use Rattle.stab.specs.declared.Refusal.the-variants.{Parent}
 use Rattle.stab.proofs.Findings.{stays, nothing-found, later}
 use Rattle.branch.specs.Work.{tableau}
 use Rattle.tableau.specs.Passes.{nodesRefusal}
+use Rattle.sets.proofs.Faults.{sets-refusal, parents-refusal}
 use Rattle.sets.proofs.SetRefusals.{sets-known, set-within}
 use Rattle.tableau.proofs.CheckLaws.{whole-found, whole-passes}
 use Rattle.tableau.proofs.check.nodes_pass.Statement.{statement}
@@ -35,7 +36,8 @@ sets-requires c κs = search needs
 sets-found : (c : tie.After-sets) → finding (c .sets .result) ≡ scan (setRefusal (lent (c .before .before) (c .before .before .args .root))) (c .before .before .args .k)
 sets-found c =
     let a = c .before .before .args in
-    c .sets .ensures (now (a .schema)) (a .s) (now (a .proof)) (a .p) (a .root) (a .least) refl (c .before .before .pre .1)
+    c .sets .ensures
+    ∙ sets-refusal (now (a .schema)) (a .s) (now (a .proof)) (a .p) (a .root) (a .least) (now (a .nodes)) (a .k) (now (a .members)) (a .m) _ (c .before .before .pre .1) (a .k)
 
 enum-told : tie.Need-enum-told
 enum-told c = search needs
@@ -74,7 +76,8 @@ returns-3 c =
     let a = start .args in
     later _ _ _ (sets-passed (c .before .before))
     (later _ _ _ (whole-passes (ltb 0 (a .k)) Parent (lt-ltb 0 (a .k) (omega arith)))
-    (c .parents .ensures (now (a .schema)) (a .s) (now (a .proof)) (a .p) (a .least) (a .m)
+    (c .parents .ensures
+    ∙ parents-refusal (now (a .schema)) (a .s) (now (a .proof)) (a .p) _ (a .least) (now (a .nodes)) (a .k) (now (a .members)) (a .m) (a .k)
     ∙ ap (λ (r : ℤ). scan (parentRefusal (lent start r)) (a .k)) (toZ-ofZ (start .fits .root))))
 
 pub nodes-pass-spec : {M : Type 1} → statement M
