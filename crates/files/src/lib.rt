@@ -1,7 +1,8 @@
 // What the programs do with files: a text is read whole. What is read no contract can say.
 ghost use mathlib.Core.Path.{_≡_};
-ghost use lib.ListN.{replicate};
+ghost use lib.ListN.{length, replicate};
 ghost use Rattle.io.specs.Counts.{Counts};
+ghost use Rattle.files.specs.Loaded.{Loaded};
 
 // Room for a text and one byte more: what fills it is too long, and is refused as such.
 pub fn room() -> [u8; 65537]
@@ -12,7 +13,7 @@ pub fn room() -> [u8; 65537]
 
 // Reads a file to its end or to that of the buffer, and answers how many bytes stand in front of the buffer. A file that cannot be
 // opened, or cannot be read to its end, is empty: a text that was cut short by a fault of the disk is no text.
-pub fn load(path: &[u8], buf: &mut [u8]) -> usize
+fn fetch(path: &[u8], buf: &mut [u8]) -> usize
     ensures { λ r. ⌜ Counts r (now (buf .exit)) ⌝ }
 {
     let fd = os::open_read(path);
@@ -29,5 +30,14 @@ pub fn load(path: &[u8], buf: &mut [u8]) -> usize
             return 0;
         }
     }
+    n
+}
+
+// A file's bytes in front of the buffer, how many they are, and 0 past them; all 0 where there are none.
+pub fn load(path: &[u8], buf: &mut [u8]) -> usize
+    ensures { λ r. ⌜ Loaded (length (now (buf .entry))) r (now (buf .exit)) ⌝ }
+{
+    let n = fetch(path, buf);
+    output::clear(&mut buf[n..]);
     n
 }
