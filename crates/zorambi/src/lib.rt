@@ -1,11 +1,15 @@
 // The entries that provers call, from Rust and C: numbers and slices in, one number back.
+pub mod again;
 pub mod texts;
 
+use stab::Verdict;
+use stab::Written;
 ghost use mathlib.Core.Path.{_≡_};
 ghost use Prim.Native.Nat.{_/_};
 ghost use Rattle.stab.specs.Check.{check};
 ghost use Rattle.stab.specs.Model.{checkModel};
 ghost use Rattle.stab.specs.Answer.{packed};
+ghost use Rattle.stab.specs.Entry.{writtenPacked, WrittenFits};
 ghost use Rattle.stab.specs.Refuted.{Refuted, Irrefutable};
 
 // The check. An answer of 0 in the number, which is what stands above its lower 39 bits, says that the schema is false at every
@@ -55,4 +59,15 @@ pub extern "C" fn zorambi_check_model(
     ensures { λ r. ⌜ (r / 549755813888 ≡ 0 → Irrefutable (now (schema .entry)) «schema_rows» root least) ⌝ }
 {
     answer::pack(model::check_model(schema, schema_rows, root, least, n, pairs, pair_rows))
+}
+
+// What a writer answers as the one number: the bytes stand where a check's counts do.
+fn packed(w: Written) -> u64
+    requires { ⌜ WrittenFits w ⌝ }
+    ensures { λ r. ⌜ r ≡ writtenPacked w ⌝ }
+{
+    match w {
+        Written::Text { bytes } => 67108864 + bytes as u64,
+        Written::Refused { why, place } => answer::pack(Verdict::Refused { why, place }),
+    }
 }

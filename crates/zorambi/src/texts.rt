@@ -1,16 +1,16 @@
 // The entries that read and write texts, and find a line: one number back as from the check, and what was read in lent results.
+use crate::packed;
 use stab::ModelRead;
 use stab::ProofRead;
 use stab::SchemaRead;
 use stab::Verdict;
-use stab::Written;
 ghost use mathlib.Core.Path.{_≡_};
 ghost use mathlib.Core.List.{_∷_, []};
 ghost use lib.ListN.{length};
 ghost use Rattle.stab.specs.Read.{readSchema, schemaAnswer, schemaTable, readProof, proofAnswer, proofTable, nodeTable, memberTable, readModel, modelAnswer, pairTable};
 ghost use Rattle.stab.specs.Write.{writeSchema, writeProof, writeModel, written, output};
 ghost use Rattle.stab.specs.LineNumber.{lineSpan};
-ghost use Rattle.stab.specs.Entry.{schemaPacked, schemaResults, proofPacked, proofResults, modelPacked, modelResults, writtenPacked, WrittenFits};
+ghost use Rattle.stab.specs.Entry.{schemaPacked, schemaResults, proofPacked, proofResults, modelPacked, modelResults, writtenPacked};
 
 // A schema text is read into the table; the results are root, least and the number of rows.
 #[no_mangle]
@@ -85,17 +85,6 @@ pub extern "C" fn zorambi_read_model(text: &[u8], pairs: &mut [i32], results: &m
             *results = [0, 0];
             answer::pack(Verdict::Refused { why, place })
         }
-    }
-}
-
-// What a writer answers as the one number: the bytes stand where a check's counts do.
-fn packed(w: Written) -> u64
-    requires { ⌜ WrittenFits w ⌝ }
-    ensures { λ r. ⌜ r ≡ writtenPacked w ⌝ }
-{
-    match w {
-        Written::Text { bytes } => 67108864 + bytes as u64,
-        Written::Refused { why, place } => answer::pack(Verdict::Refused { why, place }),
     }
 }
 

@@ -5,8 +5,8 @@ use Rattle.stab.specs.Basic.{nat}
 use Rattle.stab.specs.Answer.{writtenNumbers, oneNumber}
 use Rattle.stab.specs.Entry.{withoutCounts, writtenPacked, WrittenFits}
 use Rattle.stab.proofs.Entries.{written-refused}
-use Rattle.zorambi.proofs.texts.packed.Statement.{statement}
-use Rattle.zorambi.proofs.texts.packed.Tie as tie
+use Rattle.zorambi.proofs.packed.Statement.{statement}
+use Rattle.zorambi.proofs.packed.Tie as tie
 
 enum-known-w : tie.Need-enum-known-w
 enum-known-w c = search needs

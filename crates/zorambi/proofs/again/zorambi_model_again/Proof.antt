@@ -1,0 +1,43 @@
+use mathlib.Core.Path.{sym, _∙_, ap, subst}
+use mathlib.Core.List.{List}
+use lib.IntN.{ℤ, pos}
+use lib.ListN.{length}
+use borrow.Author.Needs.{needs}
+use Rattle.stab.specs.Read.{readModel, pairTable}
+use Rattle.stab.specs.Answer.{writtenNumbers}
+use Rattle.stab.specs.Entry.{writtenPacked, WrittenFits}
+use Rattle.stab.specs.declared.Written.{Written}
+use Rattle.stab.proofs.Entries.{stops-model}
+use Rattle.round.specs.Again.{kept}
+use Rattle.zorambi.proofs.Fits.{text-fits}
+use Rattle.zorambi.proofs.again.zorambi_model_again.Statement.{statement}
+use Rattle.zorambi.proofs.again.zorambi_model_again.Tie as tie
+
+model-again-requires : tie.Need-model-again-requires
+model-again-requires c κs = search needs
+
+packed-requires : tie.Need-packed-requires
+packed-requires c κs = subst WrittenFits (sym (c .before .before .before .model-again .ensures .0)) (text-fits _ _ _ (stops-model _ _))
+
+same-length : tie.Need-same-length
+same-length c = search needs
+
+same-length-2 : tie.Need-same-length-2
+same-length-2 c = search needs
+
+-- what is left in a table by the answer
+left : List ℤ → Written → List ℤ
+left t w = kept (pos 0) (writtenNumbers w .answer) t
+
+returns : tie.Need-returns
+unfolding left
+returns c =
+    let r = c .before .before .before .before in
+    let a = r .before .before .before .before .before .args in
+    let R = readModel (length (a .pairs .now)) (a .text .now) in
+    let e = r .model-again .ensures in
+    (c .packed .ensures ∙ ap writtenPacked (e .0), (e .1 .0, e .1 .1 ∙ ap (left (pairTable (length (a .pairs .now)) R)) (e .0)))
+
+pub zorambi-model-again-spec : {M : Type 1} → statement M
+zorambi-model-again-spec =
+    tie.close (tie.spec model-again-requires packed-requires same-length same-length-2 returns)
