@@ -88,6 +88,77 @@ mod c {
             out: *mut u8,
             out_len: usize,
         ) -> u64;
+        pub fn zorambi_schema_again(
+            text: *const u8,
+            text_len: usize,
+            table: *mut i32,
+            table_len: usize,
+            out: *mut u8,
+            out_len: usize,
+        ) -> u64;
+        pub fn zorambi_proof_again(
+            text: *const u8,
+            text_len: usize,
+            table: *mut i32,
+            table_len: usize,
+            nodes: *mut i32,
+            nodes_len: usize,
+            members: *mut i32,
+            members_len: usize,
+            out: *mut u8,
+            out_len: usize,
+        ) -> u64;
+        pub fn zorambi_model_again(
+            text: *const u8,
+            text_len: usize,
+            pairs: *mut i32,
+            pairs_len: usize,
+            out: *mut u8,
+            out_len: usize,
+        ) -> u64;
+        pub fn zorambi_schema_rows_again(
+            table: *const i32,
+            table_len: usize,
+            rows: usize,
+            root: i32,
+            least: i32,
+            out: *mut u8,
+            out_len: usize,
+            back: *mut i32,
+            back_len: usize,
+            results: *mut i32,
+        ) -> u64;
+        pub fn zorambi_proof_rows_again(
+            table: *const i32,
+            table_len: usize,
+            rows: usize,
+            nodes: *const i32,
+            nodes_len: usize,
+            node_rows: usize,
+            members: *const i32,
+            members_len: usize,
+            member_count: usize,
+            out: *mut u8,
+            out_len: usize,
+            back_table: *mut i32,
+            back_table_len: usize,
+            back_nodes: *mut i32,
+            back_nodes_len: usize,
+            back_members: *mut i32,
+            back_members_len: usize,
+            results: *mut i32,
+        ) -> u64;
+        pub fn zorambi_model_rows_again(
+            n: i32,
+            pairs: *const i32,
+            pairs_len: usize,
+            pair_rows: usize,
+            out: *mut u8,
+            out_len: usize,
+            back: *mut i32,
+            back_len: usize,
+            results: *mut i32,
+        ) -> u64;
         pub fn zorambi_line(text: *const u8, text_len: usize, k: usize, span: *mut usize);
     }
 }
@@ -222,6 +293,130 @@ pub fn write_proof(
 /// Writes a model text. The number that comes back has the text's bytes in its lower 26 bits.
 pub fn write_model(n: i32, pairs: &[i32], pair_rows: usize, out: &mut [u8]) -> u64 {
     unsafe { c::zorambi_write_model(n, pairs.as_ptr(), pairs.len(), pair_rows, out.as_mut_ptr(), out.len()) }
+}
+
+/// Reads a schema text into the table and writes it again. The number that comes back is as from a writer; after a
+/// refusal in either step the table and the output are all 0.
+pub fn schema_again(text: &[u8], table: &mut [i32], out: &mut [u8]) -> u64 {
+    unsafe {
+        c::zorambi_schema_again(text.as_ptr(), text.len(), table.as_mut_ptr(), table.len(), out.as_mut_ptr(), out.len())
+    }
+}
+
+/// The same with a proof text.
+pub fn proof_again(text: &[u8], table: &mut [i32], nodes: &mut [i32], members: &mut [i32], out: &mut [u8]) -> u64 {
+    unsafe {
+        c::zorambi_proof_again(
+            text.as_ptr(),
+            text.len(),
+            table.as_mut_ptr(),
+            table.len(),
+            nodes.as_mut_ptr(),
+            nodes.len(),
+            members.as_mut_ptr(),
+            members.len(),
+            out.as_mut_ptr(),
+            out.len(),
+        )
+    }
+}
+
+/// The same with a model text.
+pub fn model_again(text: &[u8], pairs: &mut [i32], out: &mut [u8]) -> u64 {
+    unsafe {
+        c::zorambi_model_again(text.as_ptr(), text.len(), pairs.as_mut_ptr(), pairs.len(), out.as_mut_ptr(), out.len())
+    }
+}
+
+/// Writes a schema's rows and reads them again into the table `back`. The number that comes back is as from a
+/// reader; after a refusal in either step the output and the table are all 0. Results: root, least, rows.
+#[allow(clippy::too_many_arguments)]
+pub fn schema_rows_again(
+    table: &[i32],
+    rows: usize,
+    root: i32,
+    least: i32,
+    out: &mut [u8],
+    back: &mut [i32],
+    results: &mut [i32; 3],
+) -> u64 {
+    unsafe {
+        c::zorambi_schema_rows_again(
+            table.as_ptr(),
+            table.len(),
+            rows,
+            root,
+            least,
+            out.as_mut_ptr(),
+            out.len(),
+            back.as_mut_ptr(),
+            back.len(),
+            results.as_mut_ptr(),
+        )
+    }
+}
+
+/// The same with a proof's rows, nodes and members. Results: their numbers.
+#[allow(clippy::too_many_arguments)]
+pub fn proof_rows_again(
+    table: &[i32],
+    rows: usize,
+    nodes: &[i32],
+    node_rows: usize,
+    members: &[i32],
+    member_count: usize,
+    out: &mut [u8],
+    back_table: &mut [i32],
+    back_nodes: &mut [i32],
+    back_members: &mut [i32],
+    results: &mut [i32; 3],
+) -> u64 {
+    unsafe {
+        c::zorambi_proof_rows_again(
+            table.as_ptr(),
+            table.len(),
+            rows,
+            nodes.as_ptr(),
+            nodes.len(),
+            node_rows,
+            members.as_ptr(),
+            members.len(),
+            member_count,
+            out.as_mut_ptr(),
+            out.len(),
+            back_table.as_mut_ptr(),
+            back_table.len(),
+            back_nodes.as_mut_ptr(),
+            back_nodes.len(),
+            back_members.as_mut_ptr(),
+            back_members.len(),
+            results.as_mut_ptr(),
+        )
+    }
+}
+
+/// The same with a model's pairs. Results: n, pairs.
+pub fn model_rows_again(
+    n: i32,
+    pairs: &[i32],
+    pair_rows: usize,
+    out: &mut [u8],
+    back: &mut [i32],
+    results: &mut [i32; 2],
+) -> u64 {
+    unsafe {
+        c::zorambi_model_rows_again(
+            n,
+            pairs.as_ptr(),
+            pairs.len(),
+            pair_rows,
+            out.as_mut_ptr(),
+            out.len(),
+            back.as_mut_ptr(),
+            back.len(),
+            results.as_mut_ptr(),
+        )
+    }
 }
 
 /// Where line `k`, counted from 1, starts in the text, and its length without its byte 10; both 0 if

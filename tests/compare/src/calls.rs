@@ -53,7 +53,7 @@ impl Seen {
 }
 
 /// Memory that is lent between two guards, all of it garbage.
-struct Lent<T> {
+pub(crate) struct Lent<T> {
     memory: Vec<T>,
     length: usize,
 }
@@ -61,32 +61,32 @@ struct Lent<T> {
 const GUARD: usize = 16;
 
 impl<T: Copy + PartialEq> Lent<T> {
-    fn new(length: usize, garbage: fn(usize) -> T) -> Lent<T> {
+    pub(crate) fn new(length: usize, garbage: fn(usize) -> T) -> Lent<T> {
         Lent { memory: (0..length + 2 * GUARD).map(garbage).collect(), length }
     }
 
-    fn lend(&mut self) -> &mut [T] {
+    pub(crate) fn lend(&mut self) -> &mut [T] {
         &mut self.memory[GUARD..GUARD + self.length]
     }
 
     /// The lent part. The guards have to be as they were; otherwise `outside` is told so.
-    fn back(self, garbage: fn(usize) -> T, outside: &mut bool) -> Vec<T> {
+    pub(crate) fn back(self, garbage: fn(usize) -> T, outside: &mut bool) -> Vec<T> {
         let end = GUARD + self.length;
         *outside |= (0..GUARD).chain(end..end + GUARD).any(|at| self.memory[at] != garbage(at));
         self.memory[GUARD..end].to_vec()
     }
 }
 
-fn number(at: usize) -> i32 {
+pub(crate) fn number(at: usize) -> i32 {
     mix(at as u64) as i32 | 1
 }
 
-fn byte(at: usize) -> u8 {
+pub(crate) fn byte(at: usize) -> u8 {
     mix(at as u64) as u8 | 1
 }
 
 /// A copy of exactly this length, so that a reading past its end shows under valgrind.
-fn exact<T: Clone>(table: &[T]) -> Box<[T]> {
+pub(crate) fn exact<T: Clone>(table: &[T]) -> Box<[T]> {
     table.to_vec().into_boxed_slice()
 }
 
@@ -215,7 +215,7 @@ pub fn check_model_texts(schema: &[u8], model: &[u8]) -> u64 {
 }
 
 /// ((answer × 8192 + place + 1) × 8192 + nodes) × 8192 + links
-fn pack(answer: u8, place: i32, rest: usize) -> u64 {
+pub(crate) fn pack(answer: u8, place: i32, rest: usize) -> u64 {
     ((u64::from(answer) * 8192 + (i64::from(place) + 1) as u64) << 26) + rest as u64
 }
 

@@ -1,6 +1,7 @@
 //! The proved library beside the other implementation, on the same inputs.
 //!
 //! * [`calls`]: one case put to both, and all that comes back compared
+//! * [`again`]: a text read and written again, rows written and read again, from the same cases
 //! * [`paper`]: the paper's record, its neighbours and its models, with the paper's answers
 //! * [`records`]: shipped records, with the answers in their `expected` files
 //! * [`edges`]: texts and tables at the limits of the paper
@@ -8,6 +9,7 @@
 //! * [`soundness`]: accepted records evaluated
 //! * [`tally`]: what passed and failed, and how often each answer occurred
 
+pub mod again;
 pub mod calls;
 pub mod edges;
 pub mod heavy;

@@ -1,12 +1,14 @@
 //! What passed and failed, and how often each answer occurred.
 
+use crate::again::ways;
 use crate::calls::{of_library, of_reference};
 use crate::soundness::Soundness;
 use std::collections::BTreeMap;
 use zorambi_reference::generate::Input;
 
 /// The entries by what they do, as columns of the table of answers.
-const GROUPS: [&str; 5] = ["check", "model", "read", "write", "program"];
+const GROUPS: [&str; 6] = ["check", "model", "read", "write", "program", "again"];
+const AGAIN: usize = 5;
 
 /// How often something was checked, accepted, and accepted with links.
 #[derive(Clone, Copy, Default)]
@@ -51,15 +53,24 @@ impl Tally {
         }
     }
 
+    fn count(&mut self, group: usize, answer: u64) {
+        if let Some(times) = self.answers[group].get_mut(answer as usize) {
+            *times += 1;
+        }
+    }
+
     /// Puts a case to both implementations; false if the library has no entry for it.
     pub fn compare(&mut self, what: &str, input: &Input) -> bool {
         let Some(ours) = of_library(input) else { return false };
         let difference = ours.difference(&of_reference(input));
         self.test(what, difference.map_or(Ok(()), Err));
         if let Some(group) = group(input) {
-            if let Some(times) = self.answers[group].get_mut(ours.answer() as usize) {
-                *times += 1;
-            }
+            self.count(group, ours.answer());
+        }
+        for way in ways(input) {
+            let difference = way.library.difference(&way.other);
+            self.test(&format!("{what}, {}", way.what), difference.map_or(Ok(()), Err));
+            self.count(AGAIN, way.library.answer());
         }
         if let (Input::Check(tables), 0) = (input, ours.answer()) {
             let result = self.soundness.try_accepted(tables, ours.packed);
@@ -103,6 +114,11 @@ impl Tally {
         for answer in 0..23 {
             let result = if self.times(answer) > 0 { Ok(()) } else { Err("never occurred".to_string()) };
             self.test(&format!("answer {answer}"), result);
+        }
+        // What reading and writing can answer has occurred there and back too.
+        for answer in [0, 1, 2, 3, 4, 5, 21, 22] {
+            let result = if self.answers[AGAIN][answer] > 0 { Ok(()) } else { Err("never occurred".to_string()) };
+            self.test(&format!("answer {answer} there and back"), result);
         }
         let Accepted { cases, accepted, linked } = self.all_tableaux();
         let enough = |fits: bool| if fits { Ok(()) } else { Err("too few".to_string()) };

@@ -5,6 +5,7 @@
 //! * [`tableau`]: the check, with every refusal in the paper's order
 //! * [`model`]: the model check and the value of a formula
 //! * [`text`]: reading and writing of the three texts, lines by number
+//! * [`again`]: a text read and written again, rows written and read again
 //! * [`packed`]: the one number that provers get
 //! * [`program`]: the check program, from texts to the four numbers
 //! * [`generate`]: test cases from a small pseudo-random generator
@@ -13,6 +14,7 @@
 
 #![forbid(unsafe_code)]
 
+pub mod again;
 pub mod formula;
 pub mod generate;
 pub mod model;
