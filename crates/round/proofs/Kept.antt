@@ -1,7 +1,7 @@
 -- What stays of lent memory: all of it, or nothing after a refusal.
 use Prim.Native.Nat.{ℕ, zero, suc, _≤_}
 use native.Mathlib.Omega.{arith}
-use mathlib.Core.Path.{_≡_, refl, sym, _∙_, ap}
+use mathlib.Core.Path.{_≡_, refl, sym, ap}
 use mathlib.Core.List.{List, []}
 use lib.ListN.{length, replicate}
 use Rattle.stab.specs.Text.{padded}
