@@ -1,7 +1,8 @@
--- What the text entries give fits into the numbers that they give: the counts of what is read, the places of refusals, the bytes of a text.
-use Prim.Native.Nat.{ℕ, suc, _+_, _-_, _≤_}
+-- What the text entries give fits into the numbers that they give: the counts of what is read, the places of refusals, the bytes of a text,
+-- the line at fault.
+use Prim.Native.Nat.{ℕ, suc, _+_, _-_, _*_, _/_, _%_, _≤_, _<_}
 use native.Mathlib.Omega.{arith}
-use mathlib.Core.Path.{_≡_, refl}
+use mathlib.Core.Path.{_≡_, refl, ap}
 use mathlib.Core.Bool.{Bool, true, false}
 use mathlib.Core.List.{List, [], _∷_}
 use mathlib.Core.Option.{Option, none, some}
@@ -14,11 +15,18 @@ use Rattle.stab.specs.Text.{Line, lines, numbers, textLimit}
 use Rattle.stab.specs.Read.{Reading, read, stopped, _andThen_, require, headingAt, valuesOf, values, valuesAt, rowsFrom, nodesFrom, proofRowsFrom, readSchemaLines, readProofLines, readModelLines, readText, readSchema, readProof, readModel, schemaAnswer, proofAnswer, modelAnswer}
 use Rattle.stab.specs.Write.{writingOf, writing, outputRefusal, written}
 use Rattle.stab.specs.Answer.{refusedNumbers, verdictNumbers, writtenNumbers, packed, Packs}
-use Rattle.stab.specs.Entry.{withoutCounts, writtenPacked, WrittenFits}
+use Rattle.stab.specs.Check.{check}
+use Rattle.stab.specs.Model.{checkModel}
+use Rattle.stab.specs.LineNumber.{schemaRowLine, proofRowLine, nodeLine, pairLine}
+use Rattle.stab.specs.Program.{tableauOf, modelOf, noFault, inFirst, inSecond, rowFault, among, checkPoints, modelPoints, verdictFault, faultAfterReading, checkFault, modelFault}
+use Rattle.stab.specs.Entry.{withoutCounts, writtenPacked, WrittenFits, faultNumber, faultIn}
 use Rattle.stab.specs.declared.Place.{Place}
 use Rattle.stab.specs.declared.Written.the-variants.{Refused as WriteRefused}
 use Rattle.stab.specs.declared.Refusal.{Refusal}
-use Rattle.stab.specs.declared.Verdict.the-variants.{Refused}
+use Rattle.stab.specs.declared.Fault.{Fault}
+use Rattle.stab.specs.declared.Place.the-variants.{Whole, At}
+use Rattle.stab.specs.declared.Verdict.{Verdict}
+use Rattle.stab.specs.declared.Verdict.the-variants.{Accepted, Refused}
 use Rattle.stab.specs.declared.SchemaRead.{SchemaRead}
 use Rattle.stab.specs.declared.SchemaRead.the-variants.{Schema, Refused as SchemaRefused}
 use Rattle.stab.specs.declared.ProofRead.{ProofRead}
@@ -27,6 +35,7 @@ use Rattle.stab.specs.declared.ModelRead.{ModelRead}
 use Rattle.stab.specs.declared.ModelRead.the-variants.{Model, Refused as ModelRefused}
 use Rattle.stab.proofs.Bools.{and-left, and-right, unless-none, otherwise-second}
 use Rattle.stab.proofs.Texts.{schema-counts, proof-counts, model-counts}
+use Rattle.stab.proofs.Packed.{check-packs, model-packs}
 
 -- ---- a refusal in reading is at line b or above it
 
@@ -178,3 +187,58 @@ written-fits o n text = go (o otherwise outputRefusal n text) refl
 pub written-refused : (why : Refusal) (p : Place) → packed (Refused why p) ≡ writtenPacked (WriteRefused why p)
 unfolding packed verdictNumbers refusedNumbers writtenPacked writtenNumbers withoutCounts
 written-refused why p = omega arith
+
+-- ---- where a refusal points: on a line below 16384, and read back from its number
+
+if-fits : (b : ℕ) (t : Bool) (f g : Fault) → f .line < b → g .line < b → (if t then f else g) .line < b
+unfolding if_then_else_
+if-fits b true f g h k = h
+if-fits b false f g h k = k
+
+check-points-fit : (S P : ℕ) → P ≤ 1024 → (why : Refusal) (k : ℕ) → k + 1 < 8192 → checkPoints S P why k .line < 16384
+unfolding checkPoints rowFault noFault inFirst inSecond schemaRowLine proofRowLine nodeLine
+check-points-fit S P few why k h =
+    if-fits 16384 (among 7 8 why) _ _
+    (if-fits 16384 _ _ _ (omega arith) (omega arith))
+    (if-fits 16384 (among 9 17 why) _ _ (omega arith) (omega arith))
+
+model-points-fit : (why : Refusal) (k : ℕ) → k + 1 < 8192 → modelPoints why k .line < 16384
+unfolding modelPoints noFault inFirst inSecond schemaRowLine pairLine
+model-points-fit why k h =
+    if-fits 16384 (among 7 8 why) _ _ (omega arith) (if-fits 16384 (among 18 18 why) _ _ (omega arith) (omega arith))
+
+verdict-fits : (points : Refusal → ℕ → Fault) → ((why : Refusal) (k : ℕ) → k + 1 < 8192 → points why k .line < 16384) → (v : Verdict) → Packs v → verdictFault points v .line < 16384
+unfolding verdictFault noFault
+verdict-fits points h (Accepted n l) p = omega arith
+verdict-fits points h (Refused why Whole) p = omega arith
+verdict-fits points h (Refused why (At k)) p = h why k p
+
+after-fits : {A B : Type 0} (judge : A → B → Fault) (r : Reading A) (s : Reading B) → Stops 4100 r → Stops 4100 s
+    → ((a : A) (b : B) → s ≡ read b → judge a b .line < 16384) → faultAfterReading judge r s .line < 16384
+unfolding faultAfterReading inFirst inSecond
+after-fits judge (read a) (read b) h g j = j a b refl
+after-fits judge (read a) (stopped why k) h g j = omega arith
+after-fits judge (stopped why k) s h g j = omega arith
+
+pub check-fault-fits : (schema proof : List ℕ) → checkFault schema proof .line < 16384
+unfolding checkFault
+check-fault-fits schema proof =
+    after-fits _ (readSchema 4096 schema) (readProof 4096 9216 8192 proof) (stops-schema 4096 schema) (stops-proof 4096 9216 8192 proof)
+    (λ a b e.
+        let c = proof-counts 4096 9216 8192 proof b e in
+        verdict-fits _ (check-points-fit (length (a .table) / 4) (length (b .table) / 4) (omega (arith, c .0, c .1))) (check (tableauOf a b)) (check-packs _))
+
+pub model-fault-fits : (schema model : List ℕ) → modelFault schema model .line < 16384
+unfolding modelFault
+model-fault-fits schema model =
+    after-fits _ (readSchema 4096 schema) (readModel 8192 model) (stops-schema 4096 schema) (stops-model 8192 model)
+    (λ a b e. verdict-fits modelPoints model-points-fit (checkModel (modelOf a b)) (model-packs _))
+
+fault-parts : (second : Bool) (n : ℕ) → (eqb ((2 * n + (if second then 1 else 0)) % 2) 1 ≡ second) × ((2 * n + (if second then 1 else 0)) / 2 ≡ n)
+unfolding if_then_else_
+fault-parts true n = let e : (2 * n + 1) % 2 ≡ 1 = omega arith in (ap (λ (x : ℕ). eqb x 1) e, omega arith)
+fault-parts false n = let e : (2 * n + 0) % 2 ≡ 0 = omega arith in (ap (λ (x : ℕ). eqb x 1) e, omega arith)
+
+pub fault-back : (f : Fault) → faultIn (faultNumber f) ≡ f
+unfolding faultIn faultNumber
+fault-back f i = record { second = fault-parts (f .second) (f .line) .0 i; line = fault-parts (f .second) (f .line) .1 i }

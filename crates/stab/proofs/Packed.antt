@@ -1,21 +1,25 @@
--- The one number that provers get: its parts do not run into one another, and its answer is 0 exactly for an acceptance.
-use Prim.Native.Nat.{ℕ, _+_, _*_, _/_, _≤_}
+-- The one number that provers get: its parts do not run into one another and are read back, its answer is 0 exactly for an acceptance,
+-- and demand 3 holds of it.
+use Prim.Native.Nat.{ℕ, _+_, _*_, _/_, _%_, _<_, _≤_}
 use native.Mathlib.Omega.{arith}
-use mathlib.Core.Path.{_≡_, refl, sym, subst}
+use mathlib.Core.Path.{_≡_, refl, sym, _∙_, ap, subst}
 use mathlib.Core.Option.{Option, none, some}
-use lib.IntN.{pos, _+ℤ_}
+use lib.IntN.{pos, _+ℤ_, _-ℤ_}
 use Rattle.stab.specs.Basic.{nat}
 use Rattle.stab.specs.Node.{Tableau}
 use Rattle.stab.specs.Check.{refusal, check, verdict, linkCount}
 use Rattle.stab.specs.Model.{Model, modelRefusal, checkModel}
-use Rattle.stab.specs.Answer.{refusalNumber, placeNumber, refusedNumbers, verdictNumbers, oneNumber, packed, placeCode, Packs}
+use Rattle.stab.specs.Answer.{Numbers, refusalNumber, placeNumber, refusedNumbers, verdictNumbers, oneNumber, packed, answerIn, numbersIn, placeCode, Packs}
+use Rattle.stab.specs.Refuted.{Refuted, SameSchema, Irrefutable}
 use Rattle.stab.specs.declared.Place.{Place}
 use Rattle.stab.specs.declared.Place.the-variants.{Whole, At}
 use Rattle.stab.specs.declared.Refusal.{Refusal}
 use Rattle.stab.specs.declared.Refusal.the-variants.{TextTooLong, TableTooShort, Heading, Line, TooMany, Root, IllFormed, TooLarge, Set, Parent, Drawn, Fields, Target, Bound, Partner, Lowered, Children, Pair, Width, False, Number, Output}
 use Rattle.stab.specs.declared.Verdict.{Verdict}
 use Rattle.stab.specs.declared.Verdict.the-variants.{Accepted, Refused}
+use Rattle.stab.proofs.Whole.{num, _⊖_, eq-of}
 use Rattle.stab.proofs.Scans.{count-le}
+use Rattle.stab.proofs.Soundness.{sound, no-model}
 use Rattle.stab.proofs.Exactness.{keeps-of}
 use Rattle.stab.proofs.Exactness.Refusals.{Near, IsRefused, of-refusal, of-model-refusal}
 
@@ -72,7 +76,7 @@ model-packs M = go (modelRefusal M) refl
     go none e = (omega arith, omega arith)
     go (some v) e = found-packs v (of-model-refusal M v e)
 
--- ---- the answer in the number is 0 exactly for an acceptance: 549755813888 is 8192 × 8192 × 8192
+-- ---- the number in parts
 
 code-is : (p : Place) → nat (placeNumber p +ℤ pos 1) ≡ placeCode p
 unfolding nat
@@ -87,9 +91,53 @@ pub packed-refusal : (why : Refusal) (p : Place) → packed (Refused why p) ≡ 
 unfolding packed oneNumber verdictNumbers refusedNumbers
 packed-refusal why p = omega (arith, code-is p)
 
-pub packed-accepted : (v : Verdict) → Packs v → packed v / 549755813888 ≡ 0 → (n : ℕ) × (l : ℕ) × (v ≡ Accepted n l)
+-- ---- reading it back gives the answer's numbers
+
+numbers-are : {a b : Numbers} → a .answer ≡ b .answer → a .place ≡ b .place → a .nodes ≡ b .nodes → a .links ≡ b .links → a ≡ b
+numbers-are p q r s i = record { answer = p i; place = q i; nodes = r i; links = s i }
+
+code-below : (why : Refusal) (p : Place) → Packs (Refused why p) → placeCode p < 8192
+code-below why Whole h = omega arith
+code-below why (At k) h = h
+
+place-back : (p : Place) → pos (placeCode p) -ℤ pos 1 ≡ placeNumber p
+place-back Whole = refl
+place-back (At k) = eq-of (num (k + 1) ⊖ num 1) (num k) (omega arith)
+
+pub read-back : (v : Verdict) → Packs v → numbersIn (packed v) ≡ verdictNumbers v
+unfolding numbersIn verdictNumbers refusedNumbers
+read-back (Accepted n l) h =
+    let e = packed-acceptance n l in
+    let place : packed (Accepted n l) / 67108864 % 8192 ≡ 1 = omega (arith, h .0, h .1) in
+    numbers-are (omega (arith, h .0, h .1)) (ap (λ (c : ℕ). pos c -ℤ pos 1) place) (omega (arith, h .0, h .1)) (omega (arith, h .0, h .1))
+read-back (Refused why p) h =
+    let e = packed-refusal why p in
+    let below = code-below why p h in
+    let place : packed (Refused why p) / 67108864 % 8192 ≡ placeCode p = omega arith in
+    numbers-are (omega arith) (ap (λ (c : ℕ). pos c -ℤ pos 1) place ∙ place-back p) (omega arith) (omega arith)
+
+-- ---- its answer is 0 exactly for an acceptance
+
+pub packed-accepted : (v : Verdict) → Packs v → answerIn (packed v) ≡ 0 → (n : ℕ) × (l : ℕ) × (v ≡ Accepted n l)
 packed-accepted (Accepted n l) p h = (n, l, refl)
 packed-accepted (Refused why place) p h = absurd (omega (arith, packed-refusal why place, number-range why .0))
 
-pub accepted-packed : (n l : ℕ) → Packs (Accepted n l) → packed (Accepted n l) / 549755813888 ≡ 0
+pub accepted-packed : (n l : ℕ) → Packs (Accepted n l) → answerIn (packed (Accepted n l)) ≡ 0
 accepted-packed n l p = omega (arith, packed-acceptance n l, p .0, p .1)
+
+-- ---- demand 3 in the one number
+
+-- If the check's answer is 0, the schema is false at every natural n from its least value up, under every assignment.
+pub packed-sound : (T : Tableau) → answerIn (packed (check T)) ≡ 0 → Refuted (T .schema) (T .root) (T .least)
+packed-sound T h = let a = packed-accepted (check T) (check-packs T) h in sound T (a .0) (a .1) (a .2)
+
+-- If the model check's answer is 0, no tableau of the same schema rows, root and least value is accepted.
+pub packed-no-model : (M : Model) → answerIn (packed (checkModel M)) ≡ 0 → Irrefutable (M .schema) (M .schemaRows) (M .root) (M .least)
+packed-no-model M h = let a = packed-accepted (checkModel M) (model-packs M) h in no-model M (a .0) (a .1) (a .2)
+
+-- The two numbers of a tableau and a model of the same schema rows, root and least value do not both have answer 0.
+pub packed-not-both : (T : Tableau) (M : Model) → SameSchema T (M .schema) (M .schemaRows) (M .root) (M .least)
+    → answerIn (packed (check T)) ≡ 0 → answerIn (packed (checkModel M)) ≡ 0 → ⊥
+packed-not-both T M same h g =
+    let a = packed-accepted (check T) (check-packs T) h in
+    packed-no-model M g T same (a .0) (a .1) (a .2)

@@ -1,6 +1,6 @@
 -- The paper's numbers for every case of every answer, and the one number that provers get.
-use Prim.Native.Nat.{ℕ, _+_, _*_, _<_}
-use lib.IntN.{ℤ, pos, negℤ, _+ℤ_}
+use Prim.Native.Nat.{ℕ, _+_, _*_, _/_, _%_, _<_}
+use lib.IntN.{ℤ, pos, negℤ, _+ℤ_, _-ℤ_}
 use Rattle.stab.specs.Basic.{nat}
 use Rattle.stab.specs.declared.Place.{Place}
 use Rattle.stab.specs.declared.Place.the-variants.{Whole, At}
@@ -113,6 +113,22 @@ oneNumber a = ((a .answer * 8192 + nat (a .place +ℤ pos 1)) * 8192 + a .nodes)
 
 unfoldable pub packed : Verdict → ℕ
 packed v = oneNumber (verdictNumbers v)
+
+-- its four parts, as the functions of include/zorambi.h shift and mask: 549755813888 is 8192 × 8192 × 8192, 67108864 is 8192 × 8192
+abbrev pub answerIn : ℕ → ℕ
+answerIn x = x / 549755813888
+
+abbrev pub placeIn : ℕ → ℤ
+placeIn x = pos (x / 67108864 % 8192) -ℤ pos 1
+
+abbrev pub nodesIn : ℕ → ℕ
+nodesIn x = x / 8192 % 8192
+
+abbrev pub linksIn : ℕ → ℕ
+linksIn x = x % 8192
+
+unfoldable pub numbersIn : ℕ → Numbers
+numbersIn x = record { answer = answerIn x; place = placeIn x; nodes = nodesIn x; links = linksIn x }
 
 -- place + 1 as a natural number
 abbrev pub placeCode : Place → ℕ

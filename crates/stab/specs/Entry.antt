@@ -1,12 +1,15 @@
--- What the text entries give: the one number, and the numbers that were read, in lent results.
-use Prim.Native.Nat.{ℕ, _+_, _≤_}
+-- What the text entries give: the one number, and the numbers that were read, in lent results; where a refusal points.
+use Prim.Native.Nat.{ℕ, _+_, _*_, _/_, _%_, _≤_}
 use mathlib.Core.List.{List, [], _∷_}
+use lib.Dec.{eqb}
 use lib.IntN.{ℤ, pos}
+use Rattle.stab.specs.Basic.{if_then_else_}
 use Rattle.stab.specs.Answer.{oneNumber, Packs, schemaNumbers, proofNumbers, modelNumbers, writtenNumbers}
 use Rattle.stab.specs.declared.Verdict.the-variants.{Refused}
 use Rattle.stab.specs.declared.SchemaRead.{SchemaRead}
 use Rattle.stab.specs.declared.ProofRead.{ProofRead}
 use Rattle.stab.specs.declared.ModelRead.{ModelRead}
+use Rattle.stab.specs.declared.Fault.{Fault}
 use Rattle.stab.specs.declared.Written.{Written}
 use Rattle.stab.specs.declared.Written.the-variants.{Text, Refused as WriteRefused}
 
@@ -46,3 +49,12 @@ proofResults r = let a = proofNumbers r in pos (a .rows) ∷ pos (a .nodes) ∷ 
 -- n, pairs
 unfoldable pub modelResults : ModelRead → List ℤ
 modelResults r = let a = modelNumbers r in a .n ∷ pos (a .pairs) ∷ []
+
+-- ---- where a refusal points, as one number: twice the line, and 1 more in the second text; line 0 is none
+
+unfoldable pub faultNumber : Fault → ℕ
+faultNumber f = 2 * f .line + (if f .second then 1 else 0)
+
+-- read back as the functions of include/zorambi.h do
+unfoldable pub faultIn : ℕ → Fault
+faultIn x = record { second = eqb (x % 2) 1; line = x / 2 }

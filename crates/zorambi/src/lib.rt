@@ -1,19 +1,19 @@
 // The entries that provers call, from Rust and C: numbers and slices in, one number back.
 pub mod again;
+pub mod fault;
 pub mod texts;
 
 use stab::Verdict;
 use stab::Written;
 ghost use mathlib.Core.Path.{_≡_};
-ghost use Prim.Native.Nat.{_/_};
 ghost use Rattle.stab.specs.Check.{check};
 ghost use Rattle.stab.specs.Model.{checkModel};
-ghost use Rattle.stab.specs.Answer.{packed};
+ghost use Rattle.stab.specs.Answer.{packed, answerIn};
 ghost use Rattle.stab.specs.Entry.{writtenPacked, WrittenFits};
 ghost use Rattle.stab.specs.Refuted.{Refuted, Irrefutable};
 
-// The check. An answer of 0 in the number, which is what stands above its lower 39 bits, says that the schema is false at every
-// natural n from its least value up, under every assignment.
+// The check. An answer of 0 in the number says that the schema is false at every natural n from its least value up, under every
+// assignment.
 #[no_mangle]
 pub extern "C" fn zorambi_check(
     schema: &[i32],
@@ -28,7 +28,7 @@ pub extern "C" fn zorambi_check(
     member_count: usize,
 ) -> u64
     ensures { λ r. ⌜ r ≡ packed (check (record { schema = now (schema .entry); schemaRows = «schema_rows»; proof = now (proof .entry); proofRows = «proof_rows»; root = root; least = least; nodes = now (nodes .entry); nodeRows = «node_rows»; members = now (members .entry); memberCount = «member_count» })) ⌝ }
-    ensures { λ r. ⌜ (r / 549755813888 ≡ 0 → Refuted (now (schema .entry)) root least) ⌝ }
+    ensures { λ r. ⌜ (answerIn r ≡ 0 → Refuted (now (schema .entry)) root least) ⌝ }
 {
     answer::pack(tableau::check::check(
         schema,
@@ -56,7 +56,7 @@ pub extern "C" fn zorambi_check_model(
     pair_rows: usize,
 ) -> u64
     ensures { λ r. ⌜ r ≡ packed (checkModel (record { schema = now (schema .entry); schemaRows = «schema_rows»; root = root; least = least; n = n; pairs = now (pairs .entry); pairRows = «pair_rows» })) ⌝ }
-    ensures { λ r. ⌜ (r / 549755813888 ≡ 0 → Irrefutable (now (schema .entry)) «schema_rows» root least) ⌝ }
+    ensures { λ r. ⌜ (answerIn r ≡ 0 → Irrefutable (now (schema .entry)) «schema_rows» root least) ⌝ }
 {
     answer::pack(model::check_model(schema, schema_rows, root, least, n, pairs, pair_rows))
 }

@@ -1,14 +1,13 @@
-use Prim.Native.Nat.{ℕ, _/_}
-use mathlib.Core.Path.{_≡_, sym, _∙_, ap, subst, subst₂}
+use Prim.Native.Nat.{ℕ}
+use mathlib.Core.Path.{_≡_, sym, _∙_, ap, subst}
 use lib.IntN.{ℤ}
 use mir.Facts.{toZ-ofZ}
 use denote.Ref.{now}
 use borrow.Author.Needs.{needs}
 use Rattle.stab.specs.Node.{Tableau}
 use Rattle.stab.specs.Check.{check as checked}
-use Rattle.stab.specs.Answer.{packed, Packs}
-use Rattle.stab.specs.Refuted.{Refuted}
-use Rattle.stab.proofs.Packed.{check-packs, packed-accepted}
+use Rattle.stab.specs.Answer.{packed, answerIn, Packs}
+use Rattle.stab.proofs.Packed.{check-packs, packed-sound}
 use Rattle.zorambi.proofs.zorambi_check.Statement.{statement}
 use Rattle.zorambi.proofs.zorambi_check.Tie as tie
 
@@ -39,14 +38,8 @@ verdict-is c =
 
 returns : tie.Need-returns
 returns c =
-    let start = c .before .before in
-    let called = c .before in (
-      c .pack .ensures ∙ ap packed (verdict-is called),
-      λ h.
-          let a = packed-accepted (called .check .result) (packs called) (ap (λ (x : ℕ). x / 549755813888) (sym (c .pack .ensures)) ∙ h) in
-          subst₂ (λ (r l : ℤ). Refuted (now (start .args .schema)) r l) (toZ-ofZ (start .fits .root)) (toZ-ofZ (start .fits .least))
-          (called .check .ensures .1 (a .0) (a .1) (a .2)),
-    )
+    let e = c .pack .ensures ∙ ap packed (verdict-is (c .before)) in
+    (e, λ h. packed-sound _ (ap (λ (x : ℕ). answerIn x) (sym e) ∙ h))
 
 pub zorambi-check-spec : {M : Type 1} → statement M
 zorambi-check-spec = tie.close (tie.spec check-requires pack-requires returns)

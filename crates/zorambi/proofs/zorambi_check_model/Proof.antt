@@ -1,13 +1,12 @@
-use Prim.Native.Nat.{ℕ, _/_}
-use mathlib.Core.Path.{_≡_, sym, _∙_, ap, subst, subst₂}
+use Prim.Native.Nat.{ℕ}
+use mathlib.Core.Path.{_≡_, sym, _∙_, ap, subst}
 use lib.IntN.{ℤ}
 use mir.Facts.{toZ-ofZ}
 use denote.Ref.{now}
 use borrow.Author.Needs.{needs}
 use Rattle.stab.specs.Model.{Model, checkModel}
-use Rattle.stab.specs.Answer.{packed, Packs}
-use Rattle.stab.specs.Refuted.{Irrefutable}
-use Rattle.stab.proofs.Packed.{model-packs, packed-accepted}
+use Rattle.stab.specs.Answer.{packed, answerIn, Packs}
+use Rattle.stab.proofs.Packed.{model-packs, packed-no-model}
 use Rattle.zorambi.proofs.zorambi_check_model.Statement.{statement}
 use Rattle.zorambi.proofs.zorambi_check_model.Tie as tie
 
@@ -38,14 +37,8 @@ verdict-is c =
 
 returns : tie.Need-returns
 returns c =
-    let start = c .before .before in
-    let called = c .before in (
-      c .pack .ensures ∙ ap packed (verdict-is called),
-      λ h.
-          let a = packed-accepted (called .check-model .result) (packs called) (ap (λ (x : ℕ). x / 549755813888) (sym (c .pack .ensures)) ∙ h) in
-          subst₂ (λ (r l : ℤ). Irrefutable (now (start .args .schema)) (start .args .schema-rows) r l) (toZ-ofZ (start .fits .root)) (toZ-ofZ (start .fits .least))
-          (called .check-model .ensures .1 (a .0) (a .1) (a .2)),
-    )
+    let e = c .pack .ensures ∙ ap packed (verdict-is (c .before)) in
+    (e, λ h. packed-no-model _ (ap (λ (x : ℕ). answerIn x) (sym e) ∙ h))
 
 pub zorambi-check-model-spec : {M : Type 1} → statement M
 zorambi-check-model-spec = tie.close (tie.spec check-model-requires pack-requires returns)
