@@ -1,10 +1,11 @@
-/* Zorambi: the proved check of schema tableaux, the model check, and the readers and writers of their texts, from C.
+/* Zorambi: the proved check of schema tableaux, the model check, the readers and writers of their texts, and the line that a
+ * refusal points to, from C and C++.
  *
- * A slice is a pointer and the count of its numbers or bytes. The counts of rows, nodes and members are those that refusals 2
- * and 5 speak of: a table may be longer than its count. Whatever stands in the tables and texts, and whatever the counts, the
- * answer is a verdict or a numbered refusal; nothing is read or written outside the slices and the arrays results and span, and
- * only what is not const is written. No two slices or arrays of a call may overlap if one of them is written.
- * A pointer whose count is 0 may be any pointer that is not NULL. */
+ * A slice is a pointer and the count of its numbers or bytes. With a count of 0 it is empty whatever the pointer is, NULL too,
+ * as an empty vector gives it. The counts of rows, nodes and members are those that refusals 2 and 5 speak of: a table may be
+ * longer than its count. Whatever stands in the tables and texts, and whatever the counts, the answer is a verdict or a numbered
+ * refusal; nothing is read or written outside the slices and the arrays results and span, and only what is not const is
+ * written. No two slices or arrays of a call may overlap if one of them is written. */
 #ifndef ZORAMBI_H
 #define ZORAMBI_H
 
@@ -78,8 +79,18 @@ uint64_t zorambi_model_rows_again(int32_t n, const int32_t *pairs, size_t pairs_
  * line; line 0 and an unfinished last line count as none. */
 void zorambi_line(const uint8_t *text, size_t text_len, size_t k, size_t span[2]);
 
-/* The one number that comes back: ((answer * 8192 + place + 1) * 8192 + nodes) * 8192 + links. In reading and writing both
- * counts are 0, but that a text that was written has its bytes in their place. */
+/* The line that a refusal points to when a schema text and a proof text, or a model text, are read and checked: the line refused
+ * in reading, or that of the row, node or pair at fault. zorambi_fault_line gives it, counted from 1, or 0 if there is
+ * none, as after an acceptance or a refusal of the whole; zorambi_fault_second says that it stands in the second text. */
+uint64_t zorambi_check_fault(const uint8_t *schema, size_t schema_len, const uint8_t *proof, size_t proof_len);
+uint64_t zorambi_model_fault(const uint8_t *schema, size_t schema_len, const uint8_t *model, size_t model_len);
+
+/* The number that comes back from these two: 2 * line, and 1 more in the second text. */
+static inline unsigned zorambi_fault_line(uint64_t fault) { return (unsigned)(fault >> 1); }
+static inline int zorambi_fault_second(uint64_t fault) { return (int)(fault & 1); }
+
+/* The one number that comes back from the others: ((answer * 8192 + place + 1) * 8192 + nodes) * 8192 + links. In reading and
+ * writing both counts are 0, but that a text that was written has its bytes in their place. */
 static inline unsigned zorambi_answer(uint64_t packed) { return (unsigned)(packed >> 39); }
 static inline int zorambi_place(uint64_t packed) { return (int)((packed >> 26) & 8191) - 1; }
 static inline unsigned zorambi_nodes(uint64_t packed) { return (unsigned)((packed >> 13) & 8191); }
@@ -111,6 +122,96 @@ enum zorambi_answer_number {
   ZORAMBI_NUMBER = 21,          /* writing: a number beyond 5 digits, or sets that do not follow one another to the last member */
   ZORAMBI_OUTPUT = 22           /* writing: the output is too short, or the text too long */
 };
+
+/* The library's own functions take an empty slice as they take any: with an address, which is not NULL. So each name above stands
+ * for a function below, which hands on its arguments, and for an empty slice an address at which nothing is read or written.
+ * A caller without this header sees to that itself. */
+static inline const int32_t *zorambi_numbers_of(const int32_t *numbers, size_t count) {
+  static const int32_t none = 0;
+  return count == 0 ? &none : numbers;
+}
+static inline const uint8_t *zorambi_text_of(const uint8_t *text, size_t count) {
+  static const uint8_t none = 0;
+  return count == 0 ? &none : text;
+}
+static inline int32_t *zorambi_lent_numbers(int32_t *numbers, size_t count) {
+  static int32_t none;
+  return count == 0 ? &none : numbers;
+}
+static inline uint8_t *zorambi_lent_bytes(uint8_t *bytes, size_t count) {
+  static uint8_t none;
+  return count == 0 ? &none : bytes;
+}
+
+static inline uint64_t zorambi_c_check(const int32_t *schema, size_t schema_len, size_t schema_rows, const int32_t *proof,
+                                       size_t proof_len, size_t proof_rows, int32_t root, int32_t least, const int32_t *nodes,
+                                       size_t nodes_len, size_t node_rows, const int32_t *members, size_t members_len,
+                                       size_t member_count) {
+  return zorambi_check(zorambi_numbers_of(schema, schema_len), schema_len, schema_rows, zorambi_numbers_of(proof, proof_len),
+                       proof_len, proof_rows, root, least, zorambi_numbers_of(nodes, nodes_len), nodes_len, node_rows,
+                       zorambi_numbers_of(members, members_len), members_len, member_count);
+}
+static inline uint64_t zorambi_c_check_model(const int32_t *schema, size_t schema_len, size_t schema_rows, int32_t root,
+                                             int32_t least, int32_t n, const int32_t *pairs, size_t pairs_len,
+                                             size_t pair_rows) {
+  return zorambi_check_model(zorambi_numbers_of(schema, schema_len), schema_len, schema_rows, root, least, n,
+                             zorambi_numbers_of(pairs, pairs_len), pairs_len, pair_rows);
+}
+static inline uint64_t zorambi_c_read_schema(const uint8_t *text, size_t text_len, int32_t *table, size_t table_len,
+                                             int32_t results[3]) {
+  return zorambi_read_schema(zorambi_text_of(text, text_len), text_len, zorambi_lent_numbers(table, table_len), table_len,
+                             results);
+}
+static inline uint64_t zorambi_c_read_proof(const uint8_t *text, size_t text_len, int32_t *table, size_t table_len,
+                                            int32_t *nodes, size_t nodes_len, int32_t *members, size_t members_len,
+                                            int32_t results[3]) {
+  return zorambi_read_proof(zorambi_text_of(text, text_len), text_len, zorambi_lent_numbers(table, table_len), table_len,
+                            zorambi_lent_numbers(nodes, nodes_len), nodes_len, zorambi_lent_numbers(members, members_len),
+                            members_len, results);
+}
+static inline uint64_t zorambi_c_read_model(const uint8_t *text, size_t text_len, int32_t *pairs, size_t pairs_len,
+                                            int32_t results[2]) {
+  return zorambi_read_model(zorambi_text_of(text, text_len), text_len, zorambi_lent_numbers(pairs, pairs_len), pairs_len,
+                            results);
+}
+static inline uint64_t zorambi_c_write_schema(const int32_t *table, size_t table_len, size_t rows, int32_t root, int32_t least,
+                                              uint8_t *out, size_t out_len) {
+  return zorambi_write_schema(zorambi_numbers_of(table, table_len), table_len, rows, root, least,
+                              zorambi_lent_bytes(out, out_len), out_len);
+}
+static inline uint64_t zorambi_c_write_proof(const int32_t *table, size_t table_len, size_t rows, const int32_t *nodes,
+                                             size_t nodes_len, size_t node_rows, const int32_t *members, size_t members_len,
+                                             size_t member_count, uint8_t *out, size_t out_len) {
+  return zorambi_write_proof(zorambi_numbers_of(table, table_len), table_len, rows, zorambi_numbers_of(nodes, nodes_len),
+                             nodes_len, node_rows, zorambi_numbers_of(members, members_len), members_len, member_count,
+                             zorambi_lent_bytes(out, out_len), out_len);
+}
+static inline uint64_t zorambi_c_write_model(int32_t n, const int32_t *pairs, size_t pairs_len, size_t pair_rows, uint8_t *out,
+                                             size_t out_len) {
+  return zorambi_write_model(n, zorambi_numbers_of(pairs, pairs_len), pairs_len, pair_rows, zorambi_lent_bytes(out, out_len),
+                             out_len);
+}
+static inline void zorambi_c_line(const uint8_t *text, size_t text_len, size_t k, size_t span[2]) {
+  zorambi_line(zorambi_text_of(text, text_len), text_len, k, span);
+}
+static inline uint64_t zorambi_c_check_fault(const uint8_t *schema, size_t schema_len, const uint8_t *proof, size_t proof_len) {
+  return zorambi_check_fault(zorambi_text_of(schema, schema_len), schema_len, zorambi_text_of(proof, proof_len), proof_len);
+}
+static inline uint64_t zorambi_c_model_fault(const uint8_t *schema, size_t schema_len, const uint8_t *model, size_t model_len) {
+  return zorambi_model_fault(zorambi_text_of(schema, schema_len), schema_len, zorambi_text_of(model, model_len), model_len);
+}
+
+#define zorambi_check zorambi_c_check
+#define zorambi_check_model zorambi_c_check_model
+#define zorambi_read_schema zorambi_c_read_schema
+#define zorambi_read_proof zorambi_c_read_proof
+#define zorambi_read_model zorambi_c_read_model
+#define zorambi_write_schema zorambi_c_write_schema
+#define zorambi_write_proof zorambi_c_write_proof
+#define zorambi_write_model zorambi_c_write_model
+#define zorambi_line zorambi_c_line
+#define zorambi_check_fault zorambi_c_check_fault
+#define zorambi_model_fault zorambi_c_model_fault
 
 #ifdef __cplusplus
 }

@@ -160,11 +160,13 @@ mod c {
             results: *mut i32,
         ) -> u64;
         pub fn zorambi_line(text: *const u8, text_len: usize, k: usize, span: *mut usize);
+        pub fn zorambi_check_fault(schema: *const u8, schema_len: usize, proof: *const u8, proof_len: usize) -> u64;
+        pub fn zorambi_model_fault(schema: *const u8, schema_len: usize, model: *const u8, model_len: usize) -> u64;
     }
 }
 
 // In every call below a pointer goes with its own slice's length, and an array has the length that the
-// entry is declared with.
+// entry is declared with. A slice's pointer is never null, as the library asks.
 
 /// The check: four tables with their counts, the root and the least value.
 #[allow(clippy::too_many_arguments)]
@@ -425,4 +427,15 @@ pub fn line(text: &[u8], k: usize) -> [usize; 2] {
     let mut span = [0; 2];
     unsafe { c::zorambi_line(text.as_ptr(), text.len(), k, span.as_mut_ptr()) };
     span
+}
+
+/// Where a refusal points when a schema text and a proof text are read and checked: twice the line, from
+/// 1, and 1 more if it is the proof's; line 0 is none.
+pub fn check_fault(schema: &[u8], proof: &[u8]) -> u64 {
+    unsafe { c::zorambi_check_fault(schema.as_ptr(), schema.len(), proof.as_ptr(), proof.len()) }
+}
+
+/// The same with a model text.
+pub fn model_fault(schema: &[u8], model: &[u8]) -> u64 {
+    unsafe { c::zorambi_model_fault(schema.as_ptr(), schema.len(), model.as_ptr(), model.len()) }
 }

@@ -38,7 +38,7 @@
 //! The same from texts:
 //!
 //! ```
-//! use zorambi::{check_model_texts, read_schema, write_schema, Refusal, Verdict};
+//! use zorambi::{check_fault, check_model_texts, read_schema, write_schema, Refusal, Text, Verdict};
 //!
 //! let schema = b"root least\n1 0\nkind a b c\n2 0 2 0\n6 0 1 0\n";
 //! let read = read_schema(schema)?;
@@ -53,6 +53,7 @@
 //!
 //! let refused = read_schema(b"root least\n007 0\n").unwrap_err();
 //! assert_eq!(refused.to_string(), "refused: 4 at line 2 (not a line of the required form and number of values)");
+//! assert_eq!(check_fault(b"root least\n007 0\n", b""), Some((Text::Schema, 2)));
 //! # Ok::<(), zorambi::Refused>(())
 //! ```
 
@@ -61,9 +62,9 @@ mod record;
 mod text;
 mod verdict;
 
-pub use record::{check, check_model, Model, Node, Pair, Proof, Record, Row, Schema, Text};
+pub use record::{check, check_model, Model, Node, Pair, Proof, Record, Row, Schema};
 pub use text::{
-    check_model_texts, check_texts, line, read_model, read_proof, read_schema, write_model, write_proof, write_schema,
-    MAX_TEXT,
+    check_fault, check_model_texts, check_texts, line, model_fault, read_model, read_proof, read_schema, write_model,
+    write_proof, write_schema, Text, MAX_TEXT,
 };
 pub use verdict::{Refusal, Refused, Verdict};

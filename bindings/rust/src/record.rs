@@ -1,7 +1,7 @@
 //! Records and models as tables, and the two checks.
 
 use crate::entries;
-use crate::verdict::{Refusal, Verdict};
+use crate::verdict::Verdict;
 
 /// A formula row: kind a b c.
 pub type Row = [i32; 4];
@@ -80,26 +80,4 @@ pub fn check_model(schema: &Schema, model: &Model) -> Verdict {
         model.pairs.as_flattened(),
         model.pairs.len(),
     ))
-}
-
-/// One of a record's texts.
-#[derive(Clone, Copy, Debug, PartialEq, Eq, Hash)]
-pub enum Text {
-    Schema,
-    Proof,
-}
-
-impl Record {
-    /// The text and the line, from 1, of the formula row or node at which [`check`] refused this record;
-    /// `None` if the refusal has no such place.
-    pub fn line_of(&self, refusal: Refusal, place: Option<usize>) -> Option<(Text, usize)> {
-        let place = place?;
-        let (schema_rows, proof_rows) = (self.schema.rows.len(), self.proof.rows.len());
-        match refusal.place_counts()? {
-            "row" if place < schema_rows => Some((Text::Schema, 4 + place)),
-            "row" => Some((Text::Proof, 2 + place - schema_rows)),
-            "node" => Some((Text::Proof, 3 + proof_rows + place)),
-            _ => None,
-        }
-    }
 }

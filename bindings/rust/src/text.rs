@@ -1,4 +1,4 @@
-//! Texts of schemata, proofs and models: read, written, and checked at once.
+//! Texts of schemata, proofs and models: read, written, and checked at once, and the line at fault.
 
 use crate::entries;
 use crate::record::{check, check_model, Model, Proof, Record, Schema};
@@ -107,4 +107,29 @@ pub fn check_texts(schema: &[u8], proof: &[u8]) -> Verdict {
 pub fn check_model_texts(schema: &[u8], model: &[u8]) -> Verdict {
     let both = read_schema(schema).and_then(|schema| Ok((schema, read_model(model)?)));
     both.map_or_else(Verdict::from, |(schema, model)| check_model(&schema, &model))
+}
+
+/// A text of a record or of a model.
+#[derive(Clone, Copy, Debug, PartialEq, Eq, Hash)]
+pub enum Text {
+    Schema,
+    Proof,
+    Model,
+}
+
+/// The text and the line, from 1, of a number that the library points with; `None` if it is line 0.
+fn fault(number: u64, second: Text) -> Option<(Text, usize)> {
+    let line = (number >> 1) as usize;
+    (line > 0).then_some((if number & 1 == 1 { second } else { Text::Schema }, line))
+}
+
+/// The text and the line, from 1, that the refusal of [`check_texts`] points to: the line refused in
+/// reading, or that of the row or node at fault. `None` if it accepts, or refuses the whole.
+pub fn check_fault(schema: &[u8], proof: &[u8]) -> Option<(Text, usize)> {
+    fault(entries::check_fault(schema, proof), Text::Proof)
+}
+
+/// The same of [`check_model_texts`]: the line refused in reading, or that of the row or pair at fault.
+pub fn model_fault(schema: &[u8], model: &[u8]) -> Option<(Text, usize)> {
+    fault(entries::model_fault(schema, model), Text::Model)
 }

@@ -1,8 +1,8 @@
 //! The paper's record and its neighbours, from texts and from tables.
 
 use zorambi::{
-    check, check_model_texts, check_texts, line, read_model, read_proof, read_schema, write_model, write_proof,
-    write_schema, Model, Proof, Record, Refusal, Refused, Schema, Text, Verdict,
+    check, check_fault, check_model_texts, check_texts, line, model_fault, read_model, read_proof, read_schema,
+    write_model, write_proof, write_schema, Model, Proof, Record, Refusal, Refused, Schema, Text, Verdict,
 };
 
 const SCHEMA: &str = "root least\n4 1\nkind a b c\n2 0 2 0\n3 0 2 0\n7 0 2 0\n6 1 2 0\n4 2 3 0\n";
@@ -139,22 +139,45 @@ fn tables_refused_in_writing() {
     assert_eq!(write_proof(&long), err(Refusal::Output));
 }
 
+/// The line that a refusal points to, and what stands there.
+fn pointed<'a>(texts: [&'a str; 2], fault: Option<(Text, usize)>) -> Option<(Text, usize, &'a str)> {
+    fault.map(|(text, number)| {
+        let bytes = texts[usize::from(text != Text::Schema)].as_bytes();
+        (text, number, std::str::from_utf8(line(bytes, number)).unwrap())
+    })
+}
+
 #[test]
-fn lines_of_places() {
-    let record = record();
-    let at = |refusal, place: usize| record.line_of(refusal, Some(place));
-    let text = |located: Option<(Text, usize)>| match located {
-        Some((Text::Schema, number)) => line(SCHEMA.as_bytes(), number),
-        Some((Text::Proof, number)) => line(PROOF.as_bytes(), number),
-        None => panic!("no line"),
+fn lines_at_fault() {
+    let check = |schema: &str, proof: &str| {
+        let fault = check_fault(schema.as_bytes(), proof.as_bytes());
+        pointed([schema, proof], fault).map(|(text, number, line)| (text, number, line.to_string()))
     };
-    assert_eq!(at(Refusal::IllFormed, 4), Some((Text::Schema, 8)));
-    assert_eq!(text(at(Refusal::IllFormed, 4)), b"4 2 3 0");
-    assert_eq!(text(at(Refusal::TooLarge, 5)), b"7 0 2 1");
-    assert_eq!(text(at(Refusal::IllFormed, 8)), b"3 0 1 0");
-    assert_eq!(at(Refusal::Bound, 5), Some((Text::Proof, 12)));
-    assert_eq!(text(at(Refusal::Bound, 5)), b"4 8 -1 -1 -1 1 1 5 7");
-    assert_eq!(record.line_of(Refusal::Root, None), None);
+    let at = |text, number, line: &str| Some((text, number, line.to_string()));
+    assert_eq!(check(SCHEMA, PROOF), None);
+    // A node, a schema row, a proof row; the root, which is no line.
+    let by_2 = changed(PROOF, "-1 1 1 5 7\n", "-1 1 2 5 7\n");
+    assert_eq!(check(SCHEMA, &by_2), at(Text::Proof, 12, "4 8 -1 -1 -1 1 2 5 7"));
+    assert_eq!(check(&changed(SCHEMA, "4 2 3 0\n", "4 2 9 0\n"), PROOF), at(Text::Schema, 8, "4 2 9 0"));
+    assert_eq!(check(SCHEMA, &changed(PROOF, "3 0 1 0\n", "3 0 3 0\n")), at(Text::Proof, 5, "3 0 3 0"));
+    assert_eq!(check(&changed(SCHEMA, "4 1\n", "9 1\n"), PROOF), None);
+    // Lines refused in reading, the schema's first.
+    assert_eq!(check(&changed(SCHEMA, "4 1\n", "4 x\n"), "x\n"), at(Text::Schema, 2, "4 x"));
+    assert_eq!(check(SCHEMA, "x\n"), at(Text::Proof, 1, "x"));
+    assert_eq!(check("", PROOF), at(Text::Schema, 1, ""));
+    assert_eq!(check(SCHEMA, &" ".repeat(65_537)), None);
+
+    let root_3 = changed(SCHEMA, "4 1\n", "3 1\n");
+    let model = |schema: &str, model: &str| model_fault(schema.as_bytes(), model.as_bytes());
+    assert_eq!(model(&root_3, "n\n3\nsymbol index\n0 1\n"), None);
+    assert_eq!(model(&root_3, "n\n3\nsymbol index\n0 1\n0 1\n"), Some((Text::Model, 5)));
+    assert_eq!(model(&root_3, "n\n3\nsymbol index\n0\n"), Some((Text::Model, 4)));
+    assert_eq!(model(&changed(SCHEMA, "4 2 3 0\n", "4 2 9 0\n"), "n\n3\nsymbol index\n"), Some((Text::Schema, 8)));
+    assert_eq!(model(&root_3, "n\n3\nsymbol index\n0 3\n"), None);
+}
+
+#[test]
+fn lines_by_number() {
     assert_eq!(line(b"one\ntwo", 1), b"one");
     for (text, number) in [(&b"one\ntwo"[..], 0), (b"one\ntwo", 2), (b"one\n", usize::MAX), (b"", 1)] {
         let found = line(text, number);

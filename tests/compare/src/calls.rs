@@ -15,6 +15,7 @@ pub struct Seen {
     pub tables: Vec<Vec<i32>>,
     pub out: Vec<u8>,
     pub span: [usize; 2],
+    pub fault: u64,
     /// Something was written next to the lent memory.
     pub outside: bool,
 }
@@ -38,8 +39,11 @@ impl Seen {
             return None;
         }
         let place = |seen: &Seen| (seen.packed >> 26 & 8191) as i64 - 1;
-        let ours = format!("answer {} place {} {:?} {:?}", self.answer(), place(self), self.results, self.span);
-        let theirs = format!("answer {} place {} {:?} {:?}", other.answer(), place(other), other.results, other.span);
+        let words = |seen: &Seen| {
+            let Seen { results, span, fault, .. } = seen;
+            format!("answer {} place {} {results:?} {span:?} {fault}", seen.answer(), place(seen))
+        };
+        let (ours, theirs) = (words(self), words(other));
         let memory = match (self.outside, self.tables != other.tables || self.out != other.out) {
             (true, _) => ", written outside of what was lent",
             (false, true) => ", other memory",
@@ -171,6 +175,12 @@ pub fn of_library(input: &Input) -> Option<Seen> {
             Seen { span: entries::line(&exact(text), *number), ..Seen::default() }
         }
         Input::Texts { schema, proof } => Seen::number(check_texts(schema, proof)),
+        Input::CheckFault { schema, proof } => {
+            Seen { fault: entries::check_fault(&exact(schema), &exact(proof)), ..Seen::default() }
+        }
+        Input::ModelFault { schema, model } => {
+            Seen { fault: entries::model_fault(&exact(schema), &exact(model)), ..Seen::default() }
+        }
         Input::LineNumbers { .. } | Input::Compare { .. } => return None,
     })
 }
@@ -246,6 +256,8 @@ pub fn of_reference(input: &Input) -> Seen {
             Seen { packed: pack(written.answer, written.place, written.bytes), out, ..Seen::default() }
         }
         Outcome::Line { start, length } => Seen { span: [start, length], ..Seen::default() },
+        // Twice the line, and 1 more in the second text.
+        Outcome::Fault(fault) => Seen { fault: 2 * fault.line as u64 + u64::from(fault.second), ..Seen::default() },
         Outcome::LineNumbers { .. } | Outcome::Compared { .. } => Seen::default(),
     }
 }

@@ -23,6 +23,16 @@ fn read(kind: Kind, text: &[u8], lengths: [usize; 3]) -> Input {
     }
 }
 
+/// The line at fault of a text beside the paper's other one.
+fn fault(kind: Kind, text: &[u8]) -> Input {
+    let text = text.to_vec();
+    match kind {
+        Kind::Schema => Input::CheckFault { schema: text, proof: PROOF.into() },
+        Kind::Proof => Input::CheckFault { schema: SCHEMA.into(), proof: text },
+        Kind::Model => Input::ModelFault { schema: SCHEMA.into(), model: text },
+    }
+}
+
 fn full(kind: Kind) -> [usize; 3] {
     match kind {
         Kind::Model => [8192, 0, 0],
@@ -34,15 +44,41 @@ pub fn test(tally: &mut Tally) {
     for (kind, text) in [(Kind::Schema, SCHEMA), (Kind::Proof, PROOF), (Kind::Model, MODEL)] {
         for (number, text) in texts(text.as_bytes()).iter().enumerate() {
             tally.compare(&format!("text {number} of {}", text.len()), &read(kind, text, full(kind)));
+            tally.compare(&format!("line at fault, text {number} of {}", text.len()), &fault(kind, text));
         }
         lent_tables(tally, kind, text.as_bytes());
     }
     for (name, kind, text) in at_limits() {
         tally.compare(name, &read(kind, &text, full(kind)));
+        tally.compare(name, &fault(kind, &text));
     }
+    empty(tally);
     lines(tally);
     counts(tally);
     writing(tally);
+}
+
+/// Every entry with every slice empty.
+fn empty(tally: &mut Tally) {
+    let t = tables(b"", b"");
+    let model =
+        ModelTables { root: 0, least: 0, schema: Vec::new(), schema_count: 0, n: 0, pairs: Vec::new(), pair_count: 0 };
+    let inputs = [
+        Input::Check(t.clone()),
+        Input::Model(model),
+        read(Kind::Schema, b"", [0; 3]),
+        read(Kind::Proof, b"", [0; 3]),
+        read(Kind::Model, b"", [0; 3]),
+        Input::WriteSchema { root: 0, least: 0, rows: Vec::new(), row_count: 0, length: 0, fill: 1 },
+        Input::WriteProof { proof: t, length: 0, fill: 1 },
+        Input::WriteModel { n: 0, pairs: Vec::new(), pair_count: 0, length: 0, fill: 1 },
+        Input::Line { named: Named::Schema, schema: Vec::new(), proof: Vec::new(), number: 1 },
+        Input::CheckFault { schema: Vec::new(), proof: Vec::new() },
+        Input::ModelFault { schema: Vec::new(), model: Vec::new() },
+    ];
+    for (number, input) in inputs.iter().enumerate() {
+        tally.compare(&format!("entry {number}, every slice empty"), input);
+    }
 }
 
 /// Lines by number in texts of any length, with empty and unfinished lines.

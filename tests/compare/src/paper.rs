@@ -53,7 +53,9 @@ pub fn test(tally: &mut Tally) {
     for (name, schema, proof, expected) in record {
         let found = printed(check_texts(schema.as_bytes(), proof.as_bytes()));
         tally.test(name, equal(&found, expected));
-        tally.compare(name, &Input::Texts { schema: schema.into_bytes(), proof: proof.into_bytes() });
+        let (schema, proof) = (schema.into_bytes(), proof.into_bytes());
+        tally.compare(name, &Input::Texts { schema: schema.clone(), proof: proof.clone() });
+        tally.compare(&format!("{name}, line at fault"), &Input::CheckFault { schema, proof });
     }
 
     let root_3 = schema("4 1\n", "3 1\n");
@@ -67,6 +69,10 @@ pub fn test(tally: &mut Tally) {
     for (name, schema, model, expected) in models {
         let found = printed(check_model_texts(schema.as_bytes(), model.as_bytes()));
         tally.test(name, equal(&found, expected));
+        tally.compare(
+            &format!("{name}, line at fault"),
+            &Input::ModelFault { schema: schema.into(), model: model.into() },
+        );
     }
 
     for (named, text) in [(Named::Schema, SCHEMA), (Named::Proof, PROOF)] {

@@ -68,6 +68,8 @@ fn record(tally: &mut Tally, folder: &Path) {
     let t = tables(&schema, &proof);
     tally.compare(&name, &Input::Check(t.clone()));
     tally.compare(&name, &Input::Texts { schema: schema.clone(), proof: proof.clone() });
+    tally.compare(&name, &Input::CheckFault { schema: schema.clone(), proof: proof.clone() });
+    tally.compare(&name, &Input::ModelFault { schema: schema.clone(), model: model.clone() });
     tally.compare(&name, &Input::ReadSchema { text: schema.clone(), length: 4096, fill: 3 });
     tally.compare(&name, &Input::ReadProof { text: proof.clone(), lengths: [4096, 9216, 8192], fill: 3 });
     for length in [schema.len(), schema.len() - 1, 65_536] {

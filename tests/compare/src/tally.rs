@@ -36,6 +36,7 @@ fn group(input: &Input) -> Option<usize> {
         Input::ReadSchema { .. } | Input::ReadProof { .. } | Input::ReadModel { .. } => Some(2),
         Input::WriteSchema { .. } | Input::WriteProof { .. } | Input::WriteModel { .. } => Some(3),
         Input::Texts { .. } => Some(4),
+        Input::CheckFault { .. } | Input::ModelFault { .. } => None,
         Input::Line { .. } | Input::LineNumbers { .. } | Input::Compare { .. } => None,
     }
 }

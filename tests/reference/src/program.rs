@@ -1,5 +1,6 @@
-//! The check program, without its files: two texts in, the four numbers out.
+//! The check program, without its files: two texts in, the four numbers out, and the line that a refusal speaks of.
 
+use crate::text::Named;
 use crate::{
     model, tableau, text, Verdict, MAX_MEMBERS, MAX_NODES, MAX_PAIRS, MAX_ROWS, NODE_WIDTH, PAIR_WIDTH, ROW_WIDTH,
 };
@@ -39,4 +40,53 @@ pub fn check_model_texts(schema_text: &[u8], model_text: &[u8]) -> Verdict {
         return refused(m.answer, m.place);
     }
     model::check_model(s.root, s.least, &schema, s.rows, m.n, &pairs, m.pairs)
+}
+
+/// The line that a refusal speaks of, from 1, and whether it stands in the second text; line 0 is none.
+#[derive(Clone, Copy, Debug, Default, PartialEq, Eq)]
+pub struct Fault {
+    pub second: bool,
+    pub line: usize,
+}
+
+impl Fault {
+    /// The line of a text's row or node.
+    fn at(line: Option<(Named, usize)>) -> Fault {
+        line.map_or(Fault::default(), |(named, line)| Fault { second: named == Named::Proof, line })
+    }
+}
+
+/// The line of [`check_texts`]'s refusal. In reading its place is the line. A formula row and a node
+/// have the lines that the paper gives: "Schema row r is line 4 + r; with S schema and P proof rows,
+/// proof row r is line 2 + r - S and node j line 3 + P + j."
+pub fn check_fault(schema_text: &[u8], proof_text: &[u8]) -> Fault {
+    let Verdict { answer, place, .. } = check_texts(schema_text, proof_text);
+    let place = usize::try_from(place).ok();
+    let s = text::read_schema(schema_text, &mut [0; MAX_ROWS * ROW_WIDTH]);
+    let mut tables = (vec![0; MAX_ROWS * ROW_WIDTH], vec![0; MAX_NODES * NODE_WIDTH], vec![0; MAX_MEMBERS]);
+    let p = text::read_proof(proof_text, &mut tables.0, &mut tables.1, &mut tables.2);
+    let line = match answer {
+        _ if s.answer != 0 => place.map(|line| (Named::Schema, line)),
+        _ if p.answer != 0 => place.map(|line| (Named::Proof, line)),
+        7 | 8 => place.and_then(|row| text::row_line(s.rows, p.rows, row)),
+        9..=17 => place.and_then(|node| Some((Named::Proof, text::node_line(p.rows, node)?))),
+        _ => None,
+    };
+    Fault::at(line)
+}
+
+/// The same of [`check_model_texts`]. A model's pairs come after three lines: "Model: `n`, one line,
+/// `symbol index`, rows."
+pub fn model_fault(schema_text: &[u8], model_text: &[u8]) -> Fault {
+    let Verdict { answer, place, .. } = check_model_texts(schema_text, model_text);
+    let place = usize::try_from(place).unwrap_or(0);
+    let s = text::read_schema(schema_text, &mut [0; MAX_ROWS * ROW_WIDTH]);
+    let m = text::read_model(model_text, &mut [0; MAX_PAIRS * PAIR_WIDTH]);
+    match answer {
+        _ if s.answer != 0 => Fault { second: false, line: place },
+        _ if m.answer != 0 => Fault { second: true, line: place },
+        7 | 8 => Fault::at(text::row_line(s.rows, 0, place)),
+        18 => Fault { second: true, line: 3 + place + 1 },
+        _ => Fault::default(),
+    }
 }

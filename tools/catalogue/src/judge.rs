@@ -3,7 +3,7 @@
 use std::fs::File;
 use std::io::Read;
 use std::path::Path;
-use zorambi::{check, read_proof, read_schema, Record, Refusal, Refused, Text, Verdict, MAX_TEXT};
+use zorambi::{check, check_fault, read_proof, read_schema, Record, Refusal, Refused, Text, Verdict, MAX_TEXT};
 
 pub const SCHEMA: &str = "schema.txt";
 pub const PROOF: &str = "proof.txt";
@@ -103,15 +103,11 @@ pub fn judge(folder: &Path) -> Judged {
         Ok(proof) => proof,
         Err(refused) => return unread(refused, PROOF, &proof_text),
     };
-    let record = Record { schema, proof };
-    let verdict = check(&record);
-    let located = match verdict {
-        Verdict::Accepted { .. } => None,
-        Verdict::Refused { refusal, place } => record.line_of(refusal, place),
-    };
-    match located {
+    let verdict = check(&Record { schema, proof });
+    let fault = if verdict.is_accepted() { None } else { check_fault(&schema_text, &proof_text) };
+    match fault {
         None => Judged::new(verdict, None, None, &[]),
         Some((Text::Schema, line)) => Judged::new(verdict, Some(SCHEMA), Some(line), &schema_text),
-        Some((Text::Proof, line)) => Judged::new(verdict, Some(PROOF), Some(line), &proof_text),
+        Some((_, line)) => Judged::new(verdict, Some(PROOF), Some(line), &proof_text),
     }
 }

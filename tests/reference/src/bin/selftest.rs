@@ -11,6 +11,7 @@ use zorambi_reference::formula::{Formulas, AND, BIG_AND, FALSE, LITERAL, NEGATED
 use zorambi_reference::generate::models::{find_model, pair_rows, random_assignment, random_pairs};
 use zorambi_reference::generate::tables::Tables;
 use zorambi_reference::generate::{case, run, Input, Outcome, Rng};
+use zorambi_reference::program::Fault;
 use zorambi_reference::text::{self, Named};
 use zorambi_reference::{model, packed, program, tableau, Verdict};
 
@@ -400,6 +401,14 @@ fn consistent(input: &Input, outcome: &Outcome, rng: &mut Rng) -> Result<(), Str
             };
             ensure(*verdict == expected, "another answer by its parts")
         }
+        (Input::CheckFault { schema, proof }, Outcome::Fault(fault)) => {
+            let Verdict { answer, place, .. } = program::check_texts(schema, proof);
+            pointed(answer, place, [schema, proof], *fault)
+        }
+        (Input::ModelFault { schema, model }, Outcome::Fault(fault)) => {
+            let Verdict { answer, place, .. } = program::check_model_texts(schema, model);
+            pointed(answer, place, [schema, model], *fault)
+        }
         (
             Input::LineNumbers { schema_count, proof_count, row, node },
             Outcome::LineNumbers { row: row_line, node: node_line },
@@ -501,6 +510,26 @@ fn verdict_consistent(verdict: Verdict, number: i64) -> Result<(), String> {
     ensure(nodes == 0 && links == 0, "counts of a refusal")?;
     let without_place = matches!(answer, 2 | 5 | 6 | 19 | 20) || (answer == 10 && place == -1);
     ensure(without_place == (place == -1), "place of a refusal")
+}
+
+/// The line at fault, found by going through the lines from a text's last heading on.
+fn pointed(answer: u8, place: i32, texts: [&[u8]; 2], fault: Fault) -> Result<(), String> {
+    let lines = texts.map(|text| text.split(|byte| *byte == b'\n').collect::<Vec<_>>());
+    let after = |second: usize, heading: &[u8], row: i32| {
+        let before = lines[second].iter().rposition(|line| *line == heading)?;
+        (row >= 0).then_some(Fault { second: second == 1, line: before + 2 + row as usize })
+    };
+    let rows = lines[0].len() as i32 - 1 - 3;
+    let expected = match answer {
+        1..=5 if place > 0 => return ensure(fault.line == place as usize, "another line than the one refused"),
+        7 | 8 if place >= rows => after(1, b"kind a b c", place - rows),
+        7 | 8 => after(0, b"kind a b c", place),
+        9..=17 => after(1, b"up rule on with other to by set", place),
+        18 => after(1, b"symbol index", place),
+        _ => None,
+    };
+    ensure(fault.line == expected.map_or(0, |fault| fault.line), "another line at fault")?;
+    ensure(expected.is_none_or(|expected| expected == fault), "the other text")
 }
 
 fn written_consistent(written: text::Written, out: &[u8]) -> Result<bool, String> {

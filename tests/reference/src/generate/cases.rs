@@ -12,6 +12,7 @@ use super::tables::{
 };
 use super::texts::{damage_text, proof_text_of_length, random_text};
 use crate::formula::{Formulas, ON_I};
+use crate::program::Fault;
 use crate::text::{self, ModelRead, Named, ProofRead, SchemaRead, Written};
 use crate::{model, packed, program, tableau, Verdict, MAX_TEXT};
 
@@ -81,6 +82,16 @@ pub enum Input {
         schema: Vec<u8>,
         proof: Vec<u8>,
     },
+    /// The line that the check program's refusal speaks of.
+    CheckFault {
+        schema: Vec<u8>,
+        proof: Vec<u8>,
+    },
+    /// The line that the model check program's refusal speaks of.
+    ModelFault {
+        schema: Vec<u8>,
+        model: Vec<u8>,
+    },
     /// Rows `f` and `g` of one table: what is known of them, lowered by `k`, instance at n - `k`.
     Compare {
         rows: Vec<i32>,
@@ -121,6 +132,7 @@ pub enum Outcome {
         start: usize,
         length: usize,
     },
+    Fault(Fault),
     /// `None` where there is no such row, or the number passes `usize::MAX`.
     LineNumbers {
         row: Option<(Named, usize)>,
@@ -145,7 +157,7 @@ impl Outcome {
             Outcome::ProofRead { read, .. } => read.answer,
             Outcome::ModelRead { read, .. } => read.answer,
             Outcome::Written { written, .. } => written.answer,
-            Outcome::Line { .. } | Outcome::LineNumbers { .. } | Outcome::Compared { .. } => 0,
+            Outcome::Line { .. } | Outcome::Fault(_) | Outcome::LineNumbers { .. } | Outcome::Compared { .. } => 0,
         }
     }
 }
@@ -220,6 +232,8 @@ pub fn run(input: &Input) -> Outcome {
             let verdict = program::check_texts(schema, proof);
             Outcome::Verdict { verdict, packed: packed::pack(verdict) }
         }
+        Input::CheckFault { schema, proof } => Outcome::Fault(program::check_fault(schema, proof)),
+        Input::ModelFault { schema, model } => Outcome::Fault(program::model_fault(schema, model)),
         Input::Compare { rows, row_count, f, g, k } => {
             let Some(formulas) = Formulas::new(rows, *row_count, &[], 0) else {
                 return Outcome::Compared {
@@ -265,7 +279,15 @@ pub fn case(seed: u64, number: u64) -> Case {
         93 | 94 => ("write model", write_model_case(rng)),
         95 => ("line", line_case(rng)),
         96 if rng.chance(30) => ("line numbers", line_numbers_case(rng)),
-        96 => ("program", texts_case(rng)),
+        96 => {
+            let (schema, proof) = record_texts(rng);
+            ("program", Input::Texts { schema, proof })
+        }
+        97 if rng.chance(60) => {
+            let (schema, proof) = record_texts(rng);
+            ("line at fault", Input::CheckFault { schema, proof })
+        }
+        97 => ("line at fault in a model", model_fault_case(rng)),
         _ => ("compare rows", compare_case(rng)),
     };
     Case { sort, input }
@@ -887,7 +909,7 @@ fn line_numbers_case(rng: &mut Rng) -> Input {
 }
 
 /// Both texts of a tableau, mostly whole.
-fn texts_case(rng: &mut Rng) -> Input {
+fn record_texts(rng: &mut Rng) -> (Vec<u8>, Vec<u8>) {
     let tables = if rng.chance(50) { grown(rng) } else { damaged(rng) };
     let t = &tables;
     let mut schema = written(|out| text::write_schema(t.root, t.least, &t.schema, t.schema_count, out));
@@ -900,7 +922,21 @@ fn texts_case(rng: &mut Rng) -> Input {
     if rng.chance(20) {
         proof = damaged_text(rng, proof);
     }
-    Input::Texts { schema, proof }
+    (schema, proof)
+}
+
+/// Both texts of a model, mostly whole.
+fn model_fault_case(rng: &mut Rng) -> Input {
+    let m = if rng.chance(30) { found_model(rng) } else { damaged_model(rng) };
+    let mut schema = written(|out| text::write_schema(m.root, m.least, &m.schema, m.schema_count, out));
+    let mut model = written(|out| text::write_model(m.n, &m.pairs, m.pair_count, out));
+    if rng.chance(20) {
+        schema = damaged_text(rng, schema);
+    }
+    if rng.chance(20) {
+        model = damaged_text(rng, model);
+    }
+    Input::ModelFault { schema, model }
 }
 
 /// Two rows of one table, often one lowered or one the other's instance, or almost so.

@@ -1,0 +1,147 @@
+/* Every slice of every entry empty, with the pointer NULL: the answers are those of the paper for an empty table or text. */
+#include <stdio.h>
+#include <string.h>
+
+#include "zorambi.h"
+
+static int passed, failed;
+
+static void test(const char *name, int right) {
+  if (right) {
+    passed++;
+  } else {
+    failed++;
+    printf("FAILED %s\n", name);
+  }
+}
+
+static void answers(const char *name, uint64_t packed, unsigned answer, int place) {
+  test(name, zorambi_answer(packed) == answer && zorambi_place(packed) == place);
+}
+
+static void points(const char *name, uint64_t fault, int second, unsigned line) {
+  test(name, zorambi_fault_second(fault) == second && zorambi_fault_line(fault) == line);
+}
+
+/* The paper's schema, the rows of its proof, and its first node. */
+static const int32_t schema[] = {2, 0, 2, 0, 3, 0, 2, 0, 7, 0, 2, 0, 6, 1, 2, 0, 4, 2, 3, 0};
+static const int32_t proof[] = {7, 0, 2, 1, 2, 0, 1, 0, 6, 1, 2, 1, 3, 0, 1, 0};
+static const int32_t node[] = {-1, 0, 4, -1, -1, -1, 0, 0, 1};
+static const int32_t member[] = {4};
+static const char schema_text[] = "root least\n4 1\nkind a b c\n2 0 2 0\n3 0 2 0\n7 0 2 0\n6 1 2 0\n4 2 3 0\n";
+
+static void check(void) {
+  answers("nothing at all", zorambi_check(NULL, 0, 0, NULL, 0, 0, 0, 0, NULL, 0, 0, NULL, 0, 0), ZORAMBI_ROOT, -1);
+  answers("no proof row, node or member", zorambi_check(schema, 20, 5, NULL, 0, 0, 4, 1, NULL, 0, 0, NULL, 0, 0),
+          ZORAMBI_PARENT, -1);
+  answers("no proof row", zorambi_check(schema, 20, 5, NULL, 0, 0, 4, 1, node, 9, 1, member, 1, 1), ZORAMBI_CHILDREN, 0);
+  answers("no member", zorambi_check(schema, 20, 5, proof, 16, 4, 4, 1, node, 9, 1, NULL, 0, 0), ZORAMBI_SET, 0);
+  answers("schema rows counted", zorambi_check(NULL, 0, 5, proof, 16, 4, 4, 1, node, 9, 1, member, 1, 1),
+          ZORAMBI_TABLE_TOO_SHORT, -1);
+  answers("proof rows counted", zorambi_check(schema, 20, 5, NULL, 0, 4, 4, 1, node, 9, 1, member, 1, 1),
+          ZORAMBI_TABLE_TOO_SHORT, -1);
+  answers("nodes counted", zorambi_check(schema, 20, 5, proof, 16, 4, 4, 1, NULL, 0, 1, member, 1, 1),
+          ZORAMBI_TABLE_TOO_SHORT, -1);
+  answers("members counted", zorambi_check(schema, 20, 5, proof, 16, 4, 4, 1, node, 9, 1, NULL, 0, 1),
+          ZORAMBI_TABLE_TOO_SHORT, -1);
+}
+
+static void check_model(void) {
+  answers("a model of nothing", zorambi_check_model(NULL, 0, 0, 0, 0, 0, NULL, 0, 0), ZORAMBI_ROOT, -1);
+  answers("root 3, no pair", zorambi_check_model(schema, 20, 5, 3, 1, 1, NULL, 0, 0), ZORAMBI_ACCEPTED, 0);
+  answers("schema rows of a model counted", zorambi_check_model(NULL, 0, 5, 3, 1, 1, NULL, 0, 0), ZORAMBI_TABLE_TOO_SHORT, -1);
+  answers("pairs counted", zorambi_check_model(schema, 20, 5, 3, 1, 1, NULL, 0, 1), ZORAMBI_TABLE_TOO_SHORT, -1);
+}
+
+static int all_zero(const int32_t *numbers, size_t count) {
+  for (size_t i = 0; i < count; i++)
+    if (numbers[i] != 0) return 0;
+  return 1;
+}
+
+static int32_t table[4096], nodes[9216], members[8192];
+
+static void read_schema(void) {
+  int32_t results[3] = {7, 7, 7};
+  memset(table, 7, sizeof table);
+  answers("no schema text", zorambi_read_schema(NULL, 0, table, 4096, results), ZORAMBI_HEADING, 1);
+  test("no schema text, memory", all_zero(table, 4096) && all_zero(results, 3));
+  const uint8_t *text = (const uint8_t *)schema_text;
+  answers("no table", zorambi_read_schema(text, strlen(schema_text), NULL, 0, results), ZORAMBI_TABLE_TOO_SHORT, 0);
+  answers("neither", zorambi_read_schema(NULL, 0, NULL, 0, results), ZORAMBI_TABLE_TOO_SHORT, 0);
+}
+
+static void read_proof(void) {
+  static const uint8_t text[] = "kind a b c\nup rule on with other to by set\n";
+  const size_t length = sizeof text - 1;
+  int32_t results[3] = {7, 7, 7};
+  answers("no proof text", zorambi_read_proof(NULL, 0, table, 4096, nodes, 9216, members, 8192, results), ZORAMBI_HEADING, 1);
+  answers("no proof rows' table", zorambi_read_proof(text, length, NULL, 0, nodes, 9216, members, 8192, results),
+          ZORAMBI_TABLE_TOO_SHORT, 0);
+  answers("no nodes' table", zorambi_read_proof(text, length, table, 4096, NULL, 0, members, 8192, results),
+          ZORAMBI_TABLE_TOO_SHORT, 0);
+  answers("no members' table", zorambi_read_proof(text, length, table, 4096, nodes, 9216, NULL, 0, results),
+          ZORAMBI_TABLE_TOO_SHORT, 0);
+  answers("no table for a proof", zorambi_read_proof(NULL, 0, NULL, 0, NULL, 0, NULL, 0, results), ZORAMBI_TABLE_TOO_SHORT, 0);
+  answers("a proof without rows", zorambi_read_proof(text, length, table, 4096, nodes, 9216, members, 8192, results),
+          ZORAMBI_ACCEPTED, 0);
+}
+
+static void read_model(void) {
+  static const uint8_t text[] = "n\n1\nsymbol index\n";
+  int32_t results[2] = {7, 7};
+  answers("no model text", zorambi_read_model(NULL, 0, members, 8192, results), ZORAMBI_HEADING, 1);
+  answers("no pairs' table", zorambi_read_model(text, sizeof text - 1, NULL, 0, results), ZORAMBI_TABLE_TOO_SHORT, 0);
+  answers("nothing for a model", zorambi_read_model(NULL, 0, NULL, 0, results), ZORAMBI_TABLE_TOO_SHORT, 0);
+}
+
+static void wrote(const char *name, uint64_t packed, const uint8_t *out, const char *text) {
+  answers(name, packed, ZORAMBI_ACCEPTED, 0);
+  test(name, zorambi_bytes(packed) == strlen(text) && memcmp(out, text, strlen(text)) == 0);
+}
+
+static void writing(void) {
+  uint8_t out[100];
+  wrote("a schema without rows", zorambi_write_schema(NULL, 0, 0, 4, 1, out, sizeof out), out, "root least\n4 1\nkind a b c\n");
+  answers("rows to write counted", zorambi_write_schema(NULL, 0, 1, 4, 1, out, sizeof out), ZORAMBI_TABLE_TOO_SHORT, -1);
+  answers("no output for a schema", zorambi_write_schema(schema, 20, 5, 4, 1, NULL, 0), ZORAMBI_OUTPUT, -1);
+
+  wrote("a proof without nodes", zorambi_write_proof(NULL, 0, 0, NULL, 0, 0, NULL, 0, 0, out, sizeof out), out,
+        "kind a b c\nup rule on with other to by set\n");
+  answers("proof rows to write counted", zorambi_write_proof(NULL, 0, 1, node, 9, 1, member, 1, 1, out, sizeof out),
+          ZORAMBI_TABLE_TOO_SHORT, -1);
+  answers("nodes to write counted", zorambi_write_proof(proof, 16, 4, NULL, 0, 1, member, 1, 1, out, sizeof out),
+          ZORAMBI_TABLE_TOO_SHORT, -1);
+  answers("members to write counted", zorambi_write_proof(proof, 16, 4, node, 9, 1, NULL, 0, 1, out, sizeof out),
+          ZORAMBI_TABLE_TOO_SHORT, -1);
+  answers("no output for a proof", zorambi_write_proof(proof, 16, 4, node, 9, 1, member, 1, 1, NULL, 0), ZORAMBI_OUTPUT, -1);
+
+  wrote("a model without pairs", zorambi_write_model(3, NULL, 0, 0, out, sizeof out), out, "n\n3\nsymbol index\n");
+  answers("pairs to write counted", zorambi_write_model(3, NULL, 0, 1, out, sizeof out), ZORAMBI_TABLE_TOO_SHORT, -1);
+  answers("no output for a model", zorambi_write_model(3, NULL, 0, 0, NULL, 0), ZORAMBI_OUTPUT, -1);
+}
+
+static void lines(void) {
+  size_t span[2] = {7, 7};
+  zorambi_line(NULL, 0, 1, span);
+  test("a line of no text", span[0] == 0 && span[1] == 0);
+  const uint8_t *text = (const uint8_t *)schema_text;
+  points("no texts", zorambi_check_fault(NULL, 0, NULL, 0), 0, 1);
+  points("no schema to point into", zorambi_check_fault(NULL, 0, text, strlen(schema_text)), 0, 1);
+  points("no proof to point into", zorambi_check_fault(text, strlen(schema_text), NULL, 0), 1, 1);
+  points("no texts of a model", zorambi_model_fault(NULL, 0, NULL, 0), 0, 1);
+  points("no schema of a model", zorambi_model_fault(NULL, 0, text, strlen(schema_text)), 0, 1);
+  points("no model to point into", zorambi_model_fault(text, strlen(schema_text), NULL, 0), 1, 1);
+}
+
+int main(void) {
+  check();
+  check_model();
+  read_schema();
+  read_proof();
+  read_model();
+  writing();
+  lines();
+  printf("%d passed, %d failed\n", passed, failed);
+  return failed > 0;
+}

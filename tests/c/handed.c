@@ -1,0 +1,72 @@
+/* What the header's functions hand on to the library, with stand-ins for it: every argument as it is, and for a slice of count 0
+ * an address. */
+#include <stdio.h>
+
+#include "zorambi.h"
+
+extern uintptr_t seen[14];
+extern size_t seen_count;
+
+static int passed, failed;
+
+/* An address, whichever it is. */
+#define SOME UINTPTR_MAX
+#define AT(pointer) ((uintptr_t)(const void *)(pointer))
+
+static int as_expected(const uintptr_t *expected, size_t count) {
+  if (seen_count != count) return 0;
+  for (size_t i = 0; i < count; i++)
+    if (expected[i] == SOME ? seen[i] == 0 : seen[i] != expected[i]) return 0;
+  return 1;
+}
+
+static void test(const char *call, int right) {
+  if (right) {
+    passed++;
+  } else {
+    failed++;
+    printf("FAILED %s\n", call);
+  }
+}
+
+/* The call, the stand-in's answer, and what it has to see. */
+#define HANDS(call, answer, ...)                                                     \
+  do {                                                                               \
+    const uintptr_t expected[] = {__VA_ARGS__};                                      \
+    const uint64_t back = (call);                                                    \
+    test(#call, back == answer && as_expected(expected, sizeof expected / sizeof expected[0])); \
+  } while (0)
+
+int main(void) {
+  int32_t a[1] = {0}, b[1] = {0}, c[1] = {0}, d[1] = {0}, r[3] = {0};
+  uint8_t s[1] = {0}, t[1] = {0};
+  size_t span[2] = {0};
+
+  HANDS(zorambi_check(a, 11, 12, b, 13, 14, 15, 16, c, 17, 18, d, 19, 20), 1,
+        AT(a), 11, 12, AT(b), 13, 14, 15, 16, AT(c), 17, 18, AT(d), 19, 20);
+  HANDS(zorambi_check(NULL, 0, 12, NULL, 0, 14, 15, 16, NULL, 0, 18, NULL, 0, 20), 1,
+        SOME, 0, 12, SOME, 0, 14, 15, 16, SOME, 0, 18, SOME, 0, 20);
+  HANDS(zorambi_check_model(a, 11, 12, 13, 14, 15, b, 16, 17), 2, AT(a), 11, 12, 13, 14, 15, AT(b), 16, 17);
+  HANDS(zorambi_check_model(NULL, 0, 12, 13, 14, 15, NULL, 0, 17), 2, SOME, 0, 12, 13, 14, 15, SOME, 0, 17);
+  HANDS(zorambi_read_schema(s, 11, a, 12, r), 3, AT(s), 11, AT(a), 12, AT(r));
+  HANDS(zorambi_read_schema(NULL, 0, NULL, 0, r), 3, SOME, 0, SOME, 0, AT(r));
+  HANDS(zorambi_read_proof(s, 11, a, 12, b, 13, c, 14, r), 4, AT(s), 11, AT(a), 12, AT(b), 13, AT(c), 14, AT(r));
+  HANDS(zorambi_read_proof(NULL, 0, NULL, 0, NULL, 0, NULL, 0, r), 4, SOME, 0, SOME, 0, SOME, 0, SOME, 0, AT(r));
+  HANDS(zorambi_read_model(s, 11, a, 12, r), 5, AT(s), 11, AT(a), 12, AT(r));
+  HANDS(zorambi_read_model(NULL, 0, NULL, 0, r), 5, SOME, 0, SOME, 0, AT(r));
+  HANDS(zorambi_write_schema(a, 11, 12, 13, 14, s, 15), 6, AT(a), 11, 12, 13, 14, AT(s), 15);
+  HANDS(zorambi_write_schema(NULL, 0, 12, 13, 14, NULL, 0), 6, SOME, 0, 12, 13, 14, SOME, 0);
+  HANDS(zorambi_write_proof(a, 11, 12, b, 13, 14, c, 15, 16, s, 17), 7, AT(a), 11, 12, AT(b), 13, 14, AT(c), 15, 16, AT(s), 17);
+  HANDS(zorambi_write_proof(NULL, 0, 12, NULL, 0, 14, NULL, 0, 16, NULL, 0), 7, SOME, 0, 12, SOME, 0, 14, SOME, 0, 16, SOME, 0);
+  HANDS(zorambi_write_model(11, a, 12, 13, s, 14), 8, 11, AT(a), 12, 13, AT(s), 14);
+  HANDS(zorambi_write_model(11, NULL, 0, 13, NULL, 0), 8, 11, SOME, 0, 13, SOME, 0);
+  HANDS((zorambi_line(s, 11, 12, span), 0), 0, AT(s), 11, 12, AT(span));
+  HANDS((zorambi_line(NULL, 0, 12, span), 0), 0, SOME, 0, 12, AT(span));
+  HANDS(zorambi_check_fault(s, 11, t, 12), 9, AT(s), 11, AT(t), 12);
+  HANDS(zorambi_check_fault(NULL, 0, NULL, 0), 9, SOME, 0, SOME, 0);
+  HANDS(zorambi_model_fault(s, 11, t, 12), 10, AT(s), 11, AT(t), 12);
+  HANDS(zorambi_model_fault(NULL, 0, NULL, 0), 10, SOME, 0, SOME, 0);
+
+  printf("%d passed, %d failed\n", passed, failed);
+  return failed > 0;
+}

@@ -1,0 +1,82 @@
+/* In the place of the library: each function notes what it was called with. */
+#include <stddef.h>
+#include <stdint.h>
+
+uintptr_t seen[14];
+size_t seen_count;
+
+#define NOTE(...)                                              \
+  do {                                                         \
+    const uintptr_t noted[] = {__VA_ARGS__};                   \
+    seen_count = sizeof noted / sizeof noted[0];               \
+    for (size_t i = 0; i < seen_count; i++) seen[i] = noted[i]; \
+  } while (0)
+#define AT(pointer) ((uintptr_t)(const void *)(pointer))
+#define NUMBER(number) ((uintptr_t)(intptr_t)(number))
+
+uint64_t zorambi_check(const int32_t *schema, size_t schema_len, size_t schema_rows,
+                       const int32_t *proof, size_t proof_len, size_t proof_rows,
+                       int32_t root, int32_t least,
+                       const int32_t *nodes, size_t nodes_len, size_t node_rows,
+                       const int32_t *members, size_t members_len, size_t member_count) {
+  NOTE(AT(schema), schema_len, schema_rows, AT(proof), proof_len, proof_rows, NUMBER(root), NUMBER(least),
+       AT(nodes), nodes_len, node_rows, AT(members), members_len, member_count);
+  return 1;
+}
+
+uint64_t zorambi_check_model(const int32_t *schema, size_t schema_len, size_t schema_rows,
+                             int32_t root, int32_t least, int32_t n,
+                             const int32_t *pairs, size_t pairs_len, size_t pair_rows) {
+  NOTE(AT(schema), schema_len, schema_rows, NUMBER(root), NUMBER(least), NUMBER(n), AT(pairs), pairs_len, pair_rows);
+  return 2;
+}
+
+uint64_t zorambi_read_schema(const uint8_t *text, size_t text_len, int32_t *table, size_t table_len, int32_t results[3]) {
+  NOTE(AT(text), text_len, AT(table), table_len, AT(results));
+  return 3;
+}
+
+uint64_t zorambi_read_proof(const uint8_t *text, size_t text_len, int32_t *table, size_t table_len,
+                            int32_t *nodes, size_t nodes_len, int32_t *members, size_t members_len, int32_t results[3]) {
+  NOTE(AT(text), text_len, AT(table), table_len, AT(nodes), nodes_len, AT(members), members_len, AT(results));
+  return 4;
+}
+
+uint64_t zorambi_read_model(const uint8_t *text, size_t text_len, int32_t *pairs, size_t pairs_len, int32_t results[2]) {
+  NOTE(AT(text), text_len, AT(pairs), pairs_len, AT(results));
+  return 5;
+}
+
+uint64_t zorambi_write_schema(const int32_t *table, size_t table_len, size_t rows, int32_t root, int32_t least,
+                              uint8_t *out, size_t out_len) {
+  NOTE(AT(table), table_len, rows, NUMBER(root), NUMBER(least), AT(out), out_len);
+  return 6;
+}
+
+uint64_t zorambi_write_proof(const int32_t *table, size_t table_len, size_t rows,
+                             const int32_t *nodes, size_t nodes_len, size_t node_rows,
+                             const int32_t *members, size_t members_len, size_t member_count,
+                             uint8_t *out, size_t out_len) {
+  NOTE(AT(table), table_len, rows, AT(nodes), nodes_len, node_rows, AT(members), members_len, member_count, AT(out), out_len);
+  return 7;
+}
+
+uint64_t zorambi_write_model(int32_t n, const int32_t *pairs, size_t pairs_len, size_t pair_rows,
+                             uint8_t *out, size_t out_len) {
+  NOTE(NUMBER(n), AT(pairs), pairs_len, pair_rows, AT(out), out_len);
+  return 8;
+}
+
+void zorambi_line(const uint8_t *text, size_t text_len, size_t k, size_t span[2]) {
+  NOTE(AT(text), text_len, k, AT(span));
+}
+
+uint64_t zorambi_check_fault(const uint8_t *schema, size_t schema_len, const uint8_t *proof, size_t proof_len) {
+  NOTE(AT(schema), schema_len, AT(proof), proof_len);
+  return 9;
+}
+
+uint64_t zorambi_model_fault(const uint8_t *schema, size_t schema_len, const uint8_t *model, size_t model_len) {
+  NOTE(AT(schema), schema_len, AT(model), model_len);
+  return 10;
+}
