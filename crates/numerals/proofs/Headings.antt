@@ -145,7 +145,7 @@ module _ (text : List ℕ) (at : ℕ) (h : List ℕ) (k : ℕ) where
   heading-stops e = heading-of h k (drop at text) ∙ ap (λ (t : Bool). require t Heading k (read (lines (afterLine (drop at text))))) e
 
   module _ (none : lacks 10 h ≡ true) (e : isHeading h (drop at text) ≡ true) where
-    pub heading-passed : afterLine (drop at text) ≡ drop (at + suc (length h)) text
+    heading-passed : afterLine (drop at text) ≡ drop (at + suc (length h)) text
     heading-passed = heading-after h (drop at text) none e ∙ drop-drop (suc (length h)) at text
 
     pub heading-reads : headingAt h k (lines (drop at text)) ≡ read (lines (drop (at + suc (length h)) text))

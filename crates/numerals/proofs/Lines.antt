@@ -1,21 +1,21 @@
 -- The first line of a text: as the definitions have it, and by its first field.
-use Prim.Native.Nat.{ℕ, _+_, _-_, _≤_}
+use Prim.Native.Nat.{ℕ, suc, _+_, _-_, _≤_}
 use native.Mathlib.Omega.{arith}
 use mathlib.Core.Path.{_≡_, refl, sym, _∙_, ap, ap₂}
 use mathlib.Core.Logic.{_⊎_, ⊎-elim}
-use mathlib.Core.Bool.{true, false, true≢false}
+use mathlib.Core.Bool.{Bool, true, false, true≢false}
 use mathlib.Core.List.{List, [], _∷_, _++_}
-use mathlib.Core.Option.{Option, none, some}
+use mathlib.Core.Option.{Option, none, some, Option·none-ne-some, Option·some-injective}
 use lib.Dec.{eqb}
 use lib.IntN.{ℤ}
 use lib.ListN.{length, drop}
 use borrow.Author.Tests.{eq-eqb, ne-eqb}
-use Rattle.stab.specs.Basic.{_and_, _or_}
-use Rattle.stab.specs.Text.{Line, newline, lines, inFront, inFrontOf, numbersIn, numbers, numberOf}
+use Rattle.stab.specs.Basic.{if_then_else_, _and_, _or_}
+use Rattle.stab.specs.Text.{Line, newline, lines, inFront, inFrontOf, numbersIn, numbers, numberOf, isDigit, fields, space, intoField}
 use Rattle.stab.proofs.Bools.{and-both, if-true, if-false, decide, not-of-false}
 use Rattle.stab.proofs.Texts.Lines.{lacks, fields-last, fields-space}
-use Rattle.numerals.specs.Here.{firstLine, afterLine, row, endsField, field, fieldEnd, pastField, numberHere}
-use Rattle.numerals.proofs.Fields.{field-none, field-more, end-here, end-later, ends-cases, ends-nonzero, ends-space, ends-line}
+use Rattle.numerals.specs.Here.{firstLine, afterLine, row, ifNumber, numbersUpTo, firstNumbers, endsField, field, fieldEnd, pastField, numberHere}
+use Rattle.numerals.proofs.Fields.{field-none, field-more, end-here, end-later, ends-cases, ends-nonzero, ends-space, ends-line, natural-other, plainOf, here-plain}
 use Rattle.numerals.proofs.Steps.{end-or-none}
 
 -- ---- one byte in front of a text
@@ -210,6 +210,124 @@ row-space xs h =
     spaced : (l : List ℕ) → numbers (field xs ++ 32 ∷ l) ≡ inFrontOf (numberOf (field xs)) (numbers l)
     spaced l = unfold numbers numbersIn in ap numbersIn (fields-space (field xs) l (field-lacks xs))
 
+-- ---- the numbers that a line starts with
+
+-- no line is without a field
+pub some-field : (l : List ℕ) → (f : List ℕ) × (fs : List (List ℕ)) × (fields l ≡ f ∷ fs)
+unfolding fields space intoField
+some-field [] = ([], [], refl)
+some-field (x ∷ xs) =
+    ⊎-elim
+    (λ e. ([], fields xs, if-true (eqb x 32) _ _ e))
+    (λ e. let g = some-field xs in (x ∷ g .0, g .1, if-false (eqb x 32) _ _ e ∙ ap (intoField x) (g .2)))
+    (decide (eqb x 32))
+
+-- a field without an end is all there is
+line-open : (xs : List ℕ) → fieldEnd xs ≡ 0 → firstLine xs .content ≡ field xs
+line-open [] h = unfold firstLine field in refl
+line-open (x ∷ xs) h =
+    ⊎-elim
+    (λ e. absurd (ends-nonzero x e (sym (end-here x xs e) ∙ h)))
+    (λ e. ap (λ (l : Line). l .content) (line-byte x xs (not-line x e)) ∙ ap (λ (f : List ℕ). x ∷ f) (line-open xs (sym (end-later x xs e) ∙ h)) ∙ sym (field-more x xs e))
+    (decide (endsField x))
+
+first-is : (xs : List ℕ) (t : Bool) (fs : List (List ℕ)) → firstLine xs .ended ≡ t → fields (firstLine xs .content) ≡ fs → firstNumbers xs ≡ numbersUpTo t fs
+unfolding firstNumbers
+first-is xs t fs p q = ap₂ numbersUpTo p q
+
+first-open : (xs : List ℕ) → fieldEnd xs ≡ 0 → firstNumbers xs ≡ []
+unfolding numbersUpTo if_then_else_
+first-open xs h = first-is xs false (field xs ∷ []) (no-end xs h) (ap fields (line-open xs h) ∙ fields-last (field xs) (field-lacks xs))
+
+first-end : (xs : List ℕ) → fieldEnd xs ≡ 10 → firstNumbers xs ≡ ifNumber (numberOf (field xs)) []
+unfolding numbersUpTo if_then_else_
+first-end xs h =
+    let g = line-ends xs h in
+    first-is xs true (field xs ∷ []) (g .ended) (ap fields (g .content) ∙ fields-last (field xs) (field-lacks xs))
+
+first-space : (xs : List ℕ) → fieldEnd xs ≡ 32 → firstNumbers xs ≡ ifNumber (numberOf (field xs)) (firstNumbers (drop (pastField xs) xs))
+unfolding numbersUpTo firstNumbers
+first-space xs h =
+    let g = line-goes xs h in
+    let ys = drop (pastField xs) xs in
+    let s = some-field (firstLine ys .content) in
+    first-is xs (firstLine ys .ended) (field xs ∷ (s .0 ∷ s .1)) (g .ended)
+    (ap fields (g .content) ∙ fields-space (field xs) (firstLine ys .content) (field-lacks xs) ∙ ap (λ (fs : List (List ℕ)). field xs ∷ fs) (s .2))
+    ∙ ap (λ (fs : List (List ℕ)). ifNumber (numberOf (field xs)) (numbersUpTo (firstLine ys .ended) fs)) (sym (s .2))
+
+-- of a row they are all its numbers
+front-up : (o : Option ℤ) (p : Option (List ℤ)) (us vs : List ℤ) → ((ws : List ℤ) → p ≡ some ws → us ≡ ws) → inFrontOf o p ≡ some vs → ifNumber o us ≡ vs
+unfolding inFrontOf ifNumber
+front-up none p us vs k h = absurd (Option·none-ne-some vs h)
+front-up (some z) none us vs k h = absurd (Option·none-ne-some vs h)
+front-up (some z) (some ws) us vs k h = ap (λ (l : List ℤ). z ∷ l) (k ws refl) ∙ Option·some-injective (z ∷ ws) vs h
+
+up-to-all : (fs : List (List ℕ)) (vs : List ℤ) → numbersIn fs ≡ some vs → numbersUpTo true fs ≡ vs
+unfolding numbersIn numbersUpTo if_then_else_
+up-to-all [] vs h = Option·some-injective [] vs h
+up-to-all (f ∷ []) vs h = front-up (numberOf f) (some []) [] vs (λ ws e. Option·some-injective [] ws e) h
+up-to-all (f ∷ (g ∷ fs)) vs h = front-up (numberOf f) (numbersIn (g ∷ fs)) (numbersUpTo true (g ∷ fs)) vs (λ ws e. up-to-all (g ∷ fs) ws e) h
+
+pub row-ended : (xs : List ℕ) (vs : List ℤ) → row xs ≡ some vs → firstLine xs .ended ≡ true
+row-ended xs vs h = ⊎-elim (λ e. e) (λ e. absurd (Option·none-ne-some vs (sym (row-not xs e) ∙ h))) (decide (firstLine xs .ended))
+
+pub row-numbers : (xs : List ℕ) (vs : List ℤ) → row xs ≡ some vs → firstNumbers xs ≡ vs
+row-numbers xs vs h =
+    let e = row-ended xs vs h in
+    first-is xs true (fields (firstLine xs .content)) e refl
+    ∙ up-to-all (fields (firstLine xs .content)) vs (unfold numbers in sym (row-is xs (firstLine xs .content) e refl) ∙ h)
+
+-- there are no more of them than bytes
+number-few : (o : Option ℤ) (vs : List ℤ) (n : ℕ) → length vs ≤ n → length (ifNumber o vs) ≤ n + 1
+unfolding ifNumber
+number-few none vs n h = omega arith
+number-few (some z) vs n h = omega arith
+
+up-to-few : (t : Bool) (fs : List (List ℕ)) → length (numbersUpTo t fs) ≤ length fs
+unfolding numbersUpTo if_then_else_
+up-to-few t [] = omega arith
+up-to-few true (f ∷ []) = omega (arith, number-few (numberOf f) [] 0 (omega arith))
+up-to-few false (f ∷ []) = omega arith
+up-to-few t (f ∷ (g ∷ fs)) = omega (arith, number-few (numberOf f) (numbersUpTo t (g ∷ fs)) (length (g ∷ fs)) (up-to-few t (g ∷ fs)))
+
+into-length : (x : ℕ) (fs : List (List ℕ)) (n : ℕ) → length fs ≤ n + 1 → length (intoField x fs) ≤ n + 1
+unfolding intoField
+into-length x [] n h = omega arith
+into-length x (f ∷ fs) n h = omega arith
+
+fields-few : (l : List ℕ) → length (fields l) ≤ length l + 1
+unfolding fields space
+fields-few [] = omega arith
+fields-few (x ∷ xs) =
+    ⊎-elim
+    (λ e. omega (arith, ap length (if-true (eqb x 32) ([] ∷ fields xs) (intoField x (fields xs)) e), fields-few xs))
+    (λ e. omega (arith, ap length (if-false (eqb x 32) ([] ∷ fields xs) (intoField x (fields xs)) e), into-length x (fields xs) (length xs) (fields-few xs)))
+    (decide (eqb x 32))
+
+line-few : (xs : List ℕ) → length (firstLine xs .content) ≤ length xs
+line-few [] = unfold firstLine in omega arith
+line-few (x ∷ xs) =
+    ⊎-elim
+    (λ e. omega (arith, ap (λ (l : Line). length (l .content)) (line-end x xs e)))
+    (λ e. omega (arith, ap (λ (l : Line). length (l .content)) (line-byte x xs e), line-few xs))
+    (decide (eqb x 10))
+
+pub first-few : (xs : List ℕ) → length (firstNumbers xs) ≤ length xs + 1
+unfolding firstNumbers
+first-few xs = omega (arith, up-to-few (firstLine xs .ended) (fields (firstLine xs .content)), fields-few (firstLine xs .content), line-few xs)
+
+-- what follows a line's byte 10, by how long the line is
+pub after-ended : (xs : List ℕ) → firstLine xs .ended ≡ true → (afterLine xs ≡ drop (suc (length (firstLine xs .content))) xs) × (suc (length (firstLine xs .content)) ≤ length xs)
+after-ended [] h = absurd (true≢false (sym h ∙ unfold firstLine in refl))
+after-ended (x ∷ xs) h =
+    ⊎-elim
+    (λ e. let n = ap (λ (l : Line). length (l .content)) (line-end x xs e) in
+    (after-end x xs e ∙ ap (λ (k : ℕ). drop (suc k) (x ∷ xs)) (sym n), omega arith))
+    (λ e. let n = ap (λ (l : Line). length (l .content)) (line-byte x xs e) in
+    let r = after-ended xs (sym (ap (λ (l : Line). l .ended) (line-byte x xs e)) ∙ h) in
+    (after-byte x xs e ∙ r .0 ∙ ap (λ (k : ℕ). drop (suc k) (x ∷ xs)) (sym n), omega (arith, r .1)))
+    (decide (eqb x 10))
+
 -- ---- the number that a line starts with
 
 -- a field that has an end lies within the text
@@ -247,8 +365,29 @@ module _ (xs : List ℕ) where
   unfolding inFrontOf
   row-last z h e = row-end xs e ∙ ap (λ (o : Option ℤ). inFrontOf o (some [])) (sym (here-closed (ends-line _ e)) ∙ h)
 
+  pub first-none : numberHere xs ≡ none → firstNumbers xs ≡ []
+  unfolding ifNumber
+  first-none h =
+      ⊎-elim
+      (λ e. first-open xs e)
+      (λ e. let n = sym (here-closed e) ∙ h in
+      ⊎-elim
+      (λ p. first-space xs p ∙ ap (λ (o : Option ℤ). ifNumber o (firstNumbers (drop (pastField xs) xs))) n)
+      (λ p. first-end xs p ∙ ap (λ (o : Option ℤ). ifNumber o []) n)
+      (ends-cases _ e))
+      (end-or-none xs)
+
+  pub first-more : (z : ℤ) → numberHere xs ≡ some z → fieldEnd xs ≡ 32 → firstNumbers xs ≡ z ∷ firstNumbers (drop (pastField xs) xs)
+  unfolding ifNumber
+  first-more z h e = first-space xs e ∙ ap (λ (o : Option ℤ). ifNumber o (firstNumbers (drop (pastField xs) xs))) (sym (here-closed (ends-space _ e)) ∙ h)
+
   pub after-more : fieldEnd xs ≡ 32 → afterLine xs ≡ afterLine (drop (pastField xs) xs)
   after-more e = line-goes xs e .after
 
   pub after-last : fieldEnd xs ≡ 10 → afterLine xs ≡ drop (pastField xs) xs
   after-last e = line-ends xs e .after
+
+-- a byte that no number starts with
+pub first-other : (x : ℕ) (xs : List ℕ) → isDigit x ≡ false → (x ≡ 45 → ⊥) → firstNumbers (x ∷ xs) ≡ []
+unfolding plainOf
+first-other x xs h m = first-none (x ∷ xs) (here-plain (x ∷ xs) m ∙ ap plainOf (natural-other x xs h))

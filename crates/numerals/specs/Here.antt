@@ -7,7 +7,7 @@ use lib.Dec.{eqb}
 use lib.IntN.{ℤ}
 use lib.ListN.{length}
 use Rattle.stab.specs.Basic.{if_then_else_, _or_}
-use Rattle.stab.specs.Text.{Line, newline, space, sameBytes, isDigit, digitsValue, isNatural, someIf, numberOf, numbers}
+use Rattle.stab.specs.Text.{Line, newline, space, sameBytes, isDigit, digitsValue, isNatural, someIf, numberOf, fields, numbers}
 
 -- ---- the first line
 
@@ -26,6 +26,21 @@ afterLine (x ∷ xs) = if eqb x newline then xs else afterLine xs
 -- the numbers of a first line that has its byte 10
 unfoldable pub row : List ℕ → Option (List ℤ)
 row xs = if firstLine xs .ended then numbers (firstLine xs .content) else none
+
+-- a number in front of others; none in front of none
+unfoldable pub ifNumber : Option ℤ → List ℤ → List ℤ
+ifNumber none vs = []
+ifNumber (some z) vs = z ∷ vs
+
+-- numbers of a line's fields, up to one that is none; the last field is none where the line has no byte 10
+unfoldable pub numbersUpTo : Bool → List (List ℕ) → List ℤ
+numbersUpTo ended [] = []
+numbersUpTo ended (f ∷ []) = if ended then ifNumber (numberOf f) [] else []
+numbersUpTo ended (f ∷ (g ∷ fs)) = ifNumber (numberOf f) (numbersUpTo ended (g ∷ fs))
+
+-- the numbers that a first line starts with, whether or not it is a row
+unfoldable pub firstNumbers : List ℕ → List ℤ
+firstNumbers xs = numbersUpTo (firstLine xs .ended) (fields (firstLine xs .content))
 
 -- ---- the first field
 

@@ -8,5 +8,6 @@ pub mod Reached
 pub mod TakenLaws
 pub mod Others
 pub mod OnceLaws
+pub mod StepLaws
 pub mod SchemaLaws
 pub mod EndLaws

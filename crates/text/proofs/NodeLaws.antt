@@ -1,7 +1,6 @@
 -- Node rows of a text, as the definitions have them and as they are stored.
 use Prim.Native.Nat.{ℕ, suc, _+_, _*_, _-_, _<_, _≤_}
 use native.Mathlib.Omega.{arith}
-use native.Mathlib.Nat.{add-zero}
 use native.Mathlib.Numerals.{add-one}
 use mathlib.Core.Path.{_≡_, refl, sym, _∙_, ap, ap₂}
 use mathlib.Core.Bool.{Bool, false}
@@ -11,7 +10,7 @@ use lib.Dec.{leb}
 use lib.IntN.{ℤ, pos}
 use lib.ListN.{length, take, drop, getD, set, length-append, length-drop, drop-of-length-le}
 use lib.Seq.{sets, take-all, take-at, drop-at, drop-cons, length-take-le}
-use borrow.Author.Tests.{le-leb, lt-leb}
+use borrow.Author.Tests.{leb-true, le-leb, lt-leb}
 use Rattle.stab.specs.Basic.{_and_}
 use Rattle.stab.specs.Text.{Line, lines}
 use Rattle.stab.specs.Read.{Reading, read, stopped, _andThen_, require, nodeNumbers, nodesFrom}
@@ -19,16 +18,73 @@ use Rattle.stab.specs.declared.Refusal.the-variants.{TooMany}
 use Rattle.stab.specs.declared.Refusal.the-variants.{Line as BadLine}
 use Rattle.stab.proofs.Bools.{and-both, and-first-false, and-second-false}
 use Rattle.stab.proofs.Texts.Rows.{then-is}
-use Rattle.numerals.specs.Here.{afterLine, row}
-use Rattle.text.specs.Rows.{rowFront, wanted, RowEnded, RowOpen}
-use Rattle.text.specs.Nodes.{NodeRead, SetOf, NodeOf, nodesAhead}
+use Rattle.numerals.specs.Here.{afterLine, row, firstNumbers}
+use Rattle.text.specs.Rows.{rowFront, wanted, RowEnded, RowOpen, pastLine, rowInto}
+use Rattle.text.specs.Nodes.{SetOf, nodeFoundBy, nodeFound, setInto, nodesAhead}
 use Rattle.text.specs.declared.nodes.NodeFound.{NodeFound}
 use Rattle.text.specs.declared.nodes.NodeFound.the-variants.{At, Nothing}
-use Rattle.numerals.proofs.Lines.{lines-first, lines-nil}
+use Rattle.numerals.proofs.Lines.{lines-first, lines-nil, row-numbers, first-few}
 use Rattle.text.proofs.Parts.{sets-append}
-use Rattle.text.proofs.RowLaws.{wanted-if, wanted-not, lineRead, values-are, take-sets, then-stops}
+use Rattle.text.proofs.RowLaws.{wanted-if, wanted-not, wanted-some, past-row, past-only, lineRead, values-are, take-sets, then-stops}
 
 -- ---- one row
+
+-- A node row was read.
+pub record NodeRead (text : List ℕ) (at : ℕ) (t : List ℤ) (to : ℕ) (m : List ℤ) (start : ℕ) (t′ m′ : List ℤ) (next last : ℕ) : Type 0 where
+  pub vs : List ℤ
+  pub numbers : row (drop at text) ≡ some vs
+  pub many : 7 ≤ length vs
+  pub nodes : t′ ≡ sets t to (take 7 vs)
+  pub members : m′ ≡ sets m start (drop 7 vs)
+  pub count : last ≡ start + (length vs - 7)
+  pub rest : afterLine (drop at text) ≡ drop next text
+  pub ahead : at < next
+  pub within : next ≤ length text
+
+abbrev pub NodeOf : List ℕ → ℕ → List ℤ → ℕ → List ℤ → ℕ → List ℤ → List ℤ → NodeFound → Type 0
+NodeOf text at t to m start t′ m′ Nothing = wanted (leb 7) (row (drop at text)) ≡ none
+NodeOf text at t to m start t′ m′ (At next last) = NodeRead text at t to m start t′ m′ next last
+
+-- what is found, as a function of the row
+pub node-is : (text : List ℕ) (at : ℕ) (t : List ℤ) (to : ℕ) (m : List ℤ) (start : ℕ) (t′ m′ : List ℤ) (f : NodeFound) → NodeOf text at t to m start t′ m′ f → f ≡ nodeFound text at start
+unfolding nodeFound nodeFoundBy
+node-is text at t to m start t′ m′ Nothing h = sym (ap (λ (o : Option (List ℤ)). nodeFoundBy o (pastLine text at) start) h)
+node-is text at t to m start t′ m′ (At next last) r =
+    ap₂ At (past-only text at (r .vs) next (r .numbers) (r .rest) (r .within)) (r .count)
+    ∙ sym (ap (λ (o : Option (List ℤ)). nodeFoundBy o (pastLine text at) start) (ap (wanted (leb 7)) (r .numbers) ∙ wanted-if (leb 7) (r .vs) (le-leb 7 _ (r .many))))
+
+pub node-of : (text : List ℕ) (at : ℕ) (t : List ℤ) (to : ℕ) (m : List ℤ) (start : ℕ) → NodeOf text at t to m start (rowInto text at 7 to t) (setInto text at start m) (nodeFound text at start)
+unfolding nodeFound rowInto setInto nodeFoundBy
+node-of text at t to m start = go (wanted (leb 7) (row (drop at text))) refl
+  where
+    go : (o : Option (List ℤ)) → wanted (leb 7) (row (drop at text)) ≡ o
+        → NodeOf text at t to m start (sets t to (take 7 (firstNumbers (drop at text)))) (sets m start (drop 7 (firstNumbers (drop at text)))) (nodeFoundBy o (pastLine text at) start)
+    go none h = h
+    go (some vs) h =
+        let q = wanted-some (leb 7) (row (drop at text)) vs h in
+        let p = past-row text at vs (q .0) in
+        let e = row-numbers (drop at text) vs (q .0) in
+        record {
+          vs = vs;
+          numbers = q .0;
+          many = leb-true 7 (length vs) (q .1);
+          nodes = ap (λ (us : List ℤ). sets t to (take 7 us)) e;
+          members = ap (λ (us : List ℤ). sets m start (drop 7 us)) e;
+          count = refl;
+          rest = p .0;
+          ahead = p .1;
+          within = p .2;
+        }
+
+-- the set of a line: none where no more than seven numbers start it
+pub few-set : (text : List ℕ) (at start : ℕ) (m : List ℤ) → length (firstNumbers (drop at text)) ≤ 7 → m ≡ setInto text at start m
+unfolding setInto
+few-set text at start m l = ap (sets m start) (sym (drop-of-length-le (firstNumbers (drop at text)) {i = 7} l))
+
+-- and all of them fit a limit by the text's length
+pub all-set : (text : List ℕ) (at start : ℕ) (m : List ℤ) → rowInto text at (length text + 1) start m ≡ sets m start (firstNumbers (drop at text))
+unfolding rowInto
+all-set text at start m = ap (sets m start) (take-all (length text + 1) (firstNumbers (drop at text)) (omega (arith, first-few (drop at text), length-drop at text)))
 
 module _ (text : List ℕ) (at : ℕ) (t : List ℤ) (to : ℕ) (t′ : List ℤ) where
   abbrev here : Option (List ℤ)
@@ -41,6 +97,9 @@ module _ (text : List ℕ) (at : ℕ) (t : List ℤ) (to : ℕ) (t′ : List ℤ
   pub node-bad : here ≡ none → wanted (leb 7) here ≡ none
   unfolding wanted
   node-bad h = ap (wanted (leb 7)) h
+
+  pub ended-few : (to′ next : ℕ) → to′ ≤ to + 7 → RowEnded text at t to t′ to′ next → length (firstNumbers (drop at text)) ≤ 7
+  ended-few to′ next l r = omega (arith, r .count, ap length (row-numbers (drop at text) (r .vs) (r .numbers)))
 
   pub node-short : (to′ next : ℕ) → to′ ≤ to + 7 → (to′ ≡ to + 7 → ⊥) → RowEnded text at t to t′ to′ next → wanted (leb 7) here ≡ none
   node-short to′ next l n r =
@@ -83,6 +142,10 @@ module _ (text : List ℕ) (at : ℕ) (t : List ℤ) (to : ℕ) (t′ : List ℤ
           ahead = omega (arith, r .ahead, s .ahead);
           within = s .within;
         }
+
+    pub open-set : (m : List ℤ) (start : ℕ) → sets m start (firstNumbers (drop n text)) ≡ setInto text at start m
+    unfolding setInto
+    open-set m start = ap (sets m start) (sym (ap (drop 7) (r .first) ∙ drop-at (r .vs) _ 7 (omega (arith, r .count))))
 
     -- whatever the set comes to, the row comes to
     pub node-by-set : (m : List ℤ) (start : ℕ) (m′ : List ℤ) (f : NodeFound) → SetOf text n m start m′ f → NodeOf text at t to m start t′ m′ f
@@ -142,7 +205,7 @@ module _ (m start k x : ℕ) (xs : List ℕ) where
 -- ---- the loop over node rows: n of them and `start` members are stored, and the rest of the text starts at i
 
 -- the seven numbers and the two after them
-row-sets : (t : List ℤ) (i start size : ℕ) (vs : List ℤ) → 7 ≤ length vs
+pub row-sets : (t : List ℤ) (i start size : ℕ) (vs : List ℤ) → 7 ≤ length vs
     → set (set (sets t i (take 7 vs)) (i + 7) (pos start)) (i + 7 + 1) (pos size) ≡ sets t i (take 7 vs ++ pos start ∷ pos size ∷ [])
 row-sets t i start size vs l =
     let u = sets t i (take 7 vs) in
@@ -154,10 +217,6 @@ module _ (text : List ℕ) (line : ℕ) where
   -- what the whole comes to
   unfoldable pub nodesSoFar : List ℤ → List ℤ → ℕ → ℕ → ℕ → Reading (List ℤ × List ℤ)
   nodesSoFar t m n start i = nodesAhead (take (9 * n) t) (take start m) (nodesFrom (1024 - n) start (line + n) (lines (drop i text)))
-
-  pub nodes-start : (t m : List ℤ) (at : ℕ) → nodesSoFar t m 0 0 at ≡ nodesFrom 1024 0 line (lines (drop at text))
-  unfolding nodesSoFar
-  nodes-start t m at = nodes-ahead-none _ ∙ ap (λ (k : ℕ). nodesFrom 1024 0 k (lines (drop at text))) (add-zero line)
 
   pub nodes-done : (t m : List ℤ) (n start i : ℕ) → length text ≤ i → nodesSoFar t m n start i ≡ read (take (9 * n) t, take start m)
   unfolding nodesSoFar nodesFrom nodesAhead _andThen_

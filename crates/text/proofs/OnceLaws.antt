@@ -1,24 +1,26 @@
 -- The lines that stand once in a text, and its rows.
-use Prim.Native.Nat.{ℕ, _+_, _-_}
+use Prim.Native.Nat.{ℕ, _+_, _*_, _-_}
 use native.Mathlib.Omega.{arith}
 use mathlib.Core.Path.{_≡_, refl, sym, _∙_, ap, ap₂}
 use mathlib.Core.Bool.{false}
 use mathlib.Core.List.{List}
 use lib.Dec.{eqb}
 use lib.IntN.{ℤ, pos}
-use lib.ListN.{length, drop, getD}
+use lib.ListN.{drop, getD}
 use Rattle.stab.specs.Text.{Line, lines, schemaHeading, rowHeading, modelHeading, pairHeading}
 use Rattle.stab.specs.Read.{Reading, read, stopped, _andThen_, headingAt, valuesAt, rowsFrom, proofRowsFrom, readSchemaLines, readModelLines, readProofLines}
 use Rattle.stab.specs.declared.Refusal.the-variants.{Line as LineRefused}
 use Rattle.stab.proofs.Texts.Rows.{then-is}
-use Rattle.text.specs.Awaiting.{schema, model, schemaWith, modelWith, schemaRows, modelRows, asProof, rest, goesOn, Ready, Moved, headed, RowTaken, Listed}
+use Rattle.text.specs.Awaiting.{schema, model, schemaWith, modelWith, schemaRows, modelRows, asProof, rest, goesOn, Ready}
+use Rattle.text.specs.OneLine.{headed, rowBy, listedBy}
+use Rattle.text.specs.Rows.{rowFound, rowInto}
 use Rattle.text.specs.declared.awaited.Taken.{Taken}
 use Rattle.text.specs.declared.awaited.Awaited.{Awaited}
 use Rattle.text.specs.declared.awaited.Awaited.the-variants.{Row, Pair, Formula, SchemaHeading, SchemaValues, RowHeading, ModelHeading, ModelValue, PairHeading, ProofHeading, Schema, Model, BadLine}
 use Rattle.text.proofs.Openings.{then-then, then-same}
 use Rattle.text.proofs.ProofLaws.{proof-ahead-none}
-use Rattle.text.proofs.RowLaws.{ahead-none, then-stops, values-stop, front, rowsSoFar}
-use Rattle.text.proofs.TakenLaws.{stays, goes, heading-moved, row-moved, listed-moved}
+use Rattle.text.proofs.RowLaws.{into-length, ahead-none, then-stops, values-stop, front, rowsSoFar}
+use Rattle.text.proofs.TakenLaws.{Moved, stays, goes, heading-moved, row-moved, listed-moved}
 use Rattle.stab.proofs.Texts.Kinds.{schema-heading-lacks, row-heading-lacks, model-heading-lacks, pair-heading-lacks}
 
 -- ---- the definitions, one line at a time
@@ -79,15 +81,16 @@ module _ (text : List ℕ) (at : ℕ) (t u m : List ℤ) where
       heading-moved text at SchemaHeading t u m r schemaHeading schema-heading-lacks 1 SchemaValues (r .room) refl
       (λ ls. valuesAt (eqb 2) 2 ls andThen λ v. schemaRows (v .0) (v .1)) (schema-lines (lines (drop at text))) (λ ls. refl) a x
 
-  pub schema-values : Ready text at SchemaValues t u m → (u′ : List ℤ) → length u′ ≡ length u → (a : Taken) → RowTaken text at u 2 0 1 2 RowHeading u′ a
-      → Moved text at SchemaValues t u m (a .next) (a .got) t u′ m
+  pub schema-values : Ready text at SchemaValues t u m → (a : Taken) → a ≡ rowBy at 0 1 2 RowHeading (rowFound text at 2)
+      → Moved text at SchemaValues t u m (a .next) (a .got) t (rowInto text at 2 0 u) m
   unfolding rest
-  schema-values r u′ len a x =
-      row-moved text at SchemaValues t u m t u′ m a 0 1 2 RowHeading u u′ 0 2 (x .found) (x .row) (x .taken)
+  schema-values r a x =
+      let u′ = rowInto text at 2 0 u in
+      row-moved text at SchemaValues t u m t u′ m 0 1 2 RowHeading u 0 2 a x
       (λ y. stays text at SchemaValues t u m r (BadLine 2) t u′ m tt refl (then-stops (valuesAt (eqb 2) 2 (lines (drop at text))) _ LineRefused 2 (values-stop (eqb 2) 2 (drop at text) y)))
       (λ next y e. absurd (omega arith))
       (λ next y e. let f = front text at u 2 2 u′ next y (r .room .1) in
-      goes text at SchemaValues t u m r RowHeading t u′ m (r .room .0) next (y .ahead) (y .within) (y .rest)
+      goes text at SchemaValues t u m r RowHeading t u′ m (r .room .0) next (y .ahead) (y .within)
       (then-is (valuesAt (eqb 2) 2 (lines (drop at text))) _ (f .vs, lines (drop next text)) (f .values)
       ∙ schema-values-same (f .vs) u′ (lines (drop next text)) (f .at 0 (pos 0) (omega arith)) (f .at 1 (pos 0) (omega arith))) refl)
 
@@ -96,12 +99,12 @@ module _ (text : List ℕ) (at : ℕ) (t u m : List ℤ) where
   row-heading r a x =
       heading-moved text at RowHeading t u m r rowHeading row-heading-lacks 3 (Row 0) (omega arith, r .room) refl (λ ls. schemaWith u (rowsFrom 4 1024 4 ls)) refl (λ ls. ap (schemaWith u) (sym (ahead-none (rowsFrom 4 1024 4 ls)))) a x
 
-  pub schema-row : (n : ℕ) → Ready text at (Row n) t u m → (t′ : List ℤ) → length t′ ≡ length t → (a : Taken) → Listed text at t 4 n 1024 (Row (n + 1)) (Schema n) t′ a
-      → Moved text at (Row n) t u m (a .next) (a .got) t′ u m
+  pub schema-row : (n : ℕ) → Ready text at (Row n) t u m → (a : Taken) → a ≡ listedBy text at 4 n 1024 (Row (n + 1)) (Schema n)
+      → Moved text at (Row n) t u m (a .next) (a .got) (rowInto text at 4 (4 * n) t) u m
   unfolding rest rowsSoFar
-  schema-row n r t′ len a x =
+  schema-row n r a x =
       listed-moved text at (Row n) t u m r 4 n 1024 (Row (n + 1)) (Schema n) (schemaWith u) (λ why k. unfold schemaWith _andThen_ in refl) refl (r .room .0) (λ l. omega (arith, r .room .1)) refl refl
-      (omega (arith, r .room .0, r .room .1)) (λ ls. refl) t′ len (λ l. (omega arith, omega (arith, r .room .1))) (λ i. refl) a x
+      (omega (arith, r .room .0, r .room .1)) (λ ls. refl) (λ l. (omega arith, omega (arith, r .room .1, into-length text at 4 (4 * n) t))) (λ i. refl) a x
 
   -- ---- model
 
@@ -111,15 +114,16 @@ module _ (text : List ℕ) (at : ℕ) (t u m : List ℤ) where
       heading-moved text at ModelHeading t u m r modelHeading model-heading-lacks 1 ModelValue (r .room) refl
       (λ ls. valuesAt (eqb 1) 2 ls andThen λ v. modelRows (v .0) (v .1)) (model-lines (lines (drop at text))) (λ ls. refl) a x
 
-  pub model-value : Ready text at ModelValue t u m → (u′ : List ℤ) → length u′ ≡ length u → (a : Taken) → RowTaken text at u 1 0 1 2 PairHeading u′ a
-      → Moved text at ModelValue t u m (a .next) (a .got) t u′ m
+  pub model-value : Ready text at ModelValue t u m → (a : Taken) → a ≡ rowBy at 0 1 2 PairHeading (rowFound text at 1)
+      → Moved text at ModelValue t u m (a .next) (a .got) t (rowInto text at 1 0 u) m
   unfolding rest
-  model-value r u′ len a x =
-      row-moved text at ModelValue t u m t u′ m a 0 1 2 PairHeading u u′ 0 1 (x .found) (x .row) (x .taken)
+  model-value r a x =
+      let u′ = rowInto text at 1 0 u in
+      row-moved text at ModelValue t u m t u′ m 0 1 2 PairHeading u 0 1 a x
       (λ y. stays text at ModelValue t u m r (BadLine 2) t u′ m tt refl (then-stops (valuesAt (eqb 1) 2 (lines (drop at text))) _ LineRefused 2 (values-stop (eqb 1) 2 (drop at text) y)))
       (λ next y e. absurd (omega arith))
       (λ next y e. let f = front text at u 1 2 u′ next y (r .room .1) in
-      goes text at ModelValue t u m r PairHeading t u′ m (r .room .0) next (y .ahead) (y .within) (y .rest)
+      goes text at ModelValue t u m r PairHeading t u′ m (r .room .0) next (y .ahead) (y .within)
       (then-is (valuesAt (eqb 1) 2 (lines (drop at text))) _ (f .vs, lines (drop next text)) (f .values)
       ∙ model-value-same (f .vs) u′ (lines (drop next text)) (f .at 0 (pos 0) (omega arith))) refl)
 
@@ -128,12 +132,12 @@ module _ (text : List ℕ) (at : ℕ) (t u m : List ℤ) where
   pair-heading r a x =
       heading-moved text at PairHeading t u m r pairHeading pair-heading-lacks 3 (Pair 0) (omega arith, r .room) refl (λ ls. modelWith u (rowsFrom 2 4096 4 ls)) refl (λ ls. ap (modelWith u) (sym (ahead-none (rowsFrom 2 4096 4 ls)))) a x
 
-  pub model-pair : (k : ℕ) → Ready text at (Pair k) t u m → (t′ : List ℤ) → length t′ ≡ length t → (a : Taken) → Listed text at t 2 k 4096 (Pair (k + 1)) (Model k) t′ a
-      → Moved text at (Pair k) t u m (a .next) (a .got) t′ u m
+  pub model-pair : (k : ℕ) → Ready text at (Pair k) t u m → (a : Taken) → a ≡ listedBy text at 2 k 4096 (Pair (k + 1)) (Model k)
+      → Moved text at (Pair k) t u m (a .next) (a .got) (rowInto text at 2 (2 * k) t) u m
   unfolding rest rowsSoFar
-  model-pair k r t′ len a x =
+  model-pair k r a x =
       listed-moved text at (Pair k) t u m r 2 k 4096 (Pair (k + 1)) (Model k) (modelWith u) (λ why i. unfold modelWith _andThen_ in refl) refl (r .room .0) (λ l. omega (arith, r .room .1)) refl refl
-      (omega (arith, r .room .0, r .room .1)) (λ ls. refl) t′ len (λ l. (omega arith, omega (arith, r .room .1))) (λ i. refl) a x
+      (omega (arith, r .room .0, r .room .1)) (λ ls. refl) (λ l. (omega arith, omega (arith, r .room .1, into-length text at 2 (2 * k) t))) (λ i. refl) a x
 
   -- ---- proof
 

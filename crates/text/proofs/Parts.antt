@@ -5,23 +5,23 @@ use native.Mathlib.Nat.{add-zero}
 use mathlib.Core.Path.{_≡_, refl, sym, _∙_, ap, ap₂, subst}
 use mathlib.Core.Logic.{_⊎_, ⊎-elim}
 use mathlib.Core.Bool.{true}
-use mathlib.Core.List.{List, [], _∷_, _++_, append-assoc}
+use mathlib.Core.List.{List, [], _∷_, _++_, append-assoc, append-nil}
 use mathlib.Core.Option.{Option, none, some, Option·none-ne-some}
 use lib.Dec.{eqb}
 use lib.IntN.{ℤ}
-use lib.ListN.{length, drop, set, length-drop, length-append}
-use lib.Seq.{sets, drop-drop}
+use lib.ListN.{length, take, drop, set, length-drop, length-append}
+use lib.Seq.{sets, drop-drop, take-all, take-at}
 use borrow.Author.Tests.{eq-eqb}
 use Rattle.stab.specs.Text.{inFrontOf, numberOf}
 use Rattle.stab.proofs.Bools.{if-true}
-use Rattle.numerals.specs.Here.{afterLine, row, endsField, field, fieldEnd, pastField, numberHere}
+use Rattle.numerals.specs.Here.{afterLine, row, firstNumbers, endsField, field, fieldEnd, pastField, numberHere}
 use Rattle.numerals.specs.Numerals.{stepOf, keptOf, stepAt}
-use Rattle.text.specs.Rows.{rowFront, RowEnded, RowOpen}
+use Rattle.text.specs.Rows.{rowFront, RowEnded, RowOpen, rowInto}
 use Rattle.numerals.specs.declared.Step.{Step}
 use Rattle.numerals.specs.declared.Step.the-variants.{Bad, More, Last}
 use Rattle.numerals.proofs.Fields.{ends-space, ends-line, ends-cases}
 use Rattle.numerals.proofs.Steps.{step-space, step-line, end-or-none}
-use Rattle.numerals.proofs.Lines.{row-none, row-more, row-last, after-more, after-last, past-within}
+use Rattle.numerals.proofs.Lines.{row-none, row-more, row-last, row-numbers, first-none, first-more, after-more, after-last, past-within}
 
 -- ---- numbers in front
 
@@ -56,7 +56,7 @@ record Number (xs : List ℕ) (at e n : ℕ) : Type 0 where
   next : n ≡ at + pastField xs
 
 abbrev StepIs : List ℕ → ℕ → Step → Type 0
-StepIs xs at Bad = row xs ≡ none
+StepIs xs at Bad = numberHere xs ≡ none
 StepIs xs at (More n) = Number xs at 32 n
 StepIs xs at (Last n) = Number xs at 10 n
 
@@ -69,7 +69,7 @@ here-ends xs z h =
 
 step-by : (xs : List ℕ) (at : ℕ) (o : Option ℤ) → numberHere xs ≡ o → StepIs xs at (stepOf o (fieldEnd xs) (at + pastField xs))
 unfolding stepOf
-step-by xs at none q = row-none xs q
+step-by xs at none q = q
 step-by xs at (some z) q =
     ⊎-elim
     (λ e. subst (StepIs xs at) (sym (step-space _ _ e)) (record { z = z; is = q; end = e; next = refl }))
@@ -93,7 +93,7 @@ module _ (text : List ℕ) (at : ℕ) (t : List ℤ) (k n : ℕ) (t′ : List �
   number-rest e m = drop-drop (pastField (drop at text)) at text ∙ ap (λ (i : ℕ). drop i text) (sym (m .next))
 
   -- none stands there
-  pub step-bad : stepAt text at ≡ Bad → row (drop at text) ≡ none
+  pub step-bad : stepAt text at ≡ Bad → numberHere (drop at text) ≡ none
   step-bad h = subst (StepIs (drop at text) at) h (step-is text at)
 
   -- one stands there, and the line goes on
@@ -106,6 +106,7 @@ module _ (text : List ℕ) (at : ℕ) (t : List ℤ) (k n : ℕ) (t′ : List �
       record {
         vs = m .z ∷ [];
         numbers = row-more (drop at text) (m .z) (m .is) (m .end) ∙ front-one (m .z) _ ∙ ap (λ (xs : List ℕ). rowFront (m .z ∷ []) (row xs)) r;
+        first = first-more (drop at text) (m .z) (m .is) (m .end) ∙ ap (λ (xs : List ℕ). m .z ∷ firstNumbers xs) r;
         table = q ∙ ap (keptOf t k) (m .is);
         count = refl;
         rest = after-more (drop at text) (m .end) ∙ ap afterLine r;
@@ -134,12 +135,19 @@ module _ (text : List ℕ) (at : ℕ) (t : List ℤ) (k n : ℕ) (t′ : List �
 module _ (text : List ℕ) (at : ℕ) (t : List ℤ) (to : ℕ) where
   pub open-start : at ≤ length text → RowOpen text at t to t to at
   open-start l =
-      record { vs = []; numbers = front-none (row (drop at text)); table = refl; count = sym (add-zero to); rest = refl; ahead = omega arith; within = l }
+      record { vs = []; numbers = front-none (row (drop at text)); first = refl; table = refl; count = sym (add-zero to); rest = refl; ahead = omega arith; within = l }
 
   module _ (t₁ : List ℤ) (k i : ℕ) (p : RowOpen text at t to t₁ k i) where
-    pub open-bad : row (drop i text) ≡ none → row (drop at text) ≡ none
-    unfolding rowFront
-    open-bad h = p .numbers ∙ ap (rowFront (p .vs)) h
+    -- the next is no number, so the line is no row, and starts with what was stored
+    pub open-bad : numberHere (drop i text) ≡ none → (t₂ : List ℤ) → t₂ ≡ keptOf t₁ k (numberHere (drop i text)) → (w : ℕ) → k ≤ to + w
+        → ((row (drop at text) ≡ none) × (length (firstNumbers (drop at text)) ≤ w)) × (t₂ ≡ rowInto text at w to t)
+    unfolding rowFront keptOf rowInto
+    open-bad h t₂ q w l =
+        let e : firstNumbers (drop at text) ≡ p .vs = p .first ∙ ap (λ (us : List ℤ). p .vs ++ us) (first-none (drop i text) h) ∙ append-nil (p .vs) in
+        let n : length (firstNumbers (drop at text)) ≤ w = omega (arith, ap length e, p .count) in (
+          (p .numbers ∙ ap (rowFront (p .vs)) (row-none (drop i text) h), n),
+          q ∙ ap (keptOf t₁ k) h ∙ p .table ∙ ap (sets t to) (sym (take-all w (firstNumbers (drop at text)) n ∙ e)),
+        )
 
     -- what is stored after what was stored
     later : (us t₂ : List ℤ) → t₂ ≡ sets t₁ k us → t₂ ≡ sets t to (p .vs ++ us)
@@ -151,6 +159,7 @@ module _ (text : List ℕ) (at : ℕ) (t : List ℤ) (to : ℕ) where
         record {
           vs = p .vs ++ q .vs;
           numbers = p .numbers ∙ ap (rowFront (p .vs)) (q .numbers) ∙ front-front (p .vs) (q .vs) _;
+          first = p .first ∙ ap (λ (us : List ℤ). p .vs ++ us) (q .first) ∙ sym (append-assoc (p .vs) (q .vs) _);
           table = later (q .vs) t₂ (q .table);
           count = omega (arith, p .count, q .count);
           rest = p .rest ∙ q .rest;
@@ -171,3 +180,14 @@ module _ (text : List ℕ) (at : ℕ) (t : List ℤ) (to : ℕ) where
           ahead = omega (arith, p .ahead, q .ahead);
           within = q .within;
         }
+
+-- ---- what is then in the table
+
+module _ (text : List ℕ) (at : ℕ) (t : List ℤ) (to : ℕ) (t′ : List ℤ) (w next : ℕ) where
+  pub open-kept : RowOpen text at t to t′ (to + w) next → t′ ≡ rowInto text at w to t
+  unfolding rowInto
+  open-kept r = r .table ∙ ap (sets t to) (sym (ap (take w) (r .first) ∙ take-at (r .vs) _ w (omega (arith, r .count))))
+
+  pub ended-kept : (to′ : ℕ) → to′ ≤ to + w → RowEnded text at t to t′ to′ next → t′ ≡ rowInto text at w to t
+  unfolding rowInto
+  ended-kept to′ l r = r .table ∙ ap (sets t to) (sym (ap (take w) (row-numbers (drop at text) (r .vs) (r .numbers)) ∙ take-all w (r .vs) (omega (arith, r .count))))

@@ -125,10 +125,6 @@ module _ (text : List ℕ) where
   unfoldable pub proofSoFar : List ℤ → ℕ → ℕ → Reading ProofText
   proofSoFar t n i = proofAhead (take (4 * n) t) (proofRowsFrom (1024 - n) (2 + n) (lines (drop i text)))
 
-  pub formulas-start : (t : List ℤ) (at : ℕ) → proofSoFar t 0 at ≡ proofRowsFrom 1024 2 (lines (drop at text))
-  unfolding proofSoFar
-  formulas-start t at = proof-ahead-none _
-
   module _ (t : List ℤ) (n i : ℕ) (l : i < length text) (u : getD text i 256 ≡ 117 → ⊥) where
     first : drop i text ≡ getD text i 256 ∷ drop (suc i) text
     first = drop-cons text i 256 l

@@ -1,12 +1,13 @@
 -- What holds between two lines of a text that is read from `start` on.
 use Prim.Native.Nat.{ℕ}
 use mathlib.Core.Path.{_≡_, refl, _∙_}
-use mathlib.Core.Bool.{true, false, true≢false}
+use mathlib.Core.Bool.{false, true≢false}
 use mathlib.Core.List.{List, []}
 use lib.IntN.{ℤ}
 use lib.ListN.{drop}
 use Rattle.stab.specs.Text.{Line, lines}
-use Rattle.text.specs.Awaiting.{rest, goesOn, Ready, Moved, ReadAll}
+use Rattle.text.specs.Awaiting.{rest, goesOn, Ready, ReadAll}
+use Rattle.text.proofs.TakenLaws.{Moved}
 use Rattle.text.specs.declared.awaited.Awaited.{Awaited}
 use Rattle.text.specs.declared.awaited.Awaited.the-variants.{Row, Pair, Formula, Node, SchemaHeading, SchemaValues, RowHeading, ModelHeading, ModelValue, PairHeading, ProofHeading, Schema, Model, Proof, NoHeading, BadLine, TooMany}
 

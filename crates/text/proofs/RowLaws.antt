@@ -3,25 +3,25 @@ use Prim.Native.Nat.{ℕ, suc, _+_, _*_, _-_, _<_, _≤_}
 use native.Mathlib.Omega.{arith}
 use native.Mathlib.Numerals.{add-one}
 use mathlib.Core.Path.{_≡_, refl, sym, _∙_, ap, ap₂}
-use mathlib.Core.Logic.{_⊎_, ⊎-elim}
 use mathlib.Core.Bool.{Bool, true, false}
 use mathlib.Core.List.{List, [], _∷_, _++_, append-assoc, append-nil}
 use mathlib.Core.Option.{Option, none, some, Option·none-ne-some, Option·some-injective}
 use lib.Dec.{eqb, leb}
 use lib.IntN.{ℤ}
-use lib.ListN.{length, take, drop, getD, length-append, drop-of-length-le, List·getD-append}
-use lib.Seq.{sets, sets-eq, take-at, length-take-le, drop-cons}
-use borrow.Author.Tests.{eq-eqb, ne-eqb, le-leb, lt-leb}
+use lib.ListN.{length, take, drop, getD, length-append, length-drop, drop-of-length-le, List·getD-append}
+use lib.Seq.{sets, sets-eq, length-sets, take-at, take-all, length-take-le, drop-cons, drop-drop}
+use borrow.Author.Tests.{eqb-true, eq-eqb, ne-eqb, le-leb, lt-leb}
 use Rattle.stab.specs.Basic.{if_then_else_}
-use Rattle.stab.specs.Text.{Line, lines, fields, inFrontOf, intoField, numberOf, numbersIn, numbers, someIf, space}
+use Rattle.stab.specs.Text.{Line, lines, fields, inFrontOf, numberOf, numbersIn, numbers, someIf}
 use Rattle.stab.specs.Read.{Reading, read, stopped, _andThen_, require, valuesOf, values, valuesAt, rowsFrom}
 use Rattle.stab.specs.declared.Refusal.{Refusal}
 use Rattle.stab.specs.declared.Refusal.the-variants.{TooMany}
 use Rattle.stab.specs.declared.Refusal.the-variants.{Line as BadLine}
-use Rattle.stab.proofs.Bools.{if-true, if-false, decide}
-use Rattle.numerals.specs.Here.{firstLine, afterLine, row}
-use Rattle.text.specs.Rows.{rowFront, wanted, RowEnded, RowOpen, ahead}
-use Rattle.numerals.proofs.Lines.{lines-first, lines-nil}
+use Rattle.numerals.specs.Here.{firstLine, afterLine, row, firstNumbers, numberHere, fieldEnd}
+use Rattle.text.specs.Rows.{rowFront, wanted, RowEnded, RowOpen, pastLine, foundBy, rowFound, rowInto, ahead}
+use Rattle.text.specs.declared.rows.Found.{Found}
+use Rattle.text.specs.declared.rows.Found.the-variants.{At, Nothing}
+use Rattle.numerals.proofs.Lines.{lines-first, lines-nil, some-field, row-ended, row-numbers, first-none, after-ended}
 
 -- ---- how many numbers there are
 
@@ -30,15 +30,6 @@ unfolding inFrontOf
 front-length none p vs h = absurd (Option·none-ne-some vs h)
 front-length (some z) none vs h = absurd (Option·none-ne-some vs h)
 front-length (some z) (some ws) vs h = omega (arith, ap length (Option·some-injective (z ∷ ws) vs h))
-
-some-field : (l : List ℕ) → (f : List ℕ) × (fs : List (List ℕ)) × (fields l ≡ f ∷ fs)
-unfolding fields space intoField
-some-field [] = ([], [], refl)
-some-field (x ∷ xs) =
-    ⊎-elim
-    (λ e. ([], fields xs, if-true (eqb x 32) _ _ e))
-    (λ e. let g = some-field xs in (x ∷ g .0, g .1, if-false (eqb x 32) _ _ e ∙ ap (intoField x) (g .2)))
-    (decide (eqb x 32))
 
 -- a row has a number
 pub row-length : (xs : List ℕ) (vs : List ℤ) → row xs ≡ some vs → 1 ≤ length vs
@@ -61,9 +52,43 @@ pub wanted-not : (fits : ℕ → Bool) (vs : List ℤ) → fits (length vs) ≡ 
 unfolding wanted someIf
 wanted-not fits vs h = ap (λ (t : Bool). someIf t vs) h
 
+pub wanted-some : (fits : ℕ → Bool) (o : Option (List ℤ)) (vs : List ℤ) → wanted fits o ≡ some vs → (o ≡ some vs) × (fits (length vs) ≡ true)
+unfolding wanted
+wanted-some fits none vs h = absurd (Option·none-ne-some vs h)
+wanted-some fits (some us) vs h = go (fits (length us)) refl h
+  where
+    go : (t : Bool) → fits (length us) ≡ t → someIf t us ≡ some vs → (some us ≡ some vs) × (fits (length vs) ≡ true)
+    go true e q = unfold someIf in (q, ap (λ (ws : List ℤ). fits (length ws)) (sym (Option·some-injective us vs q)) ∙ e)
+    go false e q = unfold someIf in absurd (Option·none-ne-some vs q)
+
+-- the place after a row's line
+pub past-row : (text : List ℕ) (at : ℕ) (vs : List ℤ) → row (drop at text) ≡ some vs
+    → (afterLine (drop at text) ≡ drop (pastLine text at) text) × (at < pastLine text at) × (pastLine text at ≤ length text)
+unfolding pastLine
+past-row text at vs h =
+    let e = after-ended (drop at text) (row-ended (drop at text) vs h) in
+    let n = length (firstLine (drop at text) .content) in
+    (e .0 ∙ drop-drop (suc n) at text, omega arith, omega (arith, e .1, length-drop at text))
+
+pub past-only : (text : List ℕ) (at : ℕ) (vs : List ℤ) (next : ℕ) → row (drop at text) ≡ some vs → afterLine (drop at text) ≡ drop next text → next ≤ length text → next ≡ pastLine text at
+past-only text at vs next h e l =
+    let p = past-row text at vs h in
+    omega (arith, p .2, ap length (sym e ∙ p .0), length-drop next text, length-drop (pastLine text at) text)
+
 module _ (text : List ℕ) (at : ℕ) (t : List ℤ) (to w : ℕ) (t′ : List ℤ) where
   abbrev here : Option (List ℤ)
   here = row (drop at text)
+
+  -- what is found, as a function of the row
+  pub found-nothing : wanted (eqb w) here ≡ none → Nothing ≡ rowFound text at w
+  unfolding rowFound foundBy
+  found-nothing h = sym (ap (λ (o : Option (List ℤ)). foundBy o (pastLine text at)) h)
+
+  pub found-at : (next : ℕ) → RowEnded text at t to t′ (to + w) next → At next ≡ rowFound text at w
+  unfolding rowFound foundBy
+  found-at next r =
+      ap At (past-only text at (r .vs) next (r .numbers) (r .rest) (r .within))
+      ∙ sym (ap (λ (o : Option (List ℤ)). foundBy o (pastLine text at)) (ap (wanted (eqb w)) (r .numbers) ∙ wanted-if (eqb w) (r .vs) (eq-eqb w _ (omega (arith, r .count)))))
 
   pub row-bad : here ≡ none → wanted (eqb w) here ≡ none
   unfolding wanted
@@ -85,6 +110,48 @@ module _ (text : List ℕ) (at : ℕ) (t : List ℤ) (to w : ℕ) (t′ : List �
           let l = row-length (drop next text) us e in
           ap (wanted (eqb w)) (r .numbers ∙ ap (rowFront (r .vs)) e)
           ∙ wanted-not (eqb w) (r .vs ++ us) (ne-eqb w _ (λ q. omega (arith, r .count, length-append (r .vs) us)))
+
+-- a row of w numbers, into a table from `to` on
+abbrev pub RowOf : List ℕ → ℕ → List ℤ → ℕ → ℕ → List ℤ → Found → Type 0
+RowOf text at t to w t′ Nothing = wanted (eqb w) (row (drop at text)) ≡ none
+RowOf text at t to w t′ (At next) = RowEnded text at t to t′ (to + w) next
+
+pub row-of : (text : List ℕ) (at : ℕ) (t : List ℤ) (to w : ℕ) → RowOf text at t to w (rowInto text at w to t) (rowFound text at w)
+unfolding rowFound rowInto foundBy
+row-of text at t to w = go (wanted (eqb w) (row (drop at text))) refl
+  where
+    go : (o : Option (List ℤ)) → wanted (eqb w) (row (drop at text)) ≡ o → RowOf text at t to w (sets t to (take w (firstNumbers (drop at text)))) (foundBy o (pastLine text at))
+    go none h = h
+    go (some vs) h =
+        let q = wanted-some (eqb w) (row (drop at text)) vs h in
+        let c = eqb-true w (length vs) (q .1) in
+        let p = past-row text at vs (q .0) in
+        record {
+          vs = vs;
+          numbers = q .0;
+          table = ap (sets t to) (ap (take w) (row-numbers (drop at text) vs (q .0)) ∙ take-all w vs (omega arith));
+          count = ap (λ (n : ℕ). to + n) c;
+          rest = p .0;
+          ahead = p .1;
+          within = p .2;
+        }
+
+-- ---- what a line leaves in a table
+
+pub into-length : (text : List ℕ) (at w to : ℕ) (t : List ℤ) → length (rowInto text at w to t) ≡ length t
+unfolding rowInto
+into-length text at w to t = length-sets t to (take w (firstNumbers (drop at text)))
+
+-- a line that starts with no number
+pub into-none : (text : List ℕ) (at w to : ℕ) (t : List ℤ) → firstNumbers (drop at text) ≡ [] → t ≡ rowInto text at w to t
+unfolding rowInto
+into-none text at w to t h = sym (ap (λ (vs : List ℤ). sets t to (take w vs)) h ∙ ap (sets t to) (take-all w [] (omega arith)))
+
+pub first-over : (text : List ℕ) (at : ℕ) → length text ≤ at → firstNumbers (drop at text) ≡ []
+first-over text at l = ap firstNumbers (drop-of-length-le text l) ∙ first-none [] (unfold numberHere fieldEnd if_then_else_ in refl)
+
+pub into-over : (text : List ℕ) (at w to : ℕ) (t : List ℤ) → length text ≤ at → t ≡ rowInto text at w to t
+into-over text at w to t l = into-none text at w to t (first-over text at l)
 
 -- ---- the definitions' lines
 
@@ -159,16 +226,6 @@ module _ (text : List ℕ) (w most line : ℕ) where
   -- what the whole comes to
   unfoldable pub rowsSoFar : List ℤ → ℕ → ℕ → Reading (List ℤ)
   rowsSoFar t n i = ahead (take (w * n) t) (rowsFrom w (most - n) (line + n) (lines (drop i text)))
-
-  pub rows-start : (t : List ℤ) (at : ℕ) → rowsSoFar t 0 at ≡ rowsFrom w most line (lines (drop at text))
-  unfolding rowsSoFar
-  rows-start t at =
-      let a : w * 0 ≡ 0 = omega arith in
-      let b : most - 0 ≡ most = omega arith in
-      let c : line + 0 ≡ line = omega arith in
-      ap (λ (j : ℕ). ahead (take j t) (rowsFrom w (most - 0) (line + 0) (lines (drop at text)))) a
-      ∙ ahead-none _
-      ∙ ap₂ (λ (m k : ℕ). rowsFrom w m k (lines (drop at text))) b c
 
   pub rows-done : (t : List ℤ) (n i : ℕ) → length text ≤ i → rowsSoFar t n i ≡ read (take (w * n) t)
   unfolding rowsSoFar rowsFrom ahead _andThen_

@@ -1,24 +1,17 @@
--- What is awaited of a text, what its lines from there on come to, and what the reading of a line gives.
-use Prim.Native.Nat.{ℕ, suc, _+_, _*_, _-_, _<_, _≤_}
+-- What is awaited of a text, and what its lines from there on come to.
+use Prim.Native.Nat.{ℕ, suc, _+_, _*_, _-_, _≤_}
 use mathlib.Core.Path.{_≡_}
-use mathlib.Core.Logic.{_⊎_}
 use mathlib.Core.Bool.{Bool, true, false}
 use mathlib.Core.List.{List, []}
 use lib.Dec.{eqb}
 use lib.IntN.{ℤ, pos}
-use lib.ListN.{length, take, drop, getD}
-use Rattle.stab.specs.Basic.{if_then_else_}
+use lib.ListN.{length, take, getD}
 use Rattle.stab.specs.Text.{Line, lines, textLimit, rowHeading, pairHeading}
 use Rattle.stab.specs.Read.{Reading, read, stopped, _andThen_, headingAt, valuesAt, rowsFrom, nodesFrom, proofRowsFrom}
 use Rattle.stab.specs.Read.{SchemaText, readSchemaLines, ModelText, readModelLines, ProofText, readProofLines}
 use Rattle.stab.specs.declared.Refusal.the-variants.{Heading as HeadingRefused, Line as LineRefused, TooMany as TooManyRefused}
-use Rattle.numerals.specs.Here.{afterLine}
-use Rattle.text.specs.Rows.{RowOf, ahead, proofAhead}
-use Rattle.numerals.specs.Headings.{isHeading}
+use Rattle.text.specs.Rows.{ahead, proofAhead}
 use Rattle.text.specs.Nodes.{nodesAhead}
-use Rattle.text.specs.declared.rows.Found.{Found}
-use Rattle.text.specs.declared.rows.Found.the-variants.{At, Nothing}
-use Rattle.text.specs.declared.awaited.Taken.{Taken}
 use Rattle.text.specs.declared.awaited.Awaited.{Awaited}
 use Rattle.text.specs.declared.awaited.Awaited.the-variants.{Row, Pair, Formula, Node, SchemaHeading, SchemaValues, RowHeading, ModelHeading, ModelValue, PairHeading, ProofHeading, Schema, Model, Proof, NoHeading, BadLine, TooMany}
 
@@ -125,63 +118,8 @@ pub record Ready (text : List ℕ) (at : ℕ) (p : Awaited) (t u m : List ℤ) :
   pub short : length text ≤ textLimit
   pub room : Room p (length t) (length u) (length m)
 
--- A line was read: the place is after it, and all the lines come to the same as before.
-pub record Moved (text : List ℕ) (at : ℕ) (p : Awaited) (t u m : List ℤ) (at′ : ℕ) (p′ : Awaited) (t′ u′ m′ : List ℤ) : Type 0 where
-  pub ready : Ready text at′ p′ t′ u′ m′
-  pub same : rest p t u m (lines (drop at text)) ≡ rest p′ t′ u′ m′ (lines (drop at′ text))
-  pub line : goesOn p′ ≡ true → afterLine (drop at text) ≡ drop at′ text
-  pub less : goesOn p ≡ true → left text at′ p′ < left text at p
-
 -- All lines were read.
 pub record ReadAll (text : List ℕ) (start : Awaited) (t u m : List ℤ) (p : Awaited) (t′ u′ m′ : List ℤ) : Type 0 where
   pub over : goesOn p ≡ false
   pub same : rest start t u m (lines text) ≡ rest p t′ u′ m′ []
   pub room : Room p (length t′) (length u′) (length m′)
-
--- ---- the kinds of lines
-
-unfoldable pub headed : List ℕ → List ℕ → ℕ → ℕ → Awaited → Taken
-headed h text at line after = if isHeading h (drop at text) then record { next = at + suc (length h); got = after } else record { next = at; got = NoHeading line }
-
--- a row after n others, by what was found there
-unfoldable pub rowBy : ℕ → ℕ → ℕ → ℕ → Awaited → Found → Taken
-rowBy at n most line after Nothing = record { next = at; got = BadLine line }
-rowBy at n most line after (At next) = if eqb n most then record { next = at; got = TooMany line } else record { next = next; got = after }
-
-pub record RowTaken (text : List ℕ) (at : ℕ) (t : List ℤ) (w n most line : ℕ) (after : Awaited) (t′ : List ℤ) (r : Taken) : Type 0 where
-  pub found : Found
-  pub row : RowOf text at t (w * n) w t′ found
-  pub taken : r ≡ rowBy at n most line after found
-
-abbrev pub Listed : List ℕ → ℕ → List ℤ → ℕ → ℕ → ℕ → Awaited → Awaited → List ℤ → Taken → Type 0
-Listed text at t w n most after ended t′ r =
-    ((length text ≤ at) × (t′ ≡ t) × (r ≡ record { next = at; got = ended })) ⊎ ((at < length text) × RowTaken text at t w n most (4 + n) after t′ r)
-
-abbrev pub FormulaMoved : List ℕ → ℕ → List ℤ → ℕ → List ℤ → Taken → Type 0
-FormulaMoved text at t n t′ r = (u m : List ℤ) → Ready text at (Formula n) t u m → Moved text at (Formula n) t u m (r .next) (r .got) t′ u m
-
-abbrev pub NodeMoved : List ℕ → ℕ → List ℤ → List ℤ → ℕ → ℕ → ℕ → List ℤ → List ℤ → Taken → Type 0
-NodeMoved text at u m n j k u′ m′ r = (t : List ℤ) → Ready text at (Node n j k) t u m → Moved text at (Node n j k) t u m (r .next) (r .got) t u′ m′
-
--- the awaited lines that are no rows of a list
-abbrev pub Single : Awaited → Type 0
-Single (Row n) = ⊥
-Single (Pair k) = ⊥
-Single (Formula n) = ⊥
-Single (Node n j k) = ⊥
-Single SchemaHeading = Unit {0}
-Single SchemaValues = Unit {0}
-Single RowHeading = Unit {0}
-Single ModelHeading = Unit {0}
-Single ModelValue = Unit {0}
-Single PairHeading = Unit {0}
-Single ProofHeading = Unit {0}
-Single (Schema n) = Unit {0}
-Single (Model k) = Unit {0}
-Single (Proof n j k) = Unit {0}
-Single (NoHeading k) = Unit {0}
-Single (BadLine k) = Unit {0}
-Single (TooMany k) = Unit {0}
-
-abbrev pub OnceMoved : List ℕ → ℕ → Awaited → List ℤ → List ℤ → Taken → Type 0
-OnceMoved text at p u u′ r = (t m : List ℤ) → Single p → Ready text at p t u m → Moved text at p t u m (r .next) (r .got) t u′ m

@@ -1,17 +1,17 @@
 -- What the functions on lines give.
-use Prim.Native.Nat.{ℕ, _+_, _<_, _≤_}
+use Prim.Native.Nat.{ℕ, suc, _+_, _<_, _≤_}
 use mathlib.Core.Path.{_≡_}
 use mathlib.Core.Bool.{Bool}
 use mathlib.Core.List.{List, _++_}
 use mathlib.Core.Option.{Option, none, some}
 use lib.Dec.{eqb}
 use lib.IntN.{ℤ}
-use lib.ListN.{length, drop}
+use lib.ListN.{length, take, drop}
 use lib.Seq.{sets}
 use Rattle.stab.specs.Basic.{_and_}
 use Rattle.stab.specs.Text.{someIf}
 use Rattle.stab.specs.Read.{Reading, read, _andThen_, ProofText}
-use Rattle.numerals.specs.Here.{afterLine, row}
+use Rattle.numerals.specs.Here.{firstLine, afterLine, row, firstNumbers}
 use Rattle.text.specs.declared.rows.Part.{Part}
 use Rattle.text.specs.declared.rows.Part.the-variants.{Bad, Ended, Open}
 use Rattle.text.specs.declared.rows.Found.{Found}
@@ -34,10 +34,11 @@ pub record RowEnded (text : List ℕ) (at : ℕ) (t : List ℤ) (to : ℕ) (t′
   pub ahead : at < next
   pub within : next ≤ length text
 
--- It goes on after them.
+-- It goes on after them, whether or not what follows is as it has to be.
 pub record RowOpen (text : List ℕ) (at : ℕ) (t : List ℤ) (to : ℕ) (t′ : List ℤ) (to′ next : ℕ) : Type 0 where
   pub vs : List ℤ
   pub numbers : row (drop at text) ≡ rowFront vs (row (drop next text))
+  pub first : firstNumbers (drop at text) ≡ vs ++ firstNumbers (drop next text)
   pub table : t′ ≡ sets t to vs
   pub count : to′ ≡ to + length vs
   pub rest : afterLine (drop at text) ≡ afterLine (drop next text)
@@ -46,7 +47,7 @@ pub record RowOpen (text : List ℕ) (at : ℕ) (t : List ℤ) (to : ℕ) (t′ 
 
 -- w numbers of the line at a place, into a table from `to` on
 abbrev pub PartOf : List ℕ → ℕ → List ℤ → ℕ → ℕ → List ℤ → Part → Type 0
-PartOf text at t to w t′ Bad = row (drop at text) ≡ none
+PartOf text at t to w t′ Bad = (row (drop at text) ≡ none) × (length (firstNumbers (drop at text)) ≤ w)
 PartOf text at t to w t′ (Ended to′ next) = RowEnded text at t to t′ to′ next × (to′ ≤ to + w)
 PartOf text at t to w t′ (Open next) = RowOpen text at t to t′ (to + w) next
 
@@ -57,10 +58,21 @@ unfoldable pub wanted : (ℕ → Bool) → Option (List ℤ) → Option (List �
 wanted fits none = none
 wanted fits (some vs) = someIf (fits (length vs)) vs
 
--- a row of w numbers, into a table from `to` on
-abbrev pub RowOf : List ℕ → ℕ → List ℤ → ℕ → ℕ → List ℤ → Found → Type 0
-RowOf text at t to w t′ Nothing = wanted (eqb w) (row (drop at text)) ≡ none
-RowOf text at t to w t′ (At next) = RowEnded text at t to t′ (to + w) next
+-- the place after the line at a place, with its byte 10
+unfoldable pub pastLine : List ℕ → ℕ → ℕ
+pastLine text at = at + suc (length (firstLine (drop at text) .content))
+
+unfoldable pub foundBy : Option (List ℤ) → ℕ → Found
+foundBy none next = Nothing
+foundBy (some vs) next = At next
+
+-- a row of w numbers at a place
+unfoldable pub rowFound : List ℕ → ℕ → ℕ → Found
+rowFound text at w = foundBy (wanted (eqb w) (row (drop at text))) (pastLine text at)
+
+-- the numbers that a line starts with, w of them at most, in a table from `to` on: what was stored before the line was found to be no row stays
+unfoldable pub rowInto : List ℕ → ℕ → ℕ → ℕ → List ℤ → List ℤ
+rowInto text at w to t = sets t to (take w (firstNumbers (drop at text)))
 
 -- ---- rows in front of those that are read
 

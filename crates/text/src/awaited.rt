@@ -10,7 +10,10 @@ ghost use Prim.Native.Nat.{_+_, _*_, _≤_, _<_, _^_};
 ghost use lib.ListN.{length};
 ghost use Rattle.stab.proofs.Texts.Lines.{lacks};
 ghost use Rattle.stab.specs.Text.{textLimit};
-ghost use Rattle.text.specs.Awaiting.{goesOn, headed, RowTaken, Listed, FormulaMoved, NodeMoved, OnceMoved, Ready, Moved};
+ghost use Rattle.text.specs.Rows.{rowFound, rowInto};
+ghost use Rattle.text.specs.Nodes.{nodeFound, setInto};
+ghost use Rattle.text.specs.Awaiting.{goesOn, Ready};
+ghost use Rattle.text.specs.OneLine.{headed, rowBy, listedBy, formulaBy, nodeLineBy, nodesBy, Stepped, OnceStepped};
 
 // A line that is awaited, with how much was read before it; then what reading came to, or the line where it stopped.
 pub enum Awaited {
@@ -109,7 +112,7 @@ fn row(
     after: Awaited,
 ) -> Taken
     requires { ⌜ (at ≤ length (now text)) × (w * n + w < 2 ^ 32) ⌝ }
-    ensures { λ r. ⌜ RowTaken (now (text .entry)) at (now (table .entry)) w n most line after (now (table .exit)) r ⌝ }
+    ensures { λ r. ⌜ (r ≡ rowBy at n most line after (rowFound (now (text .entry)) at w)) × (now (table .exit) ≡ rowInto (now (text .entry)) at w (w * n) (now (table .entry))) ⌝ }
 {
     match rows::row_at(text, at, table, w * n, w) {
         Found::Nothing => Taken {
@@ -140,7 +143,7 @@ fn listed(
     ended: Awaited,
 ) -> Taken
     requires { ⌜ (at ≤ length (now text)) × (w * n + w < 2 ^ 32) × (n < 2 ^ 32) ⌝ }
-    ensures { λ r. ⌜ Listed (now (text .entry)) at (now (table .entry)) w n most after ended (now (table .exit)) r ⌝ }
+    ensures { λ r. ⌜ (r ≡ listedBy (now (text .entry)) at w n most after ended) × (now (table .exit) ≡ rowInto (now (text .entry)) at w (w * n) (now (table .entry))) ⌝ }
 {
     if text.len() <= at {
         return Taken {
@@ -154,7 +157,7 @@ fn listed(
 // A line of a proof text after n formula rows: one more, or the second heading.
 fn formula(text: &[u8], at: usize, table: &mut [i32], n: usize) -> Taken
     requires { ⌜ (at ≤ length (now text)) × (n ≤ 1024) ⌝ }
-    ensures { λ r. ⌜ FormulaMoved (now (text .entry)) at (now (table .entry)) n (now (table .exit)) r ⌝ }
+    ensures { λ r. ⌜ (r ≡ formulaBy (now (text .entry)) at n) × (now (table .exit) ≡ rowInto (now (text .entry)) at 4 (4 * n) (now (table .entry))) ⌝ }
 {
     if text.len() <= at {
         return Taken {
@@ -198,7 +201,7 @@ fn node(
     start: usize,
 ) -> Taken
     requires { ⌜ (at ≤ length (now text)) × (length (now text) ≤ textLimit) × (n ≤ 1024) × (j ≤ 1024) × (start ≤ 8192) ⌝ }
-    ensures { λ r. ⌜ NodeMoved (now (text .entry)) at (now (nodes .entry)) (now (members .entry)) n j start (now (nodes .exit)) (now (members .exit)) r ⌝ }
+    ensures { λ r. ⌜ (r ≡ nodeLineBy (now (text .entry)) at n j start) × (now (nodes .exit) ≡ nodesBy (now (text .entry)) at j start (now (nodes .entry)) (nodeFound (now (text .entry)) at start)) × (now (members .exit) ≡ setInto (now (text .entry)) at start (now (members .entry))) ⌝ }
 {
     if text.len() <= at {
         return Taken {
@@ -210,23 +213,23 @@ fn node(
             },
         };
     }
-    let line = 3 + n + j;
+    let k = 3 + n + j;
     match nodes::node_at(text, at, nodes, 9 * j, members, start) {
         NodeFound::Nothing => Taken {
             next: at,
-            got: Awaited::BadLine { line },
+            got: Awaited::BadLine { line: k },
         },
         NodeFound::At { next, last } => {
             if j == 1024 {
                 return Taken {
                     next: at,
-                    got: Awaited::TooMany { line },
+                    got: Awaited::TooMany { line: k },
                 };
             }
             if 8192 < last {
                 return Taken {
                     next: at,
-                    got: Awaited::TooMany { line },
+                    got: Awaited::TooMany { line: k },
                 };
             }
             nodes::put_set(nodes, 9 * j + 7, start, last);
@@ -245,7 +248,7 @@ fn node(
 // A line that stands once in its text; the numbers of a line of values go to the front of `store`.
 fn once(text: &[u8], at: usize, p: Awaited, store: &mut [i32]) -> Taken
     requires { ⌜ at ≤ length (now text) ⌝ }
-    ensures { λ r. ⌜ OnceMoved (now (text .entry)) at p (now (store .entry)) (now (store .exit)) r ⌝ }
+    ensures { λ r. ⌜ OnceStepped (now (text .entry)) at p (now (store .entry)) (now (store .exit)) r ⌝ }
 {
     match p {
         Awaited::SchemaHeading => {
@@ -275,7 +278,7 @@ pub fn take(
     members: &mut [i32],
 ) -> Taken
     requires { ⌜ Ready (now text) at p (now table) (now nodes) (now members) ⌝ }
-    ensures { λ r. ⌜ Moved (now (text .entry)) at p (now (table .entry)) (now (nodes .entry)) (now (members .entry)) (r .next) (r .got) (now (table .exit)) (now (nodes .exit)) (now (members .exit)) ⌝ }
+    ensures { λ r. ⌜ Stepped (now (text .entry)) at p (now (table .entry)) (now (nodes .entry)) (now (members .entry)) r (now (table .exit)) (now (nodes .exit)) (now (members .exit)) ⌝ }
 {
     match p {
         Awaited::Row { rows } => listed(

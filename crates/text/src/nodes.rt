@@ -3,10 +3,13 @@ use crate::rows;
 use crate::rows::Part;
 ghost use mathlib.Core.Path.{_≡_};
 ghost use Prim.Native.Nat.{_+_, _-_, _≤_};
-ghost use lib.ListN.{length, set};
+ghost use lib.ListN.{length, drop, set};
+ghost use lib.Seq.{sets};
 ghost use lib.IntN.{pos};
 ghost use Rattle.stab.specs.Text.{textLimit};
-ghost use Rattle.text.specs.Nodes.{SetOf, NodeOf};
+ghost use Rattle.numerals.specs.Here.{firstNumbers};
+ghost use Rattle.text.specs.Rows.{rowInto};
+ghost use Rattle.text.specs.Nodes.{SetOf, nodeFound, setInto};
 
 // The place after a row's line, and the place after its members.
 pub enum NodeFound {
@@ -17,7 +20,7 @@ pub enum NodeFound {
 // The rest of a line, numbers that go to the members from `start` on.
 fn set_at(text: &[u8], at: usize, members: &mut [i32], start: usize) -> NodeFound
     requires { ⌜ (at ≤ length (now text)) × (length (now text) ≤ textLimit) × (start ≤ 8192) ⌝ }
-    ensures { λ r. ⌜ SetOf (now (text .entry)) at (now (members .entry)) start (now (members .exit)) r ⌝ }
+    ensures { λ r. ⌜ SetOf (now (text .entry)) at (now (members .entry)) start (now (members .exit)) r × (now (members .exit) ≡ sets (now (members .entry)) start (firstNumbers (drop at (now (text .entry))))) ⌝ }
 {
     match rows::numbers(text, at, members, start, text.len() + 1) {
         Part::Bad => NodeFound::Nothing,
@@ -36,7 +39,7 @@ pub fn node_at(
     start: usize,
 ) -> NodeFound
     requires { ⌜ (at ≤ length (now text)) × (length (now text) ≤ textLimit) × (to ≤ 9216) × (start ≤ 8192) ⌝ }
-    ensures { λ r. ⌜ NodeOf (now (text .entry)) at (now (nodes .entry)) to (now (members .entry)) start (now (nodes .exit)) (now (members .exit)) r ⌝ }
+    ensures { λ r. ⌜ (r ≡ nodeFound (now (text .entry)) at start) × (now (nodes .exit) ≡ rowInto (now (text .entry)) at 7 to (now (nodes .entry))) × (now (members .exit) ≡ setInto (now (text .entry)) at start (now (members .entry))) ⌝ }
 {
     match rows::numbers(text, at, nodes, to, 7) {
         Part::Bad => NodeFound::Nothing,

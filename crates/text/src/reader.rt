@@ -3,7 +3,8 @@
 use crate::awaited;
 use crate::awaited::Awaited;
 ghost use mathlib.Core.Path.{_≡_};
-ghost use Rattle.text.specs.Awaiting.{Ready, Moved, ReadAll};
+ghost use Rattle.text.specs.Awaiting.{Ready, ReadAll};
+ghost use Rattle.text.specs.OneLine.{Stepped};
 
 pub struct LineReader<'a> {
     text: &'a [u8],
@@ -18,7 +19,8 @@ impl<'a> LineReader<'a> {
         LineReader { text, at: 0 }
     }
 
-    // The next line is read, and has to be as p says; the reader moves on to the line after it, for which the answer says the same.
+    // The line at the reader's place is read, and has to be as p says. The reader moves on to the line after it, for which the answer says the same;
+    // where no line is awaited after it, the reader stays.
     pub fn next_line(
         &mut self,
         p: Awaited,
@@ -27,7 +29,7 @@ impl<'a> LineReader<'a> {
         members: &mut [i32],
     ) -> Awaited
         requires { ⌜ Ready (now (now self .text)) (now self .at) p (now table) (now nodes) (now members) ⌝ }
-        ensures { λ r. ⌜ (now (self .exit) .text ≡ now (self .entry) .text) × Moved (now (now (self .entry) .text)) (now (self .entry) .at) p (now (table .entry)) (now (nodes .entry)) (now (members .entry)) (now (self .exit) .at) r (now (table .exit)) (now (nodes .exit)) (now (members .exit)) ⌝ }
+        ensures { λ r. ⌜ (now (self .exit) .text ≡ now (self .entry) .text) × Stepped (now (now (self .entry) .text)) (now (self .entry) .at) p (now (table .entry)) (now (nodes .entry)) (now (members .entry)) (record { next = now (self .exit) .at; got = r }) (now (table .exit)) (now (nodes .exit)) (now (members .exit)) ⌝ }
     {
         let t = awaited::take(self.text, self.at, p, table, nodes, members);
         self.at = t.next;

@@ -1,6 +1,8 @@
+use Prim.Native.Nat.{_*_}
 use mathlib.Core.Path.{sym, _∙_}
 use Rattle.stab.specs.Text.{nodeHeading, bytes}
-use Rattle.text.proofs.TakenLaws.{formula-missing, formula-heading, formula-row}
+use Rattle.text.proofs.RowLaws.{into-none, into-over}
+use Rattle.text.proofs.StepLaws.{first-letter, formula-end, formula-u, formula-other}
 use borrow.Author.Needs.{needs}
 use Rattle.text.proofs.awaited.formula.Statement.{statement}
 use Rattle.text.proofs.awaited.formula.Tie as tie
@@ -10,7 +12,7 @@ add-t8 : tie.Need-add-t8
 add-t8 c = search needs
 
 returns : tie.Need-returns
-returns c = let a = c .before .before .args in λ u m r. formula-missing (a .text .now) (a .at) (a .n) (a .table .now) u m r (c .if1 .taken)
+returns c = let a = c .before .before .args in (formula-end (a .text .now) (a .at) (a .n) (c .if1 .taken), into-over (a .text .now) (a .at) 4 (4 * a .n) (a .table .now) (c .if1 .taken))
 
 byte-at-requires : tie.Need-byte-at-requires
 byte-at-requires c κs = search needs
@@ -30,7 +32,10 @@ unfolding nodeHeading bytes
 returns-2 c =
     let b = c .before .before .before in
     let a = b .before .before .before .args in
-    λ u m r. formula-heading (a .text .now) (a .at) (a .n) (a .table .now) u m r (b .before .if1 .left) (sym (b .byte-at .ensures) ∙ c .before .before .if2 .taken) (c .heading-line .result) (c .heading-line .ensures)
+    let e = sym (b .byte-at .ensures) ∙ c .before .before .if2 .taken in (
+      c .heading-line .ensures ∙ sym (formula-u (a .text .now) (a .at) (a .n) (b .before .if1 .left) e),
+      into-none (a .text .now) (a .at) 4 (4 * a .n) (a .table .now) (first-letter (a .text .now) (a .at) (b .before .if1 .left) e),
+    )
 
 add-row : tie.Need-add-row
 add-row c = search needs
@@ -50,7 +55,7 @@ returns-3 c =
     let b = e .before in
     let a = b .before .before .before .args in
     let w = c .before .row in
-    λ u m r. formula-row (a .text .now) (a .at) (a .n) (a .table .now) u m r (b .before .if1 .left) (λ x. e .if2 .left (b .byte-at .ensures ∙ x)) (w .last .1 .1 .0) (w .kept .1 .1 .0) (w .result) (w .ensures)
+    (w .ensures .0 ∙ sym (formula-other (a .text .now) (a .at) (a .n) (b .before .if1 .left) (λ x. e .if2 .left (b .byte-at .ensures ∙ x))), w .ensures .1)
 
 pub formula-spec : {M : Type 1} → statement M
 formula-spec =

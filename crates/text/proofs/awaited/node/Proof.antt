@@ -1,20 +1,32 @@
-use Prim.Native.Nat.{_*_}
+use Prim.Native.Nat.{_+_, _*_, _-_}
 use native.Mathlib.Omega.{arith}
-use mathlib.Core.Path.{subst}
-use Rattle.text.specs.Nodes.{NodeOf}
-use Rattle.text.proofs.TakenLaws.{nodes-over, node-refused, node-many, member-many, node-next}
+use mathlib.Core.Path.{sym, _∙_, ap, subst}
+use mathlib.Core.Logic.{inl, inr}
+use mathlib.Core.List.{List}
+use lib.IntN.{ℤ, pos}
+use lib.ListN.{set}
+use Rattle.text.specs.Rows.{rowInto}
+use Rattle.text.specs.Nodes.{setInto}
+use Rattle.text.specs.OneLine.{nodesBy}
+use Rattle.text.proofs.NodeLaws.{NodeOf, node-of}
+use Rattle.text.proofs.StepLaws.{nodes-end, set-end, nine, node-end, node-line, node-none, node-full, node-more}
 use borrow.Author.Needs.{needs}
 use Rattle.text.proofs.awaited.node.Statement.{statement}
 use Rattle.text.proofs.awaited.node.Tie as tie
 
 returns : tie.Need-returns
-returns c = let a = c .before .before .args in λ t r. nodes-over (a .text .now) (a .at) (a .n) (a .j) (a .start) t (a .nodes .now) (a .members .now) r (c .if1 .taken)
+returns c =
+    let a = c .before .before .args in (
+      node-end (a .text .now) (a .at) (a .j) (a .start) (a .n) (c .if1 .taken),
+      nodes-end (a .text .now) (a .at) (a .j) (a .start) (a .nodes .now) (c .if1 .taken),
+      set-end (a .text .now) (a .at) (a .j) (a .start) (a .members .now) (c .if1 .taken),
+    )
 
-add-line : tie.Need-add-line
-add-line c = search needs
+add-k : tie.Need-add-k
+add-k c = search needs
 
-add-line-2 : tie.Need-add-line-2
-add-line-2 c = search needs
+add-k-2 : tie.Need-add-k-2
+add-k-2 c = search needs
 
 mul-node-at : tie.Need-mul-node-at
 mul-node-at c = search needs
@@ -40,8 +52,12 @@ returns-2 c =
     let b = n .before .before .before .before in
     let e = b .before .before .before in
     let a = e .before .before .args in
-    let x = subst (NodeOf (a .text .now) (a .at) (a .nodes .now) (9 * a .j) (a .members .now) (a .start) (b .node-at .last .1 .1 .0) (b .node-at .last .1 .1 .1 .1 .0)) (n .next .given .1) (b .node-at .ensures) in
-    λ t r. node-many (a .text .now) (a .at) (a .n) (a .j) (a .start) t (a .nodes .now) (a .members .now) r (e .if1 .left) (b .node-at .last .1 .1 .0) (b .node-at .last .1 .1 .1 .1 .0) _ _ x (c .if2 .taken)
+    let x = sym (n .next .given .1) ∙ b .node-at .ensures .0 in
+    let g = node-full (a .text .now) (a .at) (a .j) (a .start) (a .n) (a .nodes .now) _ _ (inl (c .if2 .taken)) in (
+      g .0 ∙ node-line (a .text .now) (a .at) (a .j) (a .start) (a .n) (e .if1 .left) _ x,
+      b .node-at .ensures .1 ∙ g .1 ∙ ap (nodesBy (a .text .now) (a .at) (a .j) (a .start) (a .nodes .now)) x,
+      b .node-at .ensures .2,
+    )
 
 same-length-3 : tie.Need-same-length-3
 same-length-3 c = search needs
@@ -55,8 +71,12 @@ returns-3 c =
     let b = n .before .before .before .before in
     let e = b .before .before .before in
     let a = e .before .before .args in
-    let x = subst (NodeOf (a .text .now) (a .at) (a .nodes .now) (9 * a .j) (a .members .now) (a .start) (b .node-at .last .1 .1 .0) (b .node-at .last .1 .1 .1 .1 .0)) (n .next .given .1) (b .node-at .ensures) in
-    λ t r. member-many (a .text .now) (a .at) (a .n) (a .j) (a .start) t (a .nodes .now) (a .members .now) r (e .if1 .left) (b .node-at .last .1 .1 .0) (b .node-at .last .1 .1 .1 .1 .0) _ _ x (c .if3 .taken)
+    let x = sym (n .next .given .1) ∙ b .node-at .ensures .0 in
+    let g = node-full (a .text .now) (a .at) (a .j) (a .start) (a .n) (a .nodes .now) _ _ (inr (c .if3 .taken)) in (
+      g .0 ∙ node-line (a .text .now) (a .at) (a .j) (a .start) (a .n) (e .if1 .left) _ x,
+      b .node-at .ensures .1 ∙ g .1 ∙ ap (nodesBy (a .text .now) (a .at) (a .j) (a .start) (a .nodes .now)) x,
+      b .node-at .ensures .2,
+    )
 
 mul-put-set : tie.Need-mul-put-set
 mul-put-set c = search needs
@@ -70,7 +90,8 @@ put-set-requires c κs =
     let b = n .before .before .before .before in
     let e = b .before .before .before in
     let a = e .before .before .args in
-    let x = subst (NodeOf (a .text .now) (a .at) (a .nodes .now) (9 * a .j) (a .members .now) (a .start) (b .node-at .last .1 .1 .0) (b .node-at .last .1 .1 .1 .1 .0)) (n .next .given .1) (b .node-at .ensures) in
+    let x = subst (NodeOf (a .text .now) (a .at) (a .nodes .now) (9 * a .j) (a .members .now) (a .start) (rowInto (a .text .now) (a .at) 7 (9 * a .j) (a .nodes .now)) (setInto (a .text .now) (a .at) (a .start) (a .members .now))) (sym (b .node-at .ensures .0) ∙ n .next .given .1)
+    (node-of (a .text .now) (a .at) (a .nodes .now) (9 * a .j) (a .members .now) (a .start)) in
     let p = e .before .before .pre in
     (omega (arith, p .3), omega (arith, x .count), c .before .if3 .left)
 
@@ -88,8 +109,12 @@ returns-4 c =
     let b = c .before .before .before .before in
     let e = b .before .before .before in
     let a = e .before .before .args in
-    let x = subst (NodeOf (a .text .now) (a .at) (a .nodes .now) (9 * a .j) (a .members .now) (a .start) (b .node-at .last .1 .1 .0) (b .node-at .last .1 .1 .1 .1 .0)) (c .enum-told .given .1) (b .node-at .ensures) in
-    λ t r. node-refused (a .text .now) (a .at) (a .n) (a .j) (a .start) t (a .nodes .now) (a .members .now) r (e .if1 .left) (b .node-at .last .1 .1 .0) (b .node-at .last .1 .1 .1 .1 .0) x
+    let x = sym (c .enum-told .given .1) ∙ b .node-at .ensures .0 in
+    let g = node-none (a .text .now) (a .at) (a .j) (a .start) (a .n) (a .nodes .now) in (
+      g .0 ∙ node-line (a .text .now) (a .at) (a .j) (a .start) (a .n) (e .if1 .left) _ x,
+      b .node-at .ensures .1 ∙ g .1 ∙ ap (nodesBy (a .text .now) (a .at) (a .j) (a .start) (a .nodes .now)) x,
+      b .node-at .ensures .2,
+    )
 
 same-length-7 : tie.Need-same-length-7
 same-length-7 c = search needs
@@ -103,18 +128,26 @@ returns-5 c =
     let b = n .before .before .before .before in
     let e = b .before .before .before in
     let a = e .before .before .args in
-    let x = subst (NodeOf (a .text .now) (a .at) (a .nodes .now) (9 * a .j) (a .members .now) (a .start) (b .node-at .last .1 .1 .0) (b .node-at .last .1 .1 .1 .1 .0)) (n .next .given .1) (b .node-at .ensures) in
-    let s = c .before .put-set in
-    λ t r. node-next (a .text .now) (a .at) (a .n) (a .j) (a .start) t (a .nodes .now) (a .members .now) r (e .if1 .left) (b .node-at .last .1 .1 .0) (b .node-at .last .1 .1 .1 .1 .0) _ _ x (s .last .0)
-    (omega (arith, s .kept .0, b .node-at .kept .1 .1 .0)) (b .node-at .kept .1 .1 .1 .1 .0) (c .before .before .before .before .if2 .left) (c .before .before .before .if3 .left) (s .ensures)
+    let q = sym (n .next .given .1) ∙ b .node-at .ensures .0 in
+    let x = subst (NodeOf (a .text .now) (a .at) (a .nodes .now) (9 * a .j) (a .members .now) (a .start) (rowInto (a .text .now) (a .at) 7 (9 * a .j) (a .nodes .now)) (setInto (a .text .now) (a .at) (a .start) (a .members .now))) (sym (b .node-at .ensures .0) ∙ n .next .given .1)
+    (node-of (a .text .now) (a .at) (a .nodes .now) (9 * a .j) (a .members .now) (a .start)) in
+    let g = node-more (a .text .now) (a .at) (a .j) (a .start) (a .n) (a .nodes .now) _ _ (c .before .before .before .before .if2 .left) (c .before .before .before .if3 .left) in (
+      g .0 ∙ node-line (a .text .now) (a .at) (a .j) (a .start) (a .n) (e .if1 .left) _ q,
+      c .before .put-set .ensures
+          ∙ ap (λ (u : List ℤ). set (set u (9 * a .j + 7) (pos (a .start))) (9 * a .j + 7 + 1) (pos (n .next .given .0 .1 .0 - a .start))) (b .node-at .ensures .1)
+          ∙ nine (a .text .now) (a .at) (a .j) (a .start) (a .nodes .now) (a .members .now) _ _ _ _ x
+          ∙ g .1
+          ∙ ap (nodesBy (a .text .now) (a .at) (a .j) (a .start) (a .nodes .now)) q,
+      b .node-at .ensures .2,
+    )
 
 pub node-spec : {M : Type 1} → statement M
 node-spec =
     tie.close
     (tie.spec
     returns
-    add-line
-    add-line-2
+    add-k
+    add-k-2
     mul-node-at
     node-at-requires
     enum-told

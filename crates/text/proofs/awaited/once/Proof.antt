@@ -1,8 +1,11 @@
-use mathlib.Core.Path.{sym, subst}
+use mathlib.Core.Path.{sym, ap, ap₂, subst}
+use mathlib.Core.List.{List}
+use lib.IntN.{ℤ}
 use Rattle.stab.specs.Text.{schemaHeading, rowHeading, modelHeading, pairHeading, bytes}
-use Rattle.text.specs.Awaiting.{Ready, Moved}
+use Rattle.text.specs.OneLine.{stand, step, Stepped}
+use Rattle.text.specs.declared.awaited.Taken.{Taken}
 use Rattle.text.specs.declared.awaited.Awaited.{Awaited}
-use Rattle.text.proofs.OnceLaws.{schema-heading, schema-values, row-heading, model-heading, model-value, pair-heading, proof-heading, over-stays}
+use Rattle.text.proofs.StepLaws.{over-steps}
 use Rattle.text.proofs.Others.{others-over}
 use borrow.Author.Needs.{needs}
 use Rattle.text.proofs.awaited.once.Statement.{statement}
@@ -72,66 +75,61 @@ unfolding rowHeading bytes
 heading-line-requires-5 c κs = (c .before .before .before .before .pre, row-heading-lacks)
 
 returns : tie.Need-returns
-unfolding schemaHeading bytes
+unfolding step schemaHeading bytes
 returns c =
     let a = c .before .before .before .before .before .args in
-    λ t m s. subst (λ (p : Awaited). Ready (a .text .now) (a .at) p t (a .store .now) m → Moved (a .text .now) (a .at) p t (a .store .now) m (c .heading-line .result .next) (c .heading-line .result .got) t (a .store .now) m) (sym (c .before .before .enum-told .given .1))
-    (λ r. schema-heading (a .text .now) (a .at) t (a .store .now) m r (c .heading-line .result) (c .heading-line .ensures))
+    λ t m s. subst (λ (p : Awaited). Stepped (a .text .now) (a .at) p t (a .store .now) m (c .heading-line .result) t (a .store .now) m) (sym (c .before .before .enum-told .given .1)) (ap (λ (r : Taken). stand r t (a .store .now) m) (c .heading-line .ensures))
 
 same-length : tie.Need-same-length
 same-length c = search needs
 
 returns-2 : tie.Need-returns-2
+unfolding step
 returns-2 c =
     let b = c .before in
     let a = b .before .before .before .before .before .args in
-    let u = b .row .last .1 .1 .0 in
-    λ t m s. subst (λ (p : Awaited). Ready (a .text .now) (a .at) p t (a .store .now) m → Moved (a .text .now) (a .at) p t (a .store .now) m (b .row .result .next) (b .row .result .got) t u m) (sym (b .before .before .enum-told2 .given .1))
-    (λ r. schema-values (a .text .now) (a .at) t (a .store .now) m r u (b .row .kept .1 .1 .0) (b .row .result) (b .row .ensures))
+    λ t m s. subst (λ (p : Awaited). Stepped (a .text .now) (a .at) p t (a .store .now) m (b .row .result) t (b .row .last .1 .1 .0) m) (sym (b .before .before .enum-told2 .given .1))
+    (ap₂ (λ (r : Taken) (u : List ℤ). stand r t u m) (b .row .ensures .0) (b .row .ensures .1))
 
 returns-3 : tie.Need-returns-3
-unfolding rowHeading bytes
+unfolding step rowHeading bytes
 returns-3 c =
     let a = c .before .before .before .before .before .args in
-    λ t m s. subst (λ (p : Awaited). Ready (a .text .now) (a .at) p t (a .store .now) m → Moved (a .text .now) (a .at) p t (a .store .now) m (c .heading-line2 .result .next) (c .heading-line2 .result .got) t (a .store .now) m) (sym (c .before .before .enum-told3 .given .1))
-    (λ r. row-heading (a .text .now) (a .at) t (a .store .now) m r (c .heading-line2 .result) (c .heading-line2 .ensures))
+    λ t m s. subst (λ (p : Awaited). Stepped (a .text .now) (a .at) p t (a .store .now) m (c .heading-line2 .result) t (a .store .now) m) (sym (c .before .before .enum-told3 .given .1)) (ap (λ (r : Taken). stand r t (a .store .now) m) (c .heading-line2 .ensures))
 
 returns-4 : tie.Need-returns-4
-unfolding modelHeading bytes
+unfolding step modelHeading bytes
 returns-4 c =
     let a = c .before .before .before .before .before .args in
-    λ t m s. subst (λ (p : Awaited). Ready (a .text .now) (a .at) p t (a .store .now) m → Moved (a .text .now) (a .at) p t (a .store .now) m (c .heading-line3 .result .next) (c .heading-line3 .result .got) t (a .store .now) m) (sym (c .before .before .enum-told4 .given .1))
-    (λ r. model-heading (a .text .now) (a .at) t (a .store .now) m r (c .heading-line3 .result) (c .heading-line3 .ensures))
+    λ t m s. subst (λ (p : Awaited). Stepped (a .text .now) (a .at) p t (a .store .now) m (c .heading-line3 .result) t (a .store .now) m) (sym (c .before .before .enum-told4 .given .1)) (ap (λ (r : Taken). stand r t (a .store .now) m) (c .heading-line3 .ensures))
 
 same-length-2 : tie.Need-same-length-2
 same-length-2 c = search needs
 
 returns-5 : tie.Need-returns-5
+unfolding step
 returns-5 c =
     let b = c .before in
     let a = b .before .before .before .before .before .args in
-    let u = b .row2 .last .1 .1 .0 in
-    λ t m s. subst (λ (p : Awaited). Ready (a .text .now) (a .at) p t (a .store .now) m → Moved (a .text .now) (a .at) p t (a .store .now) m (b .row2 .result .next) (b .row2 .result .got) t u m) (sym (b .before .before .enum-told5 .given .1))
-    (λ r. model-value (a .text .now) (a .at) t (a .store .now) m r u (b .row2 .kept .1 .1 .0) (b .row2 .result) (b .row2 .ensures))
+    λ t m s. subst (λ (p : Awaited). Stepped (a .text .now) (a .at) p t (a .store .now) m (b .row2 .result) t (b .row2 .last .1 .1 .0) m) (sym (b .before .before .enum-told5 .given .1))
+    (ap₂ (λ (r : Taken) (u : List ℤ). stand r t u m) (b .row2 .ensures .0) (b .row2 .ensures .1))
 
 returns-6 : tie.Need-returns-6
-unfolding pairHeading bytes
+unfolding step pairHeading bytes
 returns-6 c =
     let a = c .before .before .before .before .before .args in
-    λ t m s. subst (λ (p : Awaited). Ready (a .text .now) (a .at) p t (a .store .now) m → Moved (a .text .now) (a .at) p t (a .store .now) m (c .heading-line4 .result .next) (c .heading-line4 .result .got) t (a .store .now) m) (sym (c .before .before .enum-told6 .given .1))
-    (λ r. pair-heading (a .text .now) (a .at) t (a .store .now) m r (c .heading-line4 .result) (c .heading-line4 .ensures))
+    λ t m s. subst (λ (p : Awaited). Stepped (a .text .now) (a .at) p t (a .store .now) m (c .heading-line4 .result) t (a .store .now) m) (sym (c .before .before .enum-told6 .given .1)) (ap (λ (r : Taken). stand r t (a .store .now) m) (c .heading-line4 .ensures))
 
 returns-7 : tie.Need-returns-7
-unfolding rowHeading bytes
+unfolding step rowHeading bytes
 returns-7 c =
     let a = c .before .before .before .before .before .args in
-    λ t m s. subst (λ (p : Awaited). Ready (a .text .now) (a .at) p t (a .store .now) m → Moved (a .text .now) (a .at) p t (a .store .now) m (c .heading-line5 .result .next) (c .heading-line5 .result .got) t (a .store .now) m) (sym (c .before .before .enum-told7 .given .1))
-    (λ r. proof-heading (a .text .now) (a .at) t (a .store .now) m r (c .heading-line5 .result) (c .heading-line5 .ensures))
+    λ t m s. subst (λ (p : Awaited). Stepped (a .text .now) (a .at) p t (a .store .now) m (c .heading-line5 .result) t (a .store .now) m) (sym (c .before .before .enum-told7 .given .1)) (ap (λ (r : Taken). stand r t (a .store .now) m) (c .heading-line5 .ensures))
 
 returns-8 : tie.Need-returns-8
 returns-8 c =
     let a = c .before .before .args in
-    λ t m s r. over-stays (a .text .now) (a .at) t (a .store .now) m (a .p) r (others-over (a .p) (c .match .keys8) s)
+    λ t m s. over-steps (a .text .now) (a .at) t (a .store .now) m (a .p) (others-over (a .p) (c .match .keys8) s)
 
 pub once-spec : {M : Type 1} → statement M
 once-spec =

@@ -1,11 +1,8 @@
-use Prim.Native.Nat.{_*_}
-use mathlib.Core.Path.{refl, sym, subst}
+use mathlib.Core.Path.{sym, _∙_, ap}
 use lib.Dec.{eqb}
 use borrow.Author.Tests.{eq-eqb, ne-eqb}
 use Rattle.stab.proofs.Bools.{if-true, if-false}
-use Rattle.text.specs.Rows.{RowOf}
-use Rattle.text.specs.Awaiting.{rowBy}
-use Rattle.text.specs.declared.rows.Found.the-variants.{At, Nothing}
+use Rattle.text.specs.OneLine.{rowBy}
 use borrow.Author.Needs.{needs}
 use Rattle.text.proofs.awaited.row.Statement.{statement}
 use Rattle.text.proofs.awaited.row.Tie as tie
@@ -29,12 +26,10 @@ returns : tie.Need-returns
 unfolding rowBy
 returns c =
     let b = c .before .before .before .before .before in
-    let a = b .before .before .before .args in
-    record {
-      found = At (c .before .before .next .given .0 .0);
-      row = subst (RowOf (a .text .now) (a .at) (a .table .now) (a .w * a .n) (a .w) (b .row-at .last .1 .1 .0)) (c .before .before .next .given .1) (b .row-at .ensures);
-      taken = sym (if-true (eqb (a .n) (a .most)) _ _ (eq-eqb (a .n) (a .most) (c .if1 .taken)));
-    }
+    let a = b .before .before .before .args in (
+      sym (if-true (eqb (a .n) (a .most)) _ _ (eq-eqb (a .n) (a .most) (c .if1 .taken))) ∙ ap (rowBy (a .at) (a .n) (a .most) (a .line) (a .after)) (sym (c .before .before .next .given .1) ∙ b .row-at .ensures .0),
+      b .row-at .ensures .1,
+    )
 
 same-length-2 : tie.Need-same-length-2
 same-length-2 c = search needs
@@ -44,11 +39,7 @@ unfolding rowBy
 returns-2 c =
     let b = c .before .before .before in
     let a = b .before .before .before .args in
-    record {
-      found = Nothing;
-      row = subst (RowOf (a .text .now) (a .at) (a .table .now) (a .w * a .n) (a .w) (b .row-at .last .1 .1 .0)) (c .enum-told .given .1) (b .row-at .ensures);
-      taken = refl;
-    }
+    (ap (rowBy (a .at) (a .n) (a .most) (a .line) (a .after)) (sym (c .enum-told .given .1) ∙ b .row-at .ensures .0), b .row-at .ensures .1)
 
 same-length-3 : tie.Need-same-length-3
 same-length-3 c = search needs
@@ -57,12 +48,10 @@ returns-3 : tie.Need-returns-3
 unfolding rowBy
 returns-3 c =
     let b = c .before .before .before .before .before in
-    let a = b .before .before .before .args in
-    record {
-      found = At (c .before .before .next .given .0 .0);
-      row = subst (RowOf (a .text .now) (a .at) (a .table .now) (a .w * a .n) (a .w) (b .row-at .last .1 .1 .0)) (c .before .before .next .given .1) (b .row-at .ensures);
-      taken = sym (if-false (eqb (a .n) (a .most)) _ _ (ne-eqb (a .n) (a .most) (c .if1 .left)));
-    }
+    let a = b .before .before .before .args in (
+      sym (if-false (eqb (a .n) (a .most)) _ _ (ne-eqb (a .n) (a .most) (c .if1 .left))) ∙ ap (rowBy (a .at) (a .n) (a .most) (a .line) (a .after)) (sym (c .before .before .next .given .1) ∙ b .row-at .ensures .0),
+      b .row-at .ensures .1,
+    )
 
 pub row-spec : {M : Type 1} → statement M
 row-spec =

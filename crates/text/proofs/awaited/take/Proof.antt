@@ -1,8 +1,12 @@
 use native.Mathlib.Omega.{arith}
-use mathlib.Core.Path.{sym, subst}
-use Rattle.text.specs.Awaiting.{Ready, Moved}
+use mathlib.Core.Path.{sym, ap₂, subst}
+use mathlib.Core.List.{List}
+use lib.IntN.{ℤ}
+use Rattle.text.specs.Awaiting.{Ready}
+use Rattle.text.specs.OneLine.{stand, step, Stepped}
+use Rattle.text.specs.declared.awaited.Taken.{Taken}
 use Rattle.text.specs.declared.awaited.Awaited.{Awaited}
-use Rattle.text.proofs.OnceLaws.{schema-row, model-pair}
+use Rattle.text.proofs.StepLaws.{stand-same}
 use Rattle.text.proofs.Others.{others-single}
 use borrow.Author.Needs.{needs}
 use Rattle.text.proofs.awaited.take.Statement.{statement}
@@ -69,37 +73,34 @@ same-length : tie.Need-same-length
 same-length c = search needs
 
 returns : tie.Need-returns
+unfolding step
 returns c =
     let q = c .before .before .before .before in
     let a = q .before .before .before .args in
-    let r = subst (λ (p : Awaited). Ready (a .text .now) (a .at) p (a .table .now) (a .nodes .now) (a .members .now)) (q .p .given .1) (q .before .before .before .pre) in
     let l = c .before .listed in
-    subst (λ (p : Awaited). Moved (a .text .now) (a .at) p (a .table .now) (a .nodes .now) (a .members .now) (l .result .next) (l .result .got) (l .last .1 .1 .0) (a .nodes .now) (a .members .now)) (sym (q .p .given .1))
-    (schema-row (a .text .now) (a .at) (a .table .now) (a .nodes .now) (a .members .now) _ r (l .last .1 .1 .0) (l .kept .1 .1 .0) (l .result) (l .ensures))
+    subst (λ (p : Awaited). Stepped (a .text .now) (a .at) p (a .table .now) (a .nodes .now) (a .members .now) (l .result) (l .last .1 .1 .0) (a .nodes .now) (a .members .now)) (sym (q .p .given .1)) (ap₂ (λ (x : Taken) (t : List ℤ). stand x t (a .nodes .now) (a .members .now)) (l .ensures .0) (l .ensures .1))
 
 same-length-2 : tie.Need-same-length-2
 same-length-2 c = search needs
 
 returns-2 : tie.Need-returns-2
+unfolding step
 returns-2 c =
     let q = c .before .before .before .before in
     let a = q .before .before .before .args in
-    let r = subst (λ (p : Awaited). Ready (a .text .now) (a .at) p (a .table .now) (a .nodes .now) (a .members .now)) (q .p2 .given .1) (q .before .before .before .pre) in
     let l = c .before .listed2 in
-    subst (λ (p : Awaited). Moved (a .text .now) (a .at) p (a .table .now) (a .nodes .now) (a .members .now) (l .result .next) (l .result .got) (l .last .1 .1 .0) (a .nodes .now) (a .members .now)) (sym (q .p2 .given .1))
-    (model-pair (a .text .now) (a .at) (a .table .now) (a .nodes .now) (a .members .now) _ r (l .last .1 .1 .0) (l .kept .1 .1 .0) (l .result) (l .ensures))
+    subst (λ (p : Awaited). Stepped (a .text .now) (a .at) p (a .table .now) (a .nodes .now) (a .members .now) (l .result) (l .last .1 .1 .0) (a .nodes .now) (a .members .now)) (sym (q .p2 .given .1)) (ap₂ (λ (x : Taken) (t : List ℤ). stand x t (a .nodes .now) (a .members .now)) (l .ensures .0) (l .ensures .1))
 
 same-length-3 : tie.Need-same-length-3
 same-length-3 c = search needs
 
 returns-3 : tie.Need-returns-3
+unfolding step
 returns-3 c =
     let q = c .before .before .before .before in
     let a = q .before .before .before .args in
-    let r = subst (λ (p : Awaited). Ready (a .text .now) (a .at) p (a .table .now) (a .nodes .now) (a .members .now)) (q .p3 .given .1) (q .before .before .before .pre) in
     let f = c .before .formula in
-    subst (λ (p : Awaited). Moved (a .text .now) (a .at) p (a .table .now) (a .nodes .now) (a .members .now) (f .result .next) (f .result .got) (f .last .1 .1 .0) (a .nodes .now) (a .members .now)) (sym (q .p3 .given .1))
-    (f .ensures (a .nodes .now) (a .members .now) r)
+    subst (λ (p : Awaited). Stepped (a .text .now) (a .at) p (a .table .now) (a .nodes .now) (a .members .now) (f .result) (f .last .1 .1 .0) (a .nodes .now) (a .members .now)) (sym (q .p3 .given .1)) (ap₂ (λ (x : Taken) (t : List ℤ). stand x t (a .nodes .now) (a .members .now)) (f .ensures .0) (f .ensures .1))
 
 same-length-4 : tie.Need-same-length-4
 same-length-4 c = search needs
@@ -108,13 +109,13 @@ same-length-5 : tie.Need-same-length-5
 same-length-5 c = search needs
 
 returns-4 : tie.Need-returns-4
+unfolding step
 returns-4 c =
     let q = c .before .before .before .before .before .before in
     let a = q .before .before .before .args in
-    let r = subst (λ (p : Awaited). Ready (a .text .now) (a .at) p (a .table .now) (a .nodes .now) (a .members .now)) (q .p4 .given .1) (q .before .before .before .pre) in
     let f = c .before .before .node in
-    subst (λ (p : Awaited). Moved (a .text .now) (a .at) p (a .table .now) (a .nodes .now) (a .members .now) (f .result .next) (f .result .got) (a .table .now) (f .last .1 .1 .0) (f .last .1 .1 .1 .0)) (sym (q .p4 .given .1))
-    (f .ensures (a .table .now) r)
+    subst (λ (p : Awaited). Stepped (a .text .now) (a .at) p (a .table .now) (a .nodes .now) (a .members .now) (f .result) (a .table .now) (f .last .1 .1 .0) (f .last .1 .1 .1 .0)) (sym (q .p4 .given .1))
+    (stand-same (a .table .now) (f .ensures .0) (f .ensures .1) (f .ensures .2))
 
 same-length-6 : tie.Need-same-length-6
 same-length-6 c = search needs
@@ -124,7 +125,7 @@ returns-5 c =
     let f = c .before .once in
     let k = c .before .before .before in
     let a = k .before .before .args in
-    f .ensures (a .table .now) (a .members .now) (others-single (a .p) (k .match .keys5)) (k .before .before .pre)
+    f .ensures (a .table .now) (a .members .now) (others-single (a .p) (k .match .keys5))
 
 pub take-spec : {M : Type 1} → statement M
 take-spec =

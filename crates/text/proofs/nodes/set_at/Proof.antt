@@ -1,10 +1,10 @@
 use Prim.Native.Nat.{_+_}
 use native.Mathlib.Omega.{arith}
-use mathlib.Core.Path.{subst}
+use mathlib.Core.Path.{_∙_, subst}
 use lib.ListN.{length}
 use Rattle.stab.specs.Text.{textLimit}
 use Rattle.text.specs.Rows.{PartOf}
-use Rattle.text.proofs.NodeLaws.{set-ends}
+use Rattle.text.proofs.NodeLaws.{all-set, set-ends}
 use borrow.Author.Needs.{needs}
 use Rattle.text.proofs.nodes.set_at.Statement.{statement}
 use Rattle.text.proofs.nodes.set_at.Tie as tie
@@ -33,7 +33,8 @@ returns : tie.Need-returns
 returns c =
     let b = c .before .before .before in
     let a = c .before .before .before .before .before .before .args in
-    subst (PartOf (a .text .now) (a .at) (a .members .now) (a .start) (length (a .text .now) + 1) (b .numbers .last .1 .1 .0)) (c .enum-told .given .1) (b .numbers .ensures)
+    let r = subst (PartOf (a .text .now) (a .at) (a .members .now) (a .start) (length (a .text .now) + 1) (b .numbers .last .1 .1 .0)) (c .enum-told .given .1) (b .numbers .ensures .0) in
+    (r .0, b .numbers .ensures .1 ∙ all-set (a .text .now) (a .at) (a .start) (a .members .now))
 
 same-length-2 : tie.Need-same-length-2
 same-length-2 c = search needs
@@ -42,7 +43,8 @@ returns-2 : tie.Need-returns-2
 returns-2 c =
     let b = c .before .before .before .before in
     let a = c .before .before .before .before .before .before .before .args in
-    (subst (PartOf (a .text .now) (a .at) (a .members .now) (a .start) (length (a .text .now) + 1) (b .numbers .last .1 .1 .0)) (c .before .to .given .1) (b .numbers .ensures)) .0
+    let r = subst (PartOf (a .text .now) (a .at) (a .members .now) (a .start) (length (a .text .now) + 1) (b .numbers .last .1 .1 .0)) (c .before .to .given .1) (b .numbers .ensures .0) in
+    (r .0, b .numbers .ensures .1 ∙ all-set (a .text .now) (a .at) (a .start) (a .members .now))
 
 same-length-3 : tie.Need-same-length-3
 same-length-3 c = search needs
@@ -51,7 +53,7 @@ returns-3 : tie.Need-returns-3
 returns-3 c =
     let b = c .before .before .before in
     let a = c .before .before .before .before .before .before .args in
-    absurd (set-ends (a .text .now) (a .at) (a .members .now) (a .start) (b .numbers .last .1 .1 .0) (c .enum-told2 .given .0 .0) (subst (PartOf (a .text .now) (a .at) (a .members .now) (a .start) (length (a .text .now) + 1) (b .numbers .last .1 .1 .0)) (c .enum-told2 .given .1) (b .numbers .ensures)))
+    absurd (set-ends (a .text .now) (a .at) (a .members .now) (a .start) (b .numbers .last .1 .1 .0) (c .enum-told2 .given .0 .0) (subst (PartOf (a .text .now) (a .at) (a .members .now) (a .start) (length (a .text .now) + 1) (b .numbers .last .1 .1 .0)) (c .enum-told2 .given .1) (b .numbers .ensures .0)))
 
 pub set-at-spec : {M : Type 1} → statement M
 set-at-spec =

@@ -53,9 +53,12 @@ use denote.Triple.Table.{entered, cited}
 use denote.Triple.Walked.{says, needs, Stays, stay-none, stay-none-slice, stay-slice, walkOf, goes-none, goes-none-slice, goes-slice, Walks, ends-at, walked, walk-meets}
 use denote.Exit.{yes}
 use denote.Signature.{plain}
-use Rattle.text.specs.Awaiting.{Ready, Moved, goesOn, left}
+use Rattle.text.specs.Awaiting.{Ready, goesOn, left}
+use Rattle.text.specs.OneLine.{Stepped}
 use Rattle.text.specs.declared.awaited.Awaited.{Awaited}
 use Rattle.text.specs.declared.reader.LineReader.{LineReader}
+use Rattle.text.proofs.TakenLaws.{Moved}
+use Rattle.text.proofs.StepLaws.{stepped-moved}
 use Rattle.text.proofs.Reached.{Reached, reached-start, reached-next, reached-done}
 use Rattle.text.proofs.Again.{LentAgain, lends-again, comes-back}
 use Rattle.text.proofs.awaited.Awaited as P
@@ -244,7 +247,7 @@ module _ {M : Type 1} (𝓤 : URA M) (H : Heap 𝓤) (A : Atoms 𝓤) (W : Given
         ∷ ‵ (MutSlice (named 2) (νt ∷ []) i32 .own (to .1 .1 .0) (slice xt ∷ [])) ∷ ‵ (MutSlice (named 3) (νu ∷ []) i32 .own (to .1 .1 .1 .0) (slice xu ∷ [])) ∷ ‵ (MutSlice (named 4) (νm ∷ []) i32 .own (to .1 .1 .1 .1 .0) (slice xm ∷ [])) ∷ []
 
     abbrev Found : Awaited → Lasts next-line.ended κs′ to → Type 0
-    Found r zs = (zs .0 .text ≡ s) × Moved (now s) (x .at) (x .p) (x .ts) (x .us) (x .ms) (zs .0 .at) r (zs .1 .1 .0) (zs .1 .1 .1 .0) (zs .1 .1 .1 .1 .0)
+    Found r zs = (zs .0 .text ≡ s) × Stepped (now s) (x .at) (x .p) (x .ts) (x .us) (x .ms) (record { next = zs .0 .at; got = r }) (zs .1 .1 .0) (zs .1 .1 .1 .0) (zs .1 .1 .1 .1 .0)
 
     goes-next : ent 𝓤 (⋆ 𝓤 H A Lent) (NextLine 𝓤 H A at-mem run .pre to-next)
     goes-next =
@@ -252,6 +255,9 @@ module _ {M : Type 1} (𝓤 : URA M) (H : Heap 𝓤) (A : Atoms 𝓤) (W : Given
         -- [what the borrow of the reader owns, and those of the tables]
         nothing ! $ move ! (4 ∷ 0 ∷ []) $ fjoin ! $ move ! (3 ∷ 0 ∷ []) $ fjoin ! $ move ! (2 ∷ 0 ∷ []) $ fjoin ! $
         owned ! P.the-row (Is P.the-row) (EL.makes P.the-type P′.the-plain 𝓤 H A) (x .p) _ (x .known) $ fjoin ! $ move ! (1 ∷ 0 ∷ []) $ fjoin ! $ done !
+
+    moves : (r : Awaited) (zs : Lasts next-line.ended κs′ to) → Found r zs → Moved (now s) (x .at) (x .p) (x .ts) (x .us) (x .ms) (zs .0 .at) r (zs .1 .1 .0) (zs .1 .1 .1 .0) (zs .1 .1 .1 .1 .0)
+    moves r zs e = stepped-moved (now s) (x .at) (x .ts) (x .us) (x .ms) (x .p) (record { next = zs .0 .at; got = r }) (zs .1 .1 .0) (zs .1 .1 .1 .0) (zs .1 .1 .1 .1 .0) (x .reached .ready) (e .1)
 
     -- what a turn ends with
     abbrev reaches : (r : Awaited) (zs : Lasts next-line.ended κs′ to) (v : Val) → Found r zs → Is P.the-row r (v ∷ []) → zs .0 .at < 2 ^ 64
@@ -262,7 +268,7 @@ module _ {M : Type 1} (𝓤 : URA M) (H : Heap 𝓤) (A : Atoms 𝓤) (W : Given
       ts = zs .1 .1 .0;
       us = zs .1 .1 .1 .0;
       ms = zs .1 .1 .1 .1 .0;
-      reached = reached-next (now s) start (now xt) (now xu) (now xm) (x .at) (x .p) (x .ts) (x .us) (x .ms) (x .reached) (zs .0 .at) r (zs .1 .1 .0) (zs .1 .1 .1 .0) (zs .1 .1 .1 .1 .0) (e .1);
+      reached = reached-next (now s) start (now xt) (now xu) (now xm) (x .at) (x .p) (x .ts) (x .us) (x .ms) (x .reached) (zs .0 .at) r (zs .1 .1 .0) (zs .1 .1 .1 .0) (zs .1 .1 .1 .1 .0) (moves r zs e);
       fits = fits;
       known = subst (λ (vs : List Val). Is P.the-row r vs) (EL.tells P.the-type P′.the-laws r _ is) is;
       tl = lt ∙ x .tl;
@@ -419,7 +425,7 @@ module _ {M : Type 1} (𝓤 : URA M) (H : Heap 𝓤) (A : Atoms 𝓤) (W : Given
         land-last ! (from ! (stop !)) (store ! 29 refl (EL.lawful P.the-type P′.the-laws 𝓤 H A W tt .typed r _ is .0)) $ rewrite ! 29 (λ (w : Val). ‵ (fat fullShare P′.mir l₇ 0 w)) (ap only (EL.tells P.the-type P′.the-laws r _ is)) refl $
         forget ! 11 refl $ forget ! 13 refl $ forget ! 15 refl $ forget ! 17 refl $ forget ! 19 refl $ forget ! 21 refl $ forget ! 23 refl $ forget ! 25 refl $
         keep ! (0 ∷ 4 ∷ 6 ∷ 8 ∷ 10 ∷ 1 ∷ 3 ∷ 5 ∷ 7 ∷ 11 ∷ 12 ∷ 13 ∷ 14 ∷ 15 ∷ 16 ∷ 17 ∷ 18 ∷ 19 ∷ 20 ∷ 21 ∷ 22 ∷ 23 ∷ 24 ∷ 25 ∷ 26 ∷ 27 ∷ 28 ∷ 29 ∷ 30 ∷ 2 ∷ 31 ∷ 32 ∷ 33 ∷ 34 ∷ 35 ∷ 36 ∷ 37 ∷ 38 ∷ 39 ∷ 40 ∷ 41 ∷ 42 ∷ 43 ∷ []) $
-        again ! Nearer At x (reaches l₆ ν νt νu νm γ δt δu δm x r zs v e is (LL.owed (T.the-type αᵉ) (T′.the-laws αᵉ) (reader (zs .0 .at)) _ g .1 .0 .1) lt lu lm) (e .1 .less on))))))))))))))))))
+        again ! Nearer At x (reaches l₆ ν νt νu νm γ δt δu δm x r zs v e is (LL.owed (T.the-type αᵉ) (T′.the-laws αᵉ) (reader (zs .0 .at)) _ g .1 .0 .1) lt lu lm) (moves l₆ ν νt νu νm γ δt δu δm x r zs e .less on))))))))))))))))))
 
     ends : (x : St) → goesOn (x .p) ≡ false → Sq W (At x) (runs C Λ En turn-1 (anyQ (Turned x)))
     unfolding afterTurn

@@ -4,7 +4,7 @@ use borrow.Author.Needs.{needs}
 use mathlib.Core.Path.{_≡_, refl, sym, _∙_, subst}
 use lib.ListN.{length}
 use Rattle.text.specs.Rows.{RowOpen}
-use Rattle.text.proofs.Parts.{step-bad, step-more, step-last, open-start, open-bad, open-more, open-last}
+use Rattle.text.proofs.Parts.{step-bad, step-more, step-last, open-start, open-bad, open-more, open-last, open-kept, ended-kept}
 use Rattle.text.proofs.rows.numbers.Statement.{statement}
 use Rattle.text.proofs.rows.numbers.Tie as tie
 use Rattle.text.proofs.rows.numbers.Reads as reads
@@ -47,6 +47,7 @@ returns c =
     let a = b .before .before .before .before .before .args in
     open-bad (a .text .now) (a .at) (a .table .now) (a .to) (l .table) (l .k) (l .i) (l .inv .3)
     (step-bad (a .text .now) (l .i) (l .table) (l .k) 0 (l .table) (sym (b .number .ensures .0) ∙ c .enum-told .given .1))
+    _ (b .number .ensures .1) (a .w) (omega (arith, b .before .before .loop-test .taken))
 
 -- src/rows.rt:52:24
 enum-known-next : tie.Need-enum-known-next Inv-loop μ-loop
@@ -71,11 +72,11 @@ returns-2 : tie.Need-returns-2 Inv-loop μ-loop
 returns-2 c =
     let b = c .before .before .before .before in
     let l = b .before .before .before .loop in
-    let a = b .before .before .before .before .before .args in (
-      open-last (a .text .now) (a .at) (a .table .now) (a .to) (l .table) (l .k) (l .i) (l .inv .3) _ _ _
-          (step-last (a .text .now) (l .i) (l .table) (l .k) _ _ (sym (b .number .ensures .0) ∙ c .before .next2 .given .1) (b .number .ensures .1) (l .inv .3 .within)),
-      omega (arith, b .before .before .loop-test .taken),
-    )
+    let a = b .before .before .before .before .before .args in
+    let within : l .k + 1 ≤ a .to + a .w = omega (arith, b .before .before .loop-test .taken) in
+    let r = open-last (a .text .now) (a .at) (a .table .now) (a .to) (l .table) (l .k) (l .i) (l .inv .3) _ _ _
+    (step-last (a .text .now) (l .i) (l .table) (l .k) _ _ (sym (b .number .ensures .0) ∙ c .before .next2 .given .1) (b .number .ensures .1) (l .inv .3 .within)) in
+    ((r, within), ended-kept (a .text .now) (a .at) (a .table .now) (a .to) _ (a .w) _ (l .k + 1) within r)
 
 -- src/rows.rt:59:9
 add-k : tie.Need-add-k Inv-loop μ-loop
@@ -108,7 +109,8 @@ returns-3 c =
     let l = c .before .loop in
     let a = c .before .before .before .args in
     let e : l .k ≡ a .to + a .w = omega (arith, c .loop-test .left, l .inv .1) in
-    subst (λ (k : ℕ). RowOpen (a .text .now) (a .at) (a .table .now) (a .to) (l .table) k (l .i)) e (l .inv .3)
+    let r = subst (λ (k : ℕ). RowOpen (a .text .now) (a .at) (a .table .now) (a .to) (l .table) k (l .i)) e (l .inv .3) in
+    (r, open-kept (a .text .now) (a .at) (a .table .now) (a .to) (l .table) (a .w) (l .i) r)
 
 pub numbers-spec : {M : Type 1} → statement M
 numbers-spec =

@@ -45,7 +45,8 @@ use denote.Triple.Table.{entered, cited}
 use denote.Triple.Walked.{says, needs, Stays, stay-ref, stay-none, gave-slice, walkOf, goes-ref, goes-none, goes-gave-slice, Walks, ends-at, walked, walk-meets}
 use denote.Exit.{yes}
 use denote.Signature.{Slot, plain, namedLft}
-use Rattle.text.specs.Awaiting.{Ready, Moved}
+use Rattle.text.specs.Awaiting.{Ready}
+use Rattle.text.specs.OneLine.{Stepped}
 use Rattle.text.specs.declared.awaited.Awaited.{Awaited}
 use Rattle.text.specs.declared.awaited.Taken.{Taken}
 use Rattle.text.specs.declared.reader.LineReader.{LineReader}
@@ -147,7 +148,7 @@ module _ {M : Type 1} (𝓤 : URA M) (H : Heap 𝓤) (A : Atoms 𝓤) (W : Given
   Rest = owns (P.the-row ∷ MutSlice (named 2) κt i32 ∷ MutSlice (named 3) κu i32 ∷ MutSlice (named 4) κm i32 ∷ []) (p, (xt, (xu, (xm, tt)))) (enum p ∷ [], (slice xt ∷ [], (slice xu ∷ [], (slice xm ∷ [], tt))))
 
   abbrev Found : Taken → Lasts take-fn.ended κs′ to → Type 0
-  Found r zs = Moved (now (d .text)) (d .at) p (now xt) (now xu) (now xm) (r .next) (r .got) (zs .1 .1 .1 .0) (zs .1 .1 .1 .1 .0) (zs .1 .1 .1 .1 .1 .0)
+  Found r zs = Stepped (now (d .text)) (d .at) p (now xt) (now xu) (now xm) r (zs .1 .1 .1 .0) (zs .1 .1 .1 .1 .0) (zs .1 .1 .1 .1 .1 .0)
 
   goes : Ready (now (d .text)) (d .at) p (now xt) (now xu) (now xm) → ent 𝓤 (⋆ 𝓤 H A (‵ Own ∷ toks ∷ ‵ Rest ∷ [])) (Take 𝓤 H A at-mem run .pre to-take)
   goes ready =
