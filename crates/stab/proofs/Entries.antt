@@ -2,26 +2,27 @@
 -- the line at fault.
 use Prim.Native.Nat.{ℕ, suc, _+_, _-_, _*_, _/_, _%_, _≤_, _<_}
 use native.Mathlib.Omega.{arith}
-use mathlib.Core.Path.{_≡_, refl, ap}
+use mathlib.Core.Path.{_≡_, refl, sym, _∙_, ap}
 use mathlib.Core.Bool.{Bool, true, false}
 use mathlib.Core.List.{List, [], _∷_}
 use mathlib.Core.Option.{Option, none, some}
 use lib.Dec.{leb, eqb}
-use lib.IntN.{ℤ}
+use lib.IntN.{ℤ, pos, _-ℤ_}
 use lib.ListN.{length}
 use borrow.Author.Tests.{leb-true}
-use Rattle.stab.specs.Basic.{if_then_else_, _and_, _otherwise_}
+use Rattle.stab.specs.Basic.{if_then_else_, _and_, _otherwise_, nat}
 use Rattle.stab.specs.Text.{Line, lines, numbers, textLimit}
 use Rattle.stab.specs.Read.{Reading, read, stopped, _andThen_, require, headingAt, valuesOf, values, valuesAt, rowsFrom, nodesFrom, proofRowsFrom, readSchemaLines, readProofLines, readModelLines, readText, readSchema, readProof, readModel, schemaAnswer, proofAnswer, modelAnswer}
 use Rattle.stab.specs.Write.{writingOf, writing, outputRefusal, written}
-use Rattle.stab.specs.Answer.{refusedNumbers, verdictNumbers, writtenNumbers, packed, Packs}
+use Rattle.stab.specs.Answer.{Numbers, WrittenNumbers, refusedNumbers, verdictNumbers, schemaNumbers, proofNumbers, modelNumbers, writtenNumbers, oneNumber, packed, answerIn, placeIn, numbersIn, Packs}
 use Rattle.stab.specs.Check.{check}
 use Rattle.stab.specs.Model.{checkModel}
 use Rattle.stab.specs.LineNumber.{schemaRowLine, proofRowLine, nodeLine, pairLine}
 use Rattle.stab.specs.Program.{tableauOf, modelOf, noFault, inFirst, inSecond, rowFault, among, checkPoints, modelPoints, verdictFault, faultAfterReading, checkFault, modelFault}
-use Rattle.stab.specs.Entry.{withoutCounts, writtenPacked, WrittenFits, faultNumber, faultIn}
+use Rattle.stab.specs.Entry.{withoutCounts, schemaPacked, proofPacked, modelPacked, writtenPacked, writtenIn, WrittenFits, faultNumber, faultIn}
 use Rattle.stab.specs.declared.Place.{Place}
-use Rattle.stab.specs.declared.Written.the-variants.{Refused as WriteRefused}
+use Rattle.stab.specs.declared.Written.{Written}
+use Rattle.stab.specs.declared.Written.the-variants.{Text, Refused as WriteRefused}
 use Rattle.stab.specs.declared.Refusal.{Refusal}
 use Rattle.stab.specs.declared.Fault.{Fault}
 use Rattle.stab.specs.declared.Place.the-variants.{Whole, At}
@@ -35,7 +36,7 @@ use Rattle.stab.specs.declared.ModelRead.{ModelRead}
 use Rattle.stab.specs.declared.ModelRead.the-variants.{Model, Refused as ModelRefused}
 use Rattle.stab.proofs.Bools.{and-left, and-right, unless-none, otherwise-second}
 use Rattle.stab.proofs.Texts.{schema-counts, proof-counts, model-counts}
-use Rattle.stab.proofs.Packed.{check-packs, model-packs}
+use Rattle.stab.proofs.Packed.{check-packs, model-packs, packed-refusal, read-back}
 
 -- ---- a refusal in reading is at line b or above it
 
@@ -188,6 +189,48 @@ pub written-refused : (why : Refusal) (p : Place) → packed (Refused why p) ≡
 unfolding packed verdictNumbers refusedNumbers writtenPacked writtenNumbers withoutCounts
 written-refused why p = omega arith
 
+-- ---- answer, place and bytes are read back from the number
+
+answer-back : (v : Verdict) → Packs v → (answerIn (packed v) ≡ verdictNumbers v .answer) × (placeIn (packed v) ≡ verdictNumbers v .place)
+unfolding numbersIn
+answer-back v h = (ap (λ (a : Numbers). a .answer) (read-back v h), ap (λ (a : Numbers). a .place) (read-back v h))
+
+success : Packs (Accepted 0 0)
+success = (omega arith, omega arith)
+
+pub schema-read-back : (r : SchemaRead) → SchemaFits r → (answerIn (schemaPacked r) ≡ schemaNumbers r .answer) × (placeIn (schemaPacked r) ≡ schemaNumbers r .place)
+unfolding schemaPacked schemaNumbers withoutCounts packed verdictNumbers refusedNumbers
+schema-read-back (Schema root least rows) h = answer-back (Accepted 0 0) success
+schema-read-back (SchemaRefused why p) h = answer-back (Refused why p) h
+
+pub proof-read-back : (r : ProofRead) → ProofFits r → (answerIn (proofPacked r) ≡ proofNumbers r .answer) × (placeIn (proofPacked r) ≡ proofNumbers r .place)
+unfolding proofPacked proofNumbers withoutCounts packed verdictNumbers refusedNumbers
+proof-read-back (Proof rows nodes members) h = answer-back (Accepted 0 0) success
+proof-read-back (ProofRefused why p) h = answer-back (Refused why p) h
+
+pub model-read-back : (r : ModelRead) → ModelFits r → (answerIn (modelPacked r) ≡ modelNumbers r .answer) × (placeIn (modelPacked r) ≡ modelNumbers r .place)
+unfolding modelPacked modelNumbers withoutCounts packed verdictNumbers refusedNumbers
+model-read-back (Model n pairs) h = answer-back (Accepted 0 0) success
+model-read-back (ModelRefused why p) h = answer-back (Refused why p) h
+
+written-are : {a b : WrittenNumbers} → a .answer ≡ b .answer → a .place ≡ b .place → a .bytes ≡ b .bytes → a ≡ b
+written-are p q r i = record { answer = p i; place = q i; bytes = r i }
+
+packed-text : (n : ℕ) → writtenPacked (Text n) ≡ 67108864 + n
+unfolding writtenPacked writtenNumbers withoutCounts oneNumber nat
+packed-text n = refl
+
+pub written-read-back : (w : Written) → WrittenFits w → writtenIn (writtenPacked w) ≡ writtenNumbers w
+unfolding writtenIn writtenNumbers verdictNumbers refusedNumbers
+written-read-back (Text n) h =
+    let e = packed-text n in
+    let place : writtenPacked (Text n) / 67108864 % 8192 ≡ 1 = omega arith in
+    written-are (omega arith) (ap (λ (c : ℕ). pos c -ℤ pos 1) place) (omega arith)
+written-read-back (WriteRefused why p) h =
+    let e = written-refused why p in
+    let b = answer-back (Refused why p) h in
+    written-are (ap (λ (x : ℕ). answerIn x) (sym e) ∙ b .0) (ap (λ (x : ℕ). placeIn x) (sym e) ∙ b .1) (omega (arith, packed-refusal why p))
+
 -- ---- where a refusal points: on a line below 16384, and read back from its number
 
 if-fits : (b : ℕ) (t : Bool) (f g : Fault) → f .line < b → g .line < b → (if t then f else g) .line < b
@@ -225,8 +268,8 @@ unfolding checkFault
 check-fault-fits schema proof =
     after-fits _ (readSchema 4096 schema) (readProof 4096 9216 8192 proof) (stops-schema 4096 schema) (stops-proof 4096 9216 8192 proof)
     (λ a b e.
-        let c = proof-counts 4096 9216 8192 proof b e in
-        verdict-fits _ (check-points-fit (length (a .table) / 4) (length (b .table) / 4) (omega (arith, c .0, c .1))) (check (tableauOf a b)) (check-packs _))
+    let c = proof-counts 4096 9216 8192 proof b e in
+    verdict-fits _ (check-points-fit (length (a .table) / 4) (length (b .table) / 4) (omega (arith, c .0, c .1))) (check (tableauOf a b)) (check-packs _))
 
 pub model-fault-fits : (schema model : List ℕ) → modelFault schema model .line < 16384
 unfolding modelFault

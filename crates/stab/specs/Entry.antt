@@ -4,7 +4,7 @@ use mathlib.Core.List.{List, [], _∷_}
 use lib.Dec.{eqb}
 use lib.IntN.{ℤ, pos}
 use Rattle.stab.specs.Basic.{if_then_else_}
-use Rattle.stab.specs.Answer.{oneNumber, Packs, schemaNumbers, proofNumbers, modelNumbers, writtenNumbers}
+use Rattle.stab.specs.Answer.{WrittenNumbers, oneNumber, answerIn, placeIn, Packs, schemaNumbers, proofNumbers, modelNumbers, writtenNumbers}
 use Rattle.stab.specs.declared.Verdict.the-variants.{Refused}
 use Rattle.stab.specs.declared.SchemaRead.{SchemaRead}
 use Rattle.stab.specs.declared.ProofRead.{ProofRead}
@@ -30,6 +30,10 @@ modelPacked r = let a = modelNumbers r in withoutCounts (a .answer) (a .place)
 -- the bytes stand where a check's two counts do
 unfoldable pub writtenPacked : Written → ℕ
 writtenPacked w = let a = writtenNumbers w in withoutCounts (a .answer) (a .place) + a .bytes
+
+-- read back as zorambi_bytes of include/zorambi.h does
+unfoldable pub writtenIn : ℕ → WrittenNumbers
+writtenIn x = record { answer = answerIn x; place = placeIn x; bytes = x % 67108864 }
 
 -- the bytes stay below the place
 abbrev pub WrittenFits : Written → Type 0
