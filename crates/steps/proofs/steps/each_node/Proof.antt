@@ -20,7 +20,7 @@ loop-holds : tie.Need-loop-holds Inv-loop μ-loop
 loop-holds c = (omega arith, scan-none _ 0 (λ k l. absurd (omega arith)))
 
 judge-requires : tie.Need-judge-requires Inv-loop μ-loop
-judge-requires c κs = (c .if1 .taken, c .before .before .before .before .before .pre)
+judge-requires c κs = (omega arith, c .before .before .before .before .before .pre)
 
 enum-told : tie.Need-enum-told Inv-loop μ-loop
 enum-told c = search needs
