@@ -4,7 +4,7 @@
 
 #include "zorambi.h"
 
-extern uintptr_t seen[14];
+extern uintptr_t seen[18];
 extern size_t seen_count;
 
 static int passed, failed;
@@ -38,7 +38,7 @@ static void test(const char *call, int right) {
   } while (0)
 
 int main(void) {
-  int32_t a[1] = {0}, b[1] = {0}, c[1] = {0}, d[1] = {0}, r[3] = {0};
+  int32_t a[1] = {0}, b[1] = {0}, c[1] = {0}, d[1] = {0}, e[1] = {0}, f[1] = {0}, r[3] = {0};
   uint8_t s[1] = {0}, t[1] = {0};
   size_t span[2] = {0};
 
@@ -66,6 +66,20 @@ int main(void) {
   HANDS(zorambi_check_fault(NULL, 0, NULL, 0), 9, SOME, 0, SOME, 0);
   HANDS(zorambi_model_fault(s, 11, t, 12), 10, AT(s), 11, AT(t), 12);
   HANDS(zorambi_model_fault(NULL, 0, NULL, 0), 10, SOME, 0, SOME, 0);
+  HANDS(zorambi_schema_again(s, 11, a, 12, t, 13), 11, AT(s), 11, AT(a), 12, AT(t), 13);
+  HANDS(zorambi_schema_again(NULL, 0, NULL, 0, NULL, 0), 11, SOME, 0, SOME, 0, SOME, 0);
+  HANDS(zorambi_proof_again(s, 11, a, 12, b, 13, c, 14, t, 15), 12, AT(s), 11, AT(a), 12, AT(b), 13, AT(c), 14, AT(t), 15);
+  HANDS(zorambi_proof_again(NULL, 0, NULL, 0, NULL, 0, NULL, 0, NULL, 0), 12, SOME, 0, SOME, 0, SOME, 0, SOME, 0, SOME, 0);
+  HANDS(zorambi_model_again(s, 11, a, 12, t, 13), 13, AT(s), 11, AT(a), 12, AT(t), 13);
+  HANDS(zorambi_model_again(NULL, 0, NULL, 0, NULL, 0), 13, SOME, 0, SOME, 0, SOME, 0);
+  HANDS(zorambi_schema_rows_again(a, 11, 12, 13, 14, s, 15, b, 16, r), 14, AT(a), 11, 12, 13, 14, AT(s), 15, AT(b), 16, AT(r));
+  HANDS(zorambi_schema_rows_again(NULL, 0, 12, 13, 14, NULL, 0, NULL, 0, r), 14, SOME, 0, 12, 13, 14, SOME, 0, SOME, 0, AT(r));
+  HANDS(zorambi_proof_rows_again(a, 11, 12, b, 13, 14, c, 15, 16, s, 17, d, 18, e, 19, f, 20, r), 15,
+        AT(a), 11, 12, AT(b), 13, 14, AT(c), 15, 16, AT(s), 17, AT(d), 18, AT(e), 19, AT(f), 20, AT(r));
+  HANDS(zorambi_proof_rows_again(NULL, 0, 12, NULL, 0, 14, NULL, 0, 16, NULL, 0, NULL, 0, NULL, 0, NULL, 0, r), 15,
+        SOME, 0, 12, SOME, 0, 14, SOME, 0, 16, SOME, 0, SOME, 0, SOME, 0, SOME, 0, AT(r));
+  HANDS(zorambi_model_rows_again(11, a, 12, 13, s, 14, b, 15, r), 16, 11, AT(a), 12, 13, AT(s), 14, AT(b), 15, AT(r));
+  HANDS(zorambi_model_rows_again(11, NULL, 0, 13, NULL, 0, NULL, 0, r), 16, 11, SOME, 0, 13, SOME, 0, SOME, 0, AT(r));
 
   printf("%d passed, %d failed\n", passed, failed);
   return failed > 0;

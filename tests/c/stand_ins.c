@@ -2,7 +2,7 @@
 #include <stddef.h>
 #include <stdint.h>
 
-uintptr_t seen[14];
+uintptr_t seen[18];
 size_t seen_count;
 
 #define NOTE(...)                                              \
@@ -79,4 +79,44 @@ uint64_t zorambi_check_fault(const uint8_t *schema, size_t schema_len, const uin
 uint64_t zorambi_model_fault(const uint8_t *schema, size_t schema_len, const uint8_t *model, size_t model_len) {
   NOTE(AT(schema), schema_len, AT(model), model_len);
   return 10;
+}
+
+uint64_t zorambi_schema_again(const uint8_t *text, size_t text_len, int32_t *table, size_t table_len, uint8_t *out,
+                              size_t out_len) {
+  NOTE(AT(text), text_len, AT(table), table_len, AT(out), out_len);
+  return 11;
+}
+
+uint64_t zorambi_proof_again(const uint8_t *text, size_t text_len, int32_t *table, size_t table_len, int32_t *nodes,
+                             size_t nodes_len, int32_t *members, size_t members_len, uint8_t *out, size_t out_len) {
+  NOTE(AT(text), text_len, AT(table), table_len, AT(nodes), nodes_len, AT(members), members_len, AT(out), out_len);
+  return 12;
+}
+
+uint64_t zorambi_model_again(const uint8_t *text, size_t text_len, int32_t *pairs, size_t pairs_len, uint8_t *out,
+                             size_t out_len) {
+  NOTE(AT(text), text_len, AT(pairs), pairs_len, AT(out), out_len);
+  return 13;
+}
+
+uint64_t zorambi_schema_rows_again(const int32_t *table, size_t table_len, size_t rows, int32_t root, int32_t least,
+                                   uint8_t *out, size_t out_len, int32_t *back, size_t back_len, int32_t results[3]) {
+  NOTE(AT(table), table_len, rows, NUMBER(root), NUMBER(least), AT(out), out_len, AT(back), back_len, AT(results));
+  return 14;
+}
+
+uint64_t zorambi_proof_rows_again(const int32_t *table, size_t table_len, size_t rows, const int32_t *nodes, size_t nodes_len,
+                                  size_t node_rows, const int32_t *members, size_t members_len, size_t member_count,
+                                  uint8_t *out, size_t out_len, int32_t *back_table, size_t back_table_len,
+                                  int32_t *back_nodes, size_t back_nodes_len, int32_t *back_members, size_t back_members_len,
+                                  int32_t results[3]) {
+  NOTE(AT(table), table_len, rows, AT(nodes), nodes_len, node_rows, AT(members), members_len, member_count, AT(out), out_len,
+       AT(back_table), back_table_len, AT(back_nodes), back_nodes_len, AT(back_members), back_members_len, AT(results));
+  return 15;
+}
+
+uint64_t zorambi_model_rows_again(int32_t n, const int32_t *pairs, size_t pairs_len, size_t pair_rows, uint8_t *out,
+                                  size_t out_len, int32_t *back, size_t back_len, int32_t results[2]) {
+  NOTE(NUMBER(n), AT(pairs), pairs_len, pair_rows, AT(out), out_len, AT(back), back_len, AT(results));
+  return 16;
 }
