@@ -1,14 +1,14 @@
 -- What stays of lent memory: all of it, or nothing after a refusal.
 use Prim.Native.Nat.{ℕ, zero, suc, _≤_}
 use native.Mathlib.Omega.{arith}
-use mathlib.Core.Path.{_≡_, refl, sym, ap}
+use mathlib.Core.Path.{_≡_, refl, sym, _∙_, ap}
 use mathlib.Core.List.{List, []}
-use lib.ListN.{length, replicate}
+use lib.ListN.{length, replicate, length-replicate}
 use Rattle.stab.specs.Text.{padded}
 use Rattle.stab.specs.Answer.{refusalNumber}
 use Rattle.stab.specs.declared.Refusal.{Refusal}
 use Rattle.stab.proofs.Packed.{number-range}
-use Rattle.stab.proofs.Texts.Outcomes.{padded-length, padded-none}
+use Rattle.stab.proofs.Texts.Outcomes.{padded-none}
 use Rattle.round.specs.Again.{kept}
 
 module _ {A : Type 0} (z : A) where
@@ -25,4 +25,4 @@ module _ {A : Type 0} (z : A) where
   pub none-kept : (k n : ℕ) → padded z n [] ≡ kept z k (padded z n [])
   unfolding kept
   none-kept zero n = refl
-  none-kept (suc k) n = ap (λ (i : ℕ). padded z i []) (sym (padded-length z n [] (omega arith)))
+  none-kept (suc k) n = ap (λ (i : ℕ). padded z i []) (sym (ap length (padded-none z n) ∙ length-replicate n z))
