@@ -3,5 +3,4 @@ pub mod Ascending
 pub mod NodeColumns
 pub mod ParentLaws
 pub mod Parts
-pub mod WalkLaws
 pub mod HeldLaws

@@ -1,12 +1,12 @@
 -- A whole number by its natural part and its distance below 0, as code reads it.
-use Prim.Native.Nat.{ℕ, zero, suc, _<_, _≤_}
+use Prim.Native.Nat.{ℕ, zero, suc, _≤_}
 use native.Mathlib.Omega.{arith}
 use mathlib.Core.Path.{_≡_, refl, sym, _∙_, ap}
-use mathlib.Core.Bool.{true, false}
-use lib.Dec.{ltb, eqb}
+use mathlib.Core.Bool.{true}
+use lib.Dec.{ltb}
 use lib.IntN.{ℤ, pos, negsuc, negℤ}
 use lib.Signed.{leZ, ltZ}
-use Rattle.stab.specs.Basic.{eqZ, nat, within}
+use Rattle.stab.specs.Basic.{nat, within}
 use Rattle.stab.proofs.Bools.{and-left, and-right}
 use Rattle.stab.proofs.Whole.{atom, num, of-le, nat-pos, plus-nat, nonneg-minus}
 
@@ -16,24 +16,8 @@ unfolding nat
 is-natural (pos n) h = refl
 is-natural (negsuc n) h = absurd (omega arith)
 
-pub negative-less : (z : ℤ) (n : ℕ) → 0 < nat (negℤ z) → true ≡ ltZ z (pos n)
-unfolding nat
-negative-less (pos zero) n h = absurd (omega arith)
-negative-less (pos (suc k)) n h = absurd (omega arith)
-negative-less (negsuc k) n h = refl
-
 pub natural-less : (z : ℤ) (n : ℕ) → nat (negℤ z) ≤ 0 → ltb (nat z) n ≡ ltZ z (pos n)
 natural-less z n h = ap (λ (x : ℤ). ltZ x (pos n)) (is-natural z h)
-
-pub negative-differs : (z : ℤ) (n : ℕ) → 0 < nat (negℤ z) → false ≡ eqZ (pos n) z
-unfolding nat eqZ
-negative-differs (pos zero) n h = absurd (omega arith)
-negative-differs (pos (suc k)) n h = absurd (omega arith)
-negative-differs (negsuc k) n h = refl
-
-pub natural-same : (z : ℤ) (n : ℕ) → nat (negℤ z) ≤ 0 → eqb n (nat z) ≡ eqZ (pos n) z
-unfolding eqZ
-natural-same z n h = ap (eqZ (pos n)) (is-natural z h)
 
 -- ---- when a number is the natural number n
 

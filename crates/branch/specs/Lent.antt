@@ -38,11 +38,10 @@ pub record SetOfRows (nodes members : List ℤ) (n j : ℕ) : Type 0 where
   pub held : SetHeld nodes members j
   pub rows : (i : ℕ) → i < nat (nodeAt nodes j .size) → below n (getD (setOf members (nodeAt nodes j)) i (pos 0)) ≡ true
 
--- what is known of a child: where its set and its parent's lie, that it lists natural numbers, and that its rank is kept
+-- what is known of a child: where its set and its parent's lie, and that its rank is kept
 pub record ChildKnown (nodes members : List ℤ) (work : List ℕ) (j : ℕ) : Type 0 where
   pub own : SetHeld nodes members j
   pub above : SetHeld nodes members (nat (nodeAt nodes j .up))
-  pub naturals : (i : ℕ) → i < nat (nodeAt nodes j .size) → pos (nat (getD (setOf members (nodeAt nodes j)) i (pos 0))) ≡ getD (setOf members (nodeAt nodes j)) i (pos 0)
   pub rank : getD work (4 * j) 0 ≡ N.rank nodes j
 
 -- a field for which no kind is needed is unused; any other names one of n rows, of that kind

@@ -25,7 +25,15 @@ pub const START: usize = 7;
 
 pub const SIZE: usize = 8;
 
-// The natural part of number k of node j, and how large it can be.
+// Number k of node j.
+pub fn number_of(nodes: &[i32], j: usize, k: usize) -> i32
+    requires { ⌜ (j < 2 ^ 32) × (k < 9) ⌝ }
+    ensures { λ v. ⌜ v ≡ nodeColumn (nodeAt (now (nodes .entry)) j) k ⌝ }
+{
+    signed::at(nodes, 9 * j + k)
+}
+
+// Its natural part, and how large it can be.
 pub fn natural_of(nodes: &[i32], j: usize, k: usize) -> usize
     requires { ⌜ (j < 2 ^ 32) × (k < 9) ⌝ }
     ensures { λ v. ⌜ (v ≡ nat (nodeColumn (nodeAt (now (nodes .entry)) j) k)) × (v < 2 ^ 32) ⌝ }

@@ -1,21 +1,30 @@
 -- What a rule gives to a child, answer by answer as the code finds it.
-use Prim.Native.Nat.{ℕ, zero, suc, _+_, _≤_}
+use Prim.Native.Nat.{ℕ, zero, suc}
 use native.Mathlib.Omega.{arith}
-use mathlib.Core.Path.{_≡_, refl, sym, _∙_}
+use mathlib.Core.Path.{_≡_, refl, sym, _∙_, ap}
 use mathlib.Core.Bool.{Bool, true, false}
 use mathlib.Core.List.{List, [], _∷_}
 use lib.IntN.{ℤ}
-use lib.ListN.{take, drop}
-use Rattle.stab.specs.Basic.{if_then_else_, _or_, eqZ, nat, has}
-use Rattle.stab.specs.Node.{Tableau, Node, node, nodeAt, set, setOf, row}
+use Rattle.stab.specs.Basic.{_or_, eqZ, has}
+use Rattle.stab.specs.Node.{Tableau, Node, row}
 use Rattle.stab.specs.Rule.{ofRule, oneOf, given, drawnFrom}
-use Rattle.stab.proofs.Bools.{or-left, if-true, if-false, or-first-false}
-use Rattle.branch.specs.Search.{walk}
+use Rattle.stab.proofs.Bools.{or-left, if-true, if-false, or-first-false, same-test}
+use Rattle.stab.proofs.Whole.{eqZ-of, eqZ-true}
 
 or-false-last : (a : Bool) → a ≡ (a or false)
 unfolding _or_
 or-false-last true = refl
 or-false-last false = refl
+
+-- what was compared the other way round, with a number that was read back as z
+pub turned : (a : ℤ) {z z′ : ℤ} → z′ ≡ z → eqZ a z′ ≡ eqZ z a
+turned a {z} {z′} e =
+    same-test (eqZ a z′) (eqZ z a)
+    (λ h. eqZ-of z a (sym e ∙ sym (eqZ-true a z′ h)))
+    (λ h. eqZ-of a z′ (sym (eqZ-true z a h) ∙ sym e))
+
+pub read-as : (xs : List ℤ) {z z′ : ℤ} → z′ ≡ z → has z′ xs ≡ has z xs
+read-as xs e = ap (λ (x : ℤ). has x xs) e
 
 -- ---- one of two
 
@@ -76,20 +85,3 @@ module _ (T : Tableau) (w : Node) (k : ℕ) where
 
 pub drawn-same : (T : Tableau) {p p′ k k′ : ℕ} {z z′ : ℤ} → p ≡ p′ → k ≡ k′ → z ≡ z′ → drawnFrom T p k z ≡ drawnFrom T p′ k′ z′
 drawn-same T a b c = cc
-
--- a member of the parent's set, which has `size` members from `start` on
-pub drawn-above : (T : Tableau) (p k : ℕ) (z : ℤ) {start size : ℕ} → start ≡ nat (nodeAt (T .nodes) p .start) → size ≡ nat (nodeAt (T .nodes) p .size) → has z (take size (drop start (T .members))) ≡ true → drawnFrom T p k z ≡ true
-unfolding drawnFrom node set setOf
-drawn-above T p k z a b h = or-left _ _ (rw (a, b) at h)
-
--- ---- a walk goes no further than it may
-
-if-both : (a : Bool) (x y n : ℕ) → x ≤ n → y ≤ n → (if a then x else y) ≤ n
-unfolding if_then_else_
-if-both true x y n h k = h
-if-both false x y n h k = k
-
-pub walk-bound : (xs : List ℤ) (start z k i : ℕ) → walk xs start z i k ≤ i + k
-unfolding walk
-walk-bound xs start z zero i = omega arith
-walk-bound xs start z (suc k) i = if-both _ _ _ _ (omega (arith, walk-bound xs start z k (i + 1))) (omega arith)

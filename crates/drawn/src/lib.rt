@@ -6,81 +6,59 @@ use branch::worked;
 use formula::kept;
 ghost use mathlib.Core.Path.{_≡_};
 ghost use mathlib.Core.List.{[], _∷_};
-ghost use Prim.Native.Nat.{_<_, _^_};
+ghost use Prim.Native.Nat.{_+_, _-_, _<_, _≤_, _^_};
 ghost use lib.IntN.{pos};
-ghost use Rattle.stab.specs.Basic.{eqZ, nat, has, allOf};
+ghost use lib.ListN.{getD, length, take, drop};
+ghost use Rattle.stab.specs.Basic.{nat, has, allOf};
 ghost use Rattle.stab.specs.Formula.{joined};
 ghost use Rattle.stab.specs.Node as N;
-ghost use Rattle.stab.specs.Node.{nodeAt, set};
+ghost use Rattle.stab.specs.Node.{nodeAt, set, setOf};
+ghost use Rattle.stab.specs.Search.{placeOf};
 ghost use Rattle.stab.specs.Rule.{oneOf, given, drawnFrom};
-ghost use Rattle.formula.specs.Column.{column};
-ghost use Rattle.branch.specs.NodeColumn.{nodeColumn};
 ghost use Rattle.branch.specs.Lent.{lent, SetHeld, ChildKnown};
 
-// Column k of row r is z.
-fn part_is(schema: &[i32], s: usize, proof: &[i32], r: usize, k: usize, z: usize) -> bool
-    requires { ⌜ (r < 2 ^ 32) × (k < 4) ⌝ }
-    ensures { λ v. ⌜ v ≡ eqZ (pos z) (column (joined (now (schema .entry)) s (now (proof .entry)) r) k) ⌝ }
-{
-    if 0 < formula::under_in(schema, s, proof, r, k) {
-        return false;
-    }
-    z == formula::natural_in(schema, s, proof, r, k)
-}
-
-// Number k of node p is z.
-fn number_is(nodes: &[i32], p: usize, k: usize, z: usize) -> bool
-    requires { ⌜ (p < 2 ^ 32) × (k < 9) ⌝ }
-    ensures { λ v. ⌜ v ≡ eqZ (pos z) (nodeColumn (nodeAt (now (nodes .entry)) p) k) ⌝ }
-{
-    if 0 < node::under_of(nodes, p, k) {
-        return false;
-    }
-    z == node::natural_of(nodes, p, k)
-}
-
 // z is a part of row r.
-fn is_part(schema: &[i32], s: usize, proof: &[i32], r: usize, z: usize) -> bool
+fn is_part(schema: &[i32], s: usize, proof: &[i32], r: usize, z: i32) -> bool
     requires { ⌜ r < 2 ^ 32 ⌝ }
-    ensures { λ v. ⌜ v ≡ has (pos z) (joined (now (schema .entry)) s (now (proof .entry)) r .a ∷ joined (now (schema .entry)) s (now (proof .entry)) r .b ∷ []) ⌝ }
+    ensures { λ v. ⌜ v ≡ has z (joined (now (schema .entry)) s (now (proof .entry)) r .a ∷ joined (now (schema .entry)) s (now (proof .entry)) r .b ∷ []) ⌝ }
 {
-    if part_is(schema, s, proof, r, formula::A, z) {
+    if formula::is_in(schema, s, proof, r, formula::A, z) {
         return true;
     }
-    part_is(schema, s, proof, r, formula::B, z)
+    formula::is_in(schema, s, proof, r, formula::B, z)
 }
 
 // z is the left part for the first child, the right part for the second.
-fn is_side(schema: &[i32], s: usize, proof: &[i32], r: usize, rank: usize, z: usize) -> bool
+fn is_side(schema: &[i32], s: usize, proof: &[i32], r: usize, rank: usize, z: i32) -> bool
     requires { ⌜ r < 2 ^ 32 ⌝ }
-    ensures { λ v. ⌜ v ≡ has (pos z) (oneOf (joined (now (schema .entry)) s (now (proof .entry)) r .a) (joined (now (schema .entry)) s (now (proof .entry)) r .b) rank) ⌝ }
+    ensures { λ v. ⌜ v ≡ has z (oneOf (joined (now (schema .entry)) s (now (proof .entry)) r .a) (joined (now (schema .entry)) s (now (proof .entry)) r .b) rank) ⌝ }
 {
     if rank == 0 {
-        return part_is(schema, s, proof, r, formula::A, z);
+        return formula::is_in(schema, s, proof, r, formula::A, z);
     }
-    part_is(schema, s, proof, r, formula::B, z)
+    formula::is_in(schema, s, proof, r, formula::B, z)
 }
 
 // z is `with` or `other` of node p.
-fn is_unfolded(nodes: &[i32], p: usize, z: usize) -> bool
+fn is_unfolded(nodes: &[i32], p: usize, z: i32) -> bool
     requires { ⌜ p < 2 ^ 32 ⌝ }
-    ensures { λ v. ⌜ v ≡ has (pos z) (nodeAt (now (nodes .entry)) p .with ∷ nodeAt (now (nodes .entry)) p .other ∷ []) ⌝ }
+    ensures { λ v. ⌜ v ≡ has z (nodeAt (now (nodes .entry)) p .with ∷ nodeAt (now (nodes .entry)) p .other ∷ []) ⌝ }
 {
-    if number_is(nodes, p, node::WITH, z) {
+    if node::is_of(nodes, p, node::WITH, z) {
         return true;
     }
-    number_is(nodes, p, node::OTHER, z)
+    node::is_of(nodes, p, node::OTHER, z)
 }
 
 // z is `with` for the first child, `other` for the second.
-fn is_half(nodes: &[i32], p: usize, rank: usize, z: usize) -> bool
+fn is_half(nodes: &[i32], p: usize, rank: usize, z: i32) -> bool
     requires { ⌜ p < 2 ^ 32 ⌝ }
-    ensures { λ v. ⌜ v ≡ has (pos z) (oneOf (nodeAt (now (nodes .entry)) p .with) (nodeAt (now (nodes .entry)) p .other) rank) ⌝ }
+    ensures { λ v. ⌜ v ≡ has z (oneOf (nodeAt (now (nodes .entry)) p .with) (nodeAt (now (nodes .entry)) p .other) rank) ⌝ }
 {
     if rank == 0 {
-        return number_is(nodes, p, node::WITH, z);
+        return node::is_of(nodes, p, node::WITH, z);
     }
-    number_is(nodes, p, node::OTHER, z)
+    node::is_of(nodes, p, node::OTHER, z)
 }
 
 // The rule of node p gives z to its child of that rank. No set is looked at.
@@ -91,10 +69,10 @@ fn is_given(
     t: Counts,
     p: usize,
     rank: usize,
-    z: usize,
+    z: i32,
 ) -> bool
     requires { ⌜ p < 2 ^ 32 ⌝ }
-    ensures { λ v. ⌜ v ≡ has (pos z) (given (lent (now (schema .entry)) (now (proof .entry)) (now (nodes .entry)) [] t) (nodeAt (now (nodes .entry)) p) rank) ⌝ }
+    ensures { λ v. ⌜ v ≡ has z (given (lent (now (schema .entry)) (now (proof .entry)) (now (nodes .entry)) [] t) (nodeAt (now (nodes .entry)) p) rank) ⌝ }
 {
     let on = node::natural_of(nodes, p, node::ON);
     if node::is_of(nodes, p, node::RULE, 0) {
@@ -112,8 +90,15 @@ fn is_given(
     false
 }
 
-// z may stand in the set of a child of node p, whose own set has `size` members from `start` on. Most members of a child's set
-// stand in its parent's, and `near` tells where: a wrong hint costs a search.
+// The place of member `of` in what is left of a list that ends at `end`.
+fn next(members: &[i32], at: usize, end: usize, of: usize) -> usize
+    requires { ⌜ (at ≤ end) × (end ≤ length (now members)) ⌝ }
+    ensures { λ r. ⌜ r ≡ at + placeOf (getD (now (members .entry)) of (pos 0)) (take (end - at) (drop at (now (members .entry)))) ⌝ }
+{
+    at + member::place(&members[at..end], signed::at(members, of))
+}
+
+// Member `of` may stand in the set of a child of node p: it stands at its place in the set of p, which ends at `end`, or is given.
 fn may_stand(
     schema: &[i32],
     proof: &[i32],
@@ -122,26 +107,23 @@ fn may_stand(
     t: Counts,
     p: usize,
     rank: usize,
-    start: usize,
-    size: usize,
-    near: usize,
-    z: usize,
+    at: usize,
+    end: usize,
+    of: usize,
 ) -> bool
-    requires { ⌜ (p < 2 ^ 32) × (start ≡ nat (nodeAt (now nodes) p .start)) × (size ≡ nat (nodeAt (now nodes) p .size)) ⌝ }
-    requires { ⌜ SetHeld (now nodes) (now members) p ⌝ }
-    ensures { λ v. ⌜ v ≡ drawnFrom (lent (now (schema .entry)) (now (proof .entry)) (now (nodes .entry)) (now (members .entry)) t) p rank (pos z) ⌝ }
+    requires { ⌜ (p < 2 ^ 32) × SetHeld (now nodes) (now members) p ⌝ }
+    requires { ⌜ (at ≡ nat (nodeAt (now nodes) p .start) + placeOf (getD (now members) of (pos 0)) (setOf (now members) (nodeAt (now nodes) p))) × (end ≡ nat (nodeAt (now nodes) p .start) + nat (nodeAt (now nodes) p .size)) ⌝ }
+    ensures { λ v. ⌜ v ≡ drawnFrom (lent (now (schema .entry)) (now (proof .entry)) (now (nodes .entry)) (now (members .entry)) t) p rank (getD (now (members .entry)) of (pos 0)) ⌝ }
 {
-    if member::stands_at(members, start, size, near, z) {
+    let z = signed::at(members, of);
+    if member::stands_at(&members[at..end], 0, z) {
         return true;
     }
-    if is_given(schema, proof, nodes, t, p, rank, z) {
-        return true;
-    }
-    member::stands(members, start, size, z)
+    is_given(schema, proof, nodes, t, p, rank, z)
 }
 
 // The set of node j is drawn from its parent's set and what the parent's rule gives.
-// Both sets ascend: after a member of both, the next of the parent's is tried first, then what a walk finds.
+// Both sets ascend: the search for a member goes on in what is left of the parent's set after the search before.
 pub fn is_drawn(
     schema: &[i32],
     proof: &[i32],
@@ -159,31 +141,24 @@ pub fn is_drawn(
     let rank = kept::kept_at(work, 4 * j + worked::RANK);
     let start = node::natural_of(nodes, j, node::START);
     let size = node::natural_of(nodes, j, node::SIZE);
-    let above = node::natural_of(nodes, p, node::START);
-    let above_size = node::natural_of(nodes, p, node::SIZE);
-    let mut near: usize = 0;
+    let mut at = node::natural_of(nodes, p, node::START);
+    let end = at + node::natural_of(nodes, p, node::SIZE);
     let mut i: usize = 0;
     while i < size {
-        let z = signed::natural_at(members, start + i);
-        if member::stands_at(members, above, above_size, near + 1, z) {
-            near += 1;
-        } else {
-            near = member::walked(members, above, above_size, near, z);
-            if !may_stand(
-                schema,
-                proof,
-                nodes,
-                members,
-                t,
-                p,
-                rank,
-                above,
-                above_size,
-                near,
-                z,
-            ) {
-                return false;
-            }
+        at = next(members, at, end, start + i);
+        if !may_stand(
+            schema,
+            proof,
+            nodes,
+            members,
+            t,
+            p,
+            rank,
+            at,
+            end,
+            start + i,
+        ) {
+            return false;
         }
         i += 1;
     }

@@ -1,17 +1,10 @@
 -- What a test's answer says: of the test that was asked, and of a longer test that starts with it.
 use mathlib.Core.Path.{_≡_, refl, sym, _∙_}
 use mathlib.Core.Bool.{Bool, true, false, true≢false, false≢true}
-use Rattle.stab.specs.Basic.{_and_, _or_, _implies_}
+use Rattle.stab.specs.Basic.{_and_, _implies_}
 use Rattle.stab.proofs.Bools.{and-first-false, and-first-true}
 
--- ---- `if !r`: r is the answer to t
-
 -- ---- a longer test whose first part is known
-
-pub or-last-false : (a b : Bool) → b ≡ false → (a or b) ≡ a
-unfolding _or_
-or-last-false true b h = refl
-or-last-false false b h = h
 
 pub implies-made : (a b : Bool) → a ≡ true → b ≡ (a implies b)
 unfolding _implies_

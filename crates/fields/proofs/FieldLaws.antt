@@ -9,7 +9,6 @@ use Rattle.stab.specs.Basic.{_and_, eqZ, nat, below}
 use Rattle.stab.specs.Formula.{Row}
 use Rattle.stab.specs.Rule.{unused}
 use Rattle.stab.proofs.Bools.{and-left, and-first-false, if-true, if-false, and-first-true}
-use Rattle.stab.proofs.Trees.{below-pos}
 use Rattle.branch.specs.Lent.{fitsKind}
 
 -- ---- kinds
@@ -40,6 +39,3 @@ at-least-1 (negsuc n) = refl
 
 pub kind-below : (rows : ℕ → Row) (n : ℕ) (need z : ℤ) → eqZ need unused ≡ false → fitsKind rows n need z ≡ true → below n z ≡ true
 kind-below rows n need z h l = and-left _ _ (kind-used rows n need z h ∙ l)
-
-pub kind-natural : (rows : ℕ → Row) (n : ℕ) (need z : ℤ) → eqZ need unused ≡ false → fitsKind rows n need z ≡ true → pos (nat z) ≡ z
-kind-natural rows n need z h l = below-pos n z (kind-below rows n need z h l)

@@ -8,8 +8,7 @@ use stab::Rule;
 ghost use mathlib.Core.Path.{_≡_};
 ghost use mathlib.Core.Bool.{true, false};
 ghost use Prim.Native.Nat.{_+_, _<_, _≤_, _^_};
-ghost use lib.IntN.{pos};
-ghost use Rattle.stab.specs.Basic.{_or_, eqZ, nat, below, has};
+ghost use Rattle.stab.specs.Basic.{_or_, eqZ, below, has};
 ghost use Rattle.stab.specs.Formula.{joined};
 ghost use Rattle.stab.specs.Node.{nodeAt, setOf};
 ghost use Rattle.stab.specs.Rule.{unused, symbolFits, fieldsFit};
@@ -31,12 +30,11 @@ fn is_below(nodes: &[i32], j: usize, k: usize, n: usize) -> bool
 fn in_set(nodes: &[i32], members: &[i32], j: usize, k: usize) -> bool
     requires { ⌜ (j < 2 ^ 32) × (k < 9) ⌝ }
     requires { ⌜ SetHeld (now nodes) (now members) j ⌝ }
-    requires { ⌜ pos (nat (nodeColumn (nodeAt (now nodes) j) k)) ≡ nodeColumn (nodeAt (now nodes) j) k ⌝ }
     ensures { λ r. ⌜ r ≡ has (nodeColumn (nodeAt (now (nodes .entry)) j) k) (setOf (now (members .entry)) (nodeAt (now (nodes .entry)) j)) ⌝ }
 {
     let start = node::natural_of(nodes, j, node::START);
     let size = node::natural_of(nodes, j, node::SIZE);
-    member::stands(members, start, size, node::natural_of(nodes, j, k))
+    member::stands(&members[start..start + size], node::number_of(nodes, j, k))
 }
 
 // It is unused if no kind is needed, and else names a row of the kind.
@@ -67,7 +65,6 @@ fn kind_fits(
 fn on_stands(nodes: &[i32], members: &[i32], j: usize, need: i32) -> bool
     requires { ⌜ j < 2 ^ 32 ⌝ }
     requires { ⌜ SetHeld (now nodes) (now members) j ⌝ }
-    requires { ⌜ (eqZ need unused ≡ false → pos (nat (nodeAt (now nodes) j .on)) ≡ nodeAt (now nodes) j .on) ⌝ }
     ensures { λ r. ⌜ r ≡ (eqZ need unused or has (nodeAt (now (nodes .entry)) j .on) (setOf (now (members .entry)) (nodeAt (now (nodes .entry)) j))) ⌝ }
 {
     if signed::equal(need, -1) {

@@ -14,7 +14,7 @@ use Rattle.stab.specs.Basic.{_and_, _implies_, eqZ, nat, below, allOf, ascendin
 use Rattle.stab.specs.Node.{nodeAt, setOf, setStart, setEnd, setFollows}
 use Rattle.stab.proofs.Bools.{and-left, and-right, and-both, and-first-false, and-second-false, same-test}
 use Rattle.stab.proofs.Whole.{eqZ-true, eqZ-of, eqZ-not, nat-pos, nat-of, at-least-0, below-0}
-use Rattle.stab.proofs.Trees.{below-of, below-pos}
+use Rattle.stab.proofs.Trees.{below-of}
 use Rattle.branch.specs.Sets.{outerBy, risesAt, memberFits, listFits, placeFits, setRight}
 use Rattle.branch.proofs.Ascending.{part-at, ascending-at}
 use Rattle.branch.proofs.Parts.{is-natural}
@@ -35,10 +35,6 @@ module _ (facts : List ℕ) (n : ℕ) (z : ℤ) where
   unfolding outerBy _and_
   outer-row h p =
       sym (ap (λ (b : Bool). b and eqb (getD facts (4 * nat z + 2) 0) 0) (subst (λ (x : ℤ). below n x ≡ true) (is-natural z h) (below-of n (nat z) p)))
-
-  pub outer-natural : outerBy facts n z ≡ true → pos (nat z) ≡ z
-  unfolding outerBy
-  outer-natural h = below-pos n z (and-left _ _ h)
 
 -- ---- lists of members, by places
 
@@ -107,13 +103,13 @@ module _ (facts : List ℕ) (n : ℕ) (members : List ℤ) (start len : ℕ) (fi
       → i < len
       → outerBy facts n (getD members (start + i) (pos 0)) ≡ true
       → (i ≡ 0 → ⊥)
-      → ltZ (getD members (start + i - 1) (pos 0)) (pos (nat (getD members (start + i) (pos 0)))) ≡ memberFits facts n (take len (drop start members)) i
+      → ltZ (getD members (start + i - 1) (pos 0)) (getD members (start + i) (pos 0)) ≡ memberFits facts n (take len (drop start members)) i
   unfolding memberFits risesAt _and_
   member-next zero q h e = absurd (e refl)
   member-next (suc i) q h e =
       ap₂ ltZ
       (ap (λ (a : ℕ). getD members a (pos 0)) (omega arith) ∙ sym (part-at members start len fits i (omega arith)))
-      (outer-natural facts n _ h ∙ sym (part-at members start len fits (suc i) q))
+      (sym (part-at members start len fits (suc i) q))
       ∙ sym (ap (λ (b : Bool). b and risesAt (take len (drop start members)) (suc i)) (at-place (suc i) q ∙ h))
 
 -- ---- where a set lies

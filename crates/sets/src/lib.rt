@@ -1,7 +1,6 @@
 // The sets of nodes: where they lie, in which order, and of which rows.
 pub mod parents;
 
-use branch::member;
 use branch::node;
 use formula::rows::LOOSE;
 use stab::Finding;
@@ -44,7 +43,7 @@ fn member_fits(facts: &[u32], n: usize, members: &[i32], start: usize, len: usiz
     if i == 0 {
         return true;
     }
-    member::is_less(members, at - 1, signed::natural_at(members, at))
+    signed::less(signed::at(members, at - 1), signed::at(members, at))
 }
 
 // The list holds outer rows in ascending order.

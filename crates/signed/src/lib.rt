@@ -3,6 +3,7 @@
 ghost use mathlib.Core.Path.{_≡_};
 ghost use lib.ListN.{getD, length};
 ghost use lib.IntN.{pos, negsuc, negℤ, _-ℤ_};
+ghost use lib.Signed.{ltZ};
 ghost use Prim.Native.Nat.{_<_, _≤_, _^_};
 ghost use Rattle.stab.specs.Basic.{eqZ, nat};
 ghost use Rattle.stab.specs.Check.{holds as tableHolds};
@@ -58,6 +59,13 @@ pub fn equal(a: i32, b: i32) -> bool
     ensures { λ r. ⌜ r ≡ eqZ a b ⌝ }
 {
     a == b
+}
+
+// The first is less than the second.
+pub fn less(a: i32, b: i32) -> bool
+    ensures { λ r. ⌜ r ≡ ltZ a b ⌝ }
+{
+    a < b
 }
 
 // The natural part of what stands at i, and how large it can be.

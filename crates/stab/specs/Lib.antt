@@ -6,6 +6,7 @@ pub mod Alike
 pub mod Node
 pub mod Rule
 pub mod Check
+pub mod Search
 pub mod Model
 pub mod Keeps
 pub mod Refuted

@@ -14,7 +14,6 @@ use Rattle.stab.specs.Basic.{_and_, nat, below, allOf, ascending}
 use Rattle.stab.specs.Node.{Tableau, node, nodeAt, set, setStart, setEnd, setFollows, setFits, parentFits, rowCount, isOuterRow, isAncestor, aboveN, aboveIf}
 use Rattle.stab.specs.Rule.{ofRule, targetFits}
 use Rattle.stab.proofs.Bools.{and-left, and-right, and-both, or-false, implies-use, decide}
-use Rattle.stab.proofs.Trees.{below-pos}
 use Rattle.stab.proofs.Whole.{eqZ-not, nat-of, below-0}
 use Rattle.branch.specs.Lent.{SetHeld, SetOfRows, ChildKnown}
 use Rattle.branch.specs.Parents.{upFits, AllUpFit}
@@ -85,7 +84,6 @@ module _ (T : Tableau) (facts work : List ℕ) (ready : Ready T facts work) wher
       record {
         own = set-held j p;
         above = set-held _ (omega (arith, parent-less (T .nodes) j (ups j p) q));
-        naturals = λ i h. below-pos (rowCount T) _ (set-of-rows j p .rows i h);
         rank = ready .worked j p .rank;
       }
 

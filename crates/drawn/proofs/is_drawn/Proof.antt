@@ -1,35 +1,44 @@
+-- The search for each member starts no later than at its place in the parent's set.
 use borrow.Author.Needs.{needs}
 use Prim.Native.Nat.{ℕ, _+_, _-_, _<_, _≤_}
 use native.Mathlib.Omega.{arith}
-use mathlib.Core.Path.{_≡_, sym, _∙_, subst}
+use mathlib.Core.Path.{_≡_, sym, _∙_, ap, ap₂, subst}
+use mathlib.Core.List.{List}
 use mathlib.Core.Bool.{Bool, true, true≢false}
-use mathlib.Core.Logic.{⊎-elim}
-use lib.IntN.{pos}
-use lib.ListN.{getD, length}
+use lib.IntN.{ℤ, pos}
+use lib.ListN.{getD}
 use borrow.Author.Count.{below-more}
-use borrow.Author.Tests.{ltb-true}
-use Rattle.stab.proofs.Bools.{and-left, asked-false, asked-true}
-use Rattle.formula.proofs.KeptLaws.{first-at}
-use Rattle.branch.proofs.WalkLaws.{stood}
-use Rattle.stab.specs.Node.{Tableau, node, nodeAt, set, setOf}
-use Rattle.stab.specs.Rule.{drawnFrom}
-use Rattle.branch.specs.Lent.{lent, SetHeld}
 use Rattle.stab.specs.Basic.{nat}
 use Rattle.stab.specs.Node as N
-use Rattle.drawn.proofs.DrawnLaws.{drawn-same, drawn-above, walk-bound}
-use Rattle.branch.proofs.HeldLaws.{set-length, member-read}
+use Rattle.stab.specs.Node.{node, nodeAt, set, setOf}
+use Rattle.stab.specs.Rule.{drawnFrom}
+use Rattle.stab.specs.Search.{placeOf}
+use Rattle.stab.proofs.Bools.{asked-false, asked-true}
+use Rattle.stab.proofs.Searches.{place-within, place-grows}
+use Rattle.branch.specs.Lent.{lent, SetHeld}
+use Rattle.branch.proofs.Ascending.{ascending-at}
+use Rattle.branch.proofs.HeldLaws.{set-length, set-at}
+use Rattle.formula.proofs.KeptLaws.{first-at}
 use Rattle.sets.proofs.SetLaws.{all-at, at-all, fails}
+use Rattle.drawn.proofs.DrawnLaws.{drawn-same}
+use Rattle.drawn.proofs.Rests.{next-place}
 use Rattle.drawn.proofs.is_drawn.Statement.{statement}
 use Rattle.drawn.proofs.is_drawn.Tie as tie
 
+-- the place of member i of the set of node j in the parent's set
+abbrev placed : List ℤ → List ℤ → ℕ → ℕ → ℕ
+placed nodes members j i = placeOf (getD (setOf members (nodeAt nodes j)) i (pos 0)) (setOf members (nodeAt nodes (nat (nodeAt nodes j .up))))
+
 abbrev Inv-loop : tie.InvT-loop
-Inv-loop schema proof nodes members work t j p rank start size above above-size near₀ i₀ near i =
+Inv-loop schema proof nodes members work t j p rank start size at₀ end i₀ at i =
     (i ≤ nat (nodeAt nodes j .size))
     × ((a : ℕ) → a < i → drawnFrom (lent schema proof nodes members t) (nat (nodeAt nodes j .up)) (N.rank nodes j) (getD (setOf members (nodeAt nodes j)) a (pos 0)) ≡ true)
-    × (near ≤ above-size)
+    × (at₀ ≤ at)
+    × (at ≤ end)
+    × (i < nat (nodeAt nodes j .size) → at ≤ at₀ + placed nodes members j i)
 
 abbrev μ-loop : tie.MeasureT-loop
-μ-loop schema proof nodes members work t j p rank start size above above-size near₀ i₀ near i = size - i
+μ-loop schema proof nodes members work t j p rank start size at₀ end i₀ at i = size - i
 
 natural-of-requires : tie.Need-natural-of-requires Inv-loop μ-loop
 natural-of-requires c κs = omega arith
@@ -55,79 +64,99 @@ natural-of-requires-4 c κs = (c .before .before .before .natural-of .ensures .1
 natural-of-requires-5 : tie.Need-natural-of-requires-5 Inv-loop μ-loop
 natural-of-requires-5 c κs = (c .before .before .before .before .natural-of .ensures .1, omega arith)
 
+add-end : tie.Need-add-end Inv-loop μ-loop
+add-end c = omega (arith, c .natural-of5 .ensures .1, c .before .natural-of4 .ensures .1)
+
 loop-holds : tie.Need-loop-holds Inv-loop μ-loop
-loop-holds c = (omega arith, λ a p. absurd (omega arith), omega arith)
+loop-holds c = (omega arith, λ a p. absurd (omega arith), omega arith, omega arith, λ p. omega arith)
 
-add-natural-at : tie.Need-add-natural-at Inv-loop μ-loop
-add-natural-at c = omega (arith, c .before .before .before .before .before .natural-of2 .ensures .0, c .before .before .before .before .natural-of3 .ensures .0, c .before .before .before .before .before .before .before .before .before .pre .1 .own .within, c .before .before .before .before .before .before .before .before .before .good)
+abbrev Begin : tie.At-loop Inv-loop μ-loop → tie.Start Inv-loop μ-loop
+Begin l = l .before .before .before .before .before .before .before .before
 
-natural-at-requires : tie.Need-natural-at-requires Inv-loop μ-loop
-natural-at-requires c κs = search needs
+-- the parent
+abbrev Parent : tie.At-loop Inv-loop μ-loop → ℕ
+Parent l = l .before .before .before .before .before .before .natural-of .result
 
-abbrev Begin : tie.After-natural-at Inv-loop μ-loop → tie.Start Inv-loop μ-loop
-Begin n = n .before .before .before .before .before .before .before .before .before .before
+parent-is : (l : tie.At-loop Inv-loop μ-loop) → Parent l ≡ nat (nodeAt (Begin l .args .nodes .now) (Begin l .args .j) .up)
+parent-is l = l .before .before .before .before .before .before .natural-of .ensures .0
 
-abbrev Lent : tie.Start Inv-loop μ-loop → Tableau
-Lent s = lent (s .args .schema .now) (s .args .proof .now) (s .args .nodes .now) (s .args .members .now) (s .args .t)
+held : (l : tie.At-loop Inv-loop μ-loop) → SetHeld (Begin l .args .nodes .now) (Begin l .args .members .now) (Parent l)
+held l = let s = Begin l in subst (SetHeld (s .args .nodes .now) (s .args .members .now)) (sym (parent-is l)) (s .pre .1 .above)
 
--- the parent's set lies within the members
-within : (n : tie.After-natural-at Inv-loop μ-loop) → n .before .before .before .before .natural-of4 .result + n .before .before .before .natural-of5 .result ≤ length (Begin n .args .members .now)
-within n =
-    let s = Begin n in
-    let held : SetHeld (s .args .nodes .now) (s .args .members .now) (n .before .before .before .before .before .before .before .before .natural-of .result) = subst (SetHeld (s .args .nodes .now) (s .args .members .now)) (sym (n .before .before .before .before .before .before .before .before .natural-of .ensures .0)) (s .pre .1 .above) in
-    omega (arith, n .before .before .before .before .natural-of4 .ensures .0, n .before .before .before .natural-of5 .ensures .0, held .within)
+-- where member i of the node's set is sought
+abbrev sought : (l : tie.At-loop Inv-loop μ-loop) → ℕ
+sought l = l .before .before .before .before .natural-of2 .result + l .loop .i
 
-add-stands-at : tie.Need-add-stands-at Inv-loop μ-loop
-add-stands-at c = omega (arith, within c, c .before .before .loop .inv .2, Begin c .good)
+abbrev own : (l : tie.At-loop Inv-loop μ-loop) → ℕ
+own l = nat (nodeAt (Begin l .args .nodes .now) (Begin l .args .j) .size)
 
-stands-at-requires : tie.Need-stands-at-requires Inv-loop μ-loop
-stands-at-requires c κs = within c
+-- member i
+member : (l : tie.At-loop Inv-loop μ-loop) → l .loop .i < own l → getD (Begin l .args .members .now) (sought l) (pos 0) ≡ getD (setOf (Begin l .args .members .now) (nodeAt (Begin l .args .nodes .now) (Begin l .args .j))) (l .loop .i) (pos 0)
+member l h =
+    let s = Begin l in
+    ap (λ (a : ℕ). getD (s .args .members .now) (a + l .loop .i) (pos 0)) (l .before .before .before .before .natural-of2 .ensures .0)
+    ∙ sym (set-at (s .args .nodes .now) (s .args .members .now) (s .args .j) (s .pre .1 .own) (l .loop .i) h)
 
-add-near : tie.Need-add-near Inv-loop μ-loop
-add-near c =
-    let n = c .before .before in
-    omega (arith, within n, n .before .before .loop .inv .2, Begin n .good)
+-- its place in the parent's set
+place : (l : tie.At-loop Inv-loop μ-loop) → l .loop .i < own l → placeOf (getD (Begin l .args .members .now) (sought l) (pos 0)) (setOf (Begin l .args .members .now) (nodeAt (Begin l .args .nodes .now) (Parent l))) ≡ placed (Begin l .args .nodes .now) (Begin l .args .members .now) (Begin l .args .j) (l .loop .i)
+place l h =
+    let s = Begin l in
+    ap₂ (λ (z : ℤ) (p : ℕ). placeOf z (setOf (s .args .members .now) (nodeAt (s .args .nodes .now) p))) (member l h) (parent-is l)
 
-walked-requires : tie.Need-walked-requires Inv-loop μ-loop
-walked-requires c κs = within (c .before .before)
+inside : (c : tie.In-loop Inv-loop μ-loop) → c .before .loop .i < own (c .before)
+inside c = omega (arith, c .before .before .before .before .natural-of3 .ensures .0)
+
+add-next : tie.Need-add-next Inv-loop μ-loop
+add-next c = omega (arith, c .before .before .before .before .natural-of3 .ensures .1, c .before .before .before .before .before .natural-of2 .ensures .1)
+
+next-requires : tie.Need-next-requires Inv-loop μ-loop
+next-requires c κs =
+    let l = c .before in
+    (l .loop .inv .3, omega (arith, l .before .natural-of5 .ensures .0, l .before .before .natural-of4 .ensures .0, held l .within))
+
+add-may-stand : tie.Need-add-may-stand Inv-loop μ-loop
+add-may-stand c = add-next (c .before)
+
+-- where the search ends
+found : (c : tie.After-next Inv-loop μ-loop) → c .next .result ≡ nat (nodeAt (Begin (c .before .before) .args .nodes .now) (Parent (c .before .before)) .start) + placeOf (getD (Begin (c .before .before) .args .members .now) (sought (c .before .before)) (pos 0)) (setOf (Begin (c .before .before) .args .members .now) (nodeAt (Begin (c .before .before) .args .nodes .now) (Parent (c .before .before))))
+found c =
+    let l = c .before .before in
+    let s = Begin l in
+    let h = inside (c .before) in
+    let w = nodeAt (s .args .nodes .now) (Parent l) in
+    let a : l .before .before .natural-of4 .result ≡ nat (w .start) = l .before .before .natural-of4 .ensures .0 in
+    let n : l .before .natural-of5 .result ≡ nat (w .size) = l .before .natural-of5 .ensures .0 in
+    c .next .ensures
+    ∙ next-place (s .args .members .now) w (getD (s .args .members .now) (sought l) (pos 0)) (l .loop .at) (l .before .before .natural-of4 .result + l .before .natural-of5 .result) (l .loop .at - nat (w .start))
+    (omega (arith, a, l .loop .inv .2))
+    (omega (arith, a, n))
+    (omega (arith, a, l .loop .inv .4 h, place l h))
 
 may-stand-requires : tie.Need-may-stand-requires Inv-loop μ-loop
 may-stand-requires c κs =
-    let n = c .before .before .before in
-    ((n .before .before .before .before .before .before .before .before .natural-of .ensures .1, n .before .before .before .before .natural-of4 .ensures .0, n .before .before .before .natural-of5 .ensures .0), rw (n .before .before .before .before .before .before .before .before .natural-of .ensures .0) (Begin n .pre .1 .above))
+    let l = c .before .before in
+    ((l .before .before .before .before .before .before .natural-of .ensures .1, held l), (found c, omega (arith, l .before .before .natural-of4 .ensures .0, l .before .natural-of5 .ensures .0)))
 
 -- what is asked of the member at i
-abbrev Asked : tie.After-natural-at Inv-loop μ-loop → Bool
-Asked n = drawnFrom (Lent (Begin n)) (nat (nodeAt (Begin n .args .nodes .now) (Begin n .args .j) .up)) (N.rank (Begin n .args .nodes .now) (Begin n .args .j)) (getD (setOf (Begin n .args .members .now) (nodeAt (Begin n .args .nodes .now) (Begin n .args .j))) (n .before .before .loop .i) (pos 0))
+abbrev Asked : tie.At-loop Inv-loop μ-loop → Bool
+Asked l = drawnFrom (lent (Begin l .args .schema .now) (Begin l .args .proof .now) (Begin l .args .nodes .now) (Begin l .args .members .now) (Begin l .args .t)) (nat (nodeAt (Begin l .args .nodes .now) (Begin l .args .j) .up)) (N.rank (Begin l .args .nodes .now) (Begin l .args .j)) (getD (setOf (Begin l .args .members .now) (nodeAt (Begin l .args .nodes .now) (Begin l .args .j))) (l .loop .i) (pos 0))
 
-same : (n : tie.After-natural-at Inv-loop μ-loop) → drawnFrom (Lent (Begin n)) (n .before .before .before .before .before .before .before .before .natural-of .result) (n .before .before .before .before .before .before .before .kept-at .result) (pos (n .natural-at .result)) ≡ Asked n
-same n =
-    let s = Begin n in
-    let i = n .before .before .loop .i in
-    let l : i < nat (nodeAt (s .args .nodes .now) (s .args .j) .size) = omega (arith, n .before .before .before .before .before .natural-of3 .ensures .0) in
-    drawn-same (Lent s)
-    (n .before .before .before .before .before .before .before .before .natural-of .ensures .0)
-    (n .before .before .before .before .before .before .before .kept-at .ensures .0 ∙ first-at (s .args .work .now) (s .args .j) ∙ s .pre .1 .rank)
-    (member-read (s .args .nodes .now) (s .args .members .now) (s .args .j) (s .pre .1 .own) i l _ _ (n .natural-at .ensures .0) (n .before .before .before .before .before .before .natural-of2 .ensures .0) (s .pre .1 .naturals i l))
-
--- it stands where the walk goes on
-found : (c : tie.After-stands-at Inv-loop μ-loop) → c .stands-at .result ≡ true → Asked (c .before) ≡ true
-found c h =
-    let n = c .before in
-    let s = Begin n in
-    sym (same n)
-    ∙ drawn-above (Lent s) _ _ _ (n .before .before .before .before .natural-of4 .ensures .0) (n .before .before .before .natural-of5 .ensures .0)
-    (stood (s .args .members .now) (n .before .before .before .before .natural-of4 .result) (n .before .before .before .natural-of5 .result) (within n) (n .before .before .loop .near + 1) (n .natural-at .result) (sym (c .stands-at .ensures) ∙ h))
-
-asked : (c : tie.After-may-stand Inv-loop μ-loop) → c .may-stand .result ≡ Asked (c .before .before .before .before)
-asked c = c .may-stand .ensures ∙ same (c .before .before .before .before)
+asked : (c : tie.After-may-stand Inv-loop μ-loop) → c .may-stand .result ≡ Asked (c .before .before .before)
+asked c =
+    let l = c .before .before .before in
+    let s = Begin l in
+    c .may-stand .ensures
+    ∙ drawn-same (lent (s .args .schema .now) (s .args .proof .now) (s .args .nodes .now) (s .args .members .now) (s .args .t))
+    (parent-is l)
+    (l .before .before .before .before .before .kept-at .ensures .0 ∙ first-at (s .args .work .now) (s .args .j) ∙ s .pre .1 .rank)
+    (member l (inside (c .before .before)))
 
 returns : tie.Need-returns Inv-loop μ-loop
 unfolding set node
 returns c =
-    let n = c .before .before .before .before .before in
-    let s = Begin n in
-    sym (fails _ (λ h. true≢false (sym (at-all _ (pos 0) _ h (n .before .before .loop .i) (omega (arith, set-length (s .args .nodes .now) (s .args .members .now) (s .args .j) (s .pre .1 .own), n .before .before .before .before .before .natural-of3 .ensures .0))) ∙ asked-false (asked (c .before)) (c .if2 .taken))))
+    let l = c .before .before .before .before in
+    let s = Begin l in
+    sym (fails _ (λ h. true≢false (sym (at-all _ (pos 0) _ h (l .loop .i) (omega (arith, set-length (s .args .nodes .now) (s .args .members .now) (s .args .j) (s .pre .1 .own), inside (c .before .before .before)))) ∙ asked-false (asked (c .before)) (c .if1 .taken))))
 
 add-i : tie.Need-add-i Inv-loop μ-loop
 add-i c = omega arith
@@ -135,27 +164,36 @@ add-i c = omega arith
 loop-less : tie.Need-loop-less Inv-loop μ-loop
 loop-less c = omega arith
 
+-- the next member's place is no earlier
+grows : (l : tie.At-loop Inv-loop μ-loop) → l .loop .i + 1 < own l → placed (Begin l .args .nodes .now) (Begin l .args .members .now) (Begin l .args .j) (l .loop .i) ≤ placed (Begin l .args .nodes .now) (Begin l .args .members .now) (Begin l .args .j) (l .loop .i + 1)
+grows l h =
+    let s = Begin l in
+    place-grows _ _ (setOf (s .args .members .now) (nodeAt (s .args .nodes .now) (nat (nodeAt (s .args .nodes .now) (s .args .j) .up))))
+    (ascending-at (setOf (s .args .members .now) (nodeAt (s .args .nodes .now) (s .args .j))) (s .pre .1 .own .up) (l .loop .i) (l .loop .i + 1) (omega arith) (omega (arith, set-length (s .args .nodes .now) (s .args .members .now) (s .args .j) (s .pre .1 .own))))
+
 loop-again : tie.Need-loop-again Inv-loop μ-loop
 loop-again c =
+    let l = c .before .before .before .before in
+    let s = Begin l in
     let n = c .before .before in
-    let l = n .before .before in (
+    let h = inside (n .before) in
+    let f = found n in
+    let a = l .before .before .natural-of4 .ensures .0 in
+    let p = place-within (getD (s .args .members .now) (sought l) (pos 0)) (setOf (s .args .members .now) (nodeAt (s .args .nodes .now) (Parent l))) in
+    let m = set-length (s .args .nodes .now) (s .args .members .now) (Parent l) (held l) in (
       omega arith,
-      below-more _ _ (l .loop .inv .1)
-          (⊎-elim
-          (λ w. found (c .before) (w .0 .taken))
-          (λ w. asked-true (asked (record { before = record { before = record { before = c .before; if1 = w .0 }; walked = w .1 }; may-stand = w .2 })) (w .3 .left))
-          (c .if1 .came)),
-      ⊎-elim
-          (λ w. omega (arith, w .1, ltb-true (l .loop .near + 1) (n .before .before .before .natural-of5 .result) (and-left _ _ (sym (c .before .stands-at .ensures) ∙ w .0 .taken))))
-          (λ w. omega (arith, w .4, w .1 .ensures, l .loop .inv .2, walk-bound (Begin n .args .members .now) (n .before .before .before .before .natural-of4 .result) (n .natural-at .result) (n .before .before .before .natural-of5 .result - l .loop .near) (l .loop .near)))
-          (c .if1 .came),
+      below-more _ _ (l .loop .inv .1) (asked-true (asked (c .before)) (c .if1 .left)),
+      omega (arith, f, a),
+      omega (arith, f, a, p, m, l .before .natural-of5 .ensures .0),
+      λ q. omega (arith, f, a, place l h, grows l q),
     )
 
 returns-2 : tie.Need-returns-2 Inv-loop μ-loop
 unfolding set node
 returns-2 c =
-    let s = c .before .before .before .before .before .before .before .before .before in
-    sym (all-at _ (pos 0) _ (λ i q. c .before .loop .inv .1 i (omega (arith, set-length (s .args .nodes .now) (s .args .members .now) (s .args .j) (s .pre .1 .own), c .before .before .before .before .natural-of3 .ensures .0))))
+    let l = c .before in
+    let s = Begin l in
+    sym (all-at _ (pos 0) _ (λ i q. l .loop .inv .1 i (omega (arith, set-length (s .args .nodes .now) (s .args .members .now) (s .args .j) (s .pre .1 .own), l .before .before .before .natural-of3 .ensures .0))))
 
 pub is-drawn-spec : {M : Type 1} → statement M
 is-drawn-spec =
@@ -171,13 +209,11 @@ is-drawn-spec =
     natural-of-requires-3
     natural-of-requires-4
     natural-of-requires-5
+    add-end
     loop-holds
-    add-natural-at
-    natural-at-requires
-    add-stands-at
-    stands-at-requires
-    add-near
-    walked-requires
+    add-next
+    next-requires
+    add-may-stand
     may-stand-requires
     returns
     add-i

@@ -1,10 +1,10 @@
 use borrow.Author.Needs.{needs}
 use mathlib.Core.Path.{sym, _∙_, ap}
-use lib.IntN.{pos}
+use mir.Facts.{toZ-ofZ}
 use Rattle.stab.specs.Basic.{has}
 use Rattle.stab.specs.Node.{row, rows}
 use Rattle.stab.specs.Rule.{ofRule}
-use Rattle.drawn.proofs.DrawnLaws.{given-parts, given-side, given-unfolded, given-half, given-nothing}
+use Rattle.drawn.proofs.DrawnLaws.{read-as, given-parts, given-side, given-unfolded, given-half, given-nothing}
 use Rattle.drawn.proofs.is_given.Statement.{statement}
 use Rattle.drawn.proofs.is_given.Tie as tie
 
@@ -21,8 +21,9 @@ returns : tie.Need-returns
 unfolding ofRule row rows
 returns c =
     c .is-part .ensures
+    ∙ read-as _ (toZ-ofZ (c .before .before .before .before .fits .z))
     ∙ rw (c .before .before .before .natural-of .ensures .0)
-    (ap (has (pos (c .before .before .before .before .args .z))) (given-parts _ _ _ (sym (c .before .before .is-of .ensures) ∙ c .before .if1 .taken)))
+    (ap (has (c .before .before .before .before .args .z)) (given-parts _ _ _ (sym (c .before .before .is-of .ensures) ∙ c .before .if1 .taken)))
 
 is-of-requires-2 : tie.Need-is-of-requires-2
 is-of-requires-2 c κs = search needs
@@ -34,8 +35,9 @@ returns-2 : tie.Need-returns-2
 unfolding ofRule row rows
 returns-2 c =
     c .is-side .ensures
+    ∙ read-as _ (toZ-ofZ (c .before .before .before .before .before .before .fits .z))
     ∙ rw (c .before .before .before .before .before .natural-of .ensures .0)
-    (ap (has (pos (c .before .before .before .before .before .before .args .z))) (given-side _ _ _ (sym (c .before .before .before .before .is-of .ensures) ∙ c .before .before .before .if1 .left) (sym (c .before .before .is-of2 .ensures) ∙ c .before .if2 .taken)))
+    (ap (has (c .before .before .before .before .before .before .args .z)) (given-side _ _ _ (sym (c .before .before .before .before .is-of .ensures) ∙ c .before .before .before .if1 .left) (sym (c .before .before .is-of2 .ensures) ∙ c .before .if2 .taken)))
 
 is-of-requires-3 : tie.Need-is-of-requires-3
 is-of-requires-3 c κs = search needs
@@ -47,7 +49,8 @@ returns-3 : tie.Need-returns-3
 unfolding ofRule
 returns-3 c =
     c .is-unfolded .ensures
-    ∙ ap (has (pos (c .before .before .before .before .before .before .before .before .args .z)))
+    ∙ read-as _ (toZ-ofZ (c .before .before .before .before .before .before .before .before .fits .z))
+    ∙ ap (has (c .before .before .before .before .before .before .before .before .args .z))
     (given-unfolded _ _ _
     (sym (c .before .before .before .before .before .before .is-of .ensures) ∙ c .before .before .before .before .before .if1 .left)
     (sym (c .before .before .before .before .is-of2 .ensures) ∙ c .before .before .before .if2 .left)
@@ -63,7 +66,8 @@ returns-4 : tie.Need-returns-4
 unfolding ofRule
 returns-4 c =
     c .is-half .ensures
-    ∙ ap (has (pos (c .before .before .before .before .before .before .before .before .before .before .args .z)))
+    ∙ read-as _ (toZ-ofZ (c .before .before .before .before .before .before .before .before .before .before .fits .z))
+    ∙ ap (has (c .before .before .before .before .before .before .before .before .before .before .args .z))
     (given-half _ _ _
     (sym (c .before .before .before .before .before .before .before .before .is-of .ensures) ∙ c .before .before .before .before .before .before .before .if1 .left)
     (sym (c .before .before .before .before .before .before .is-of2 .ensures) ∙ c .before .before .before .before .before .if2 .left)
@@ -73,7 +77,7 @@ returns-4 c =
 returns-5 : tie.Need-returns-5
 unfolding ofRule has
 returns-5 c =
-    ap (has (pos (c .before .before .before .before .before .before .before .before .before .args .z)))
+    ap (has (c .before .before .before .before .before .before .before .before .before .args .z))
     (given-nothing _ _ _
     (sym (c .before .before .before .before .before .before .before .is-of .ensures) ∙ c .before .before .before .before .before .before .if1 .left)
     (sym (c .before .before .before .before .before .is-of2 .ensures) ∙ c .before .before .before .before .if2 .left)

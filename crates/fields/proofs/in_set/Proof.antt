@@ -1,8 +1,9 @@
 use borrow.Author.Needs.{needs}
-use mathlib.Core.Path.{_∙_, ap}
-use lib.IntN.{ℤ}
+use mathlib.Core.Path.{_∙_, ap₂}
+use Rattle.signed.proofs.Signs.{read-back}
 use Rattle.stab.specs.Basic.{has}
-use Rattle.stab.specs.Node.{nodeAt, setOf}
+use Rattle.stab.specs.Node.{nodeAt}
+use Rattle.branch.proofs.HeldLaws.{part-set}
 use Rattle.fields.proofs.in_set.Statement.{statement}
 use Rattle.fields.proofs.in_set.Tie as tie
 
@@ -12,23 +13,48 @@ natural-of-requires c κs = search needs
 natural-of-requires-2 : tie.Need-natural-of-requires-2
 natural-of-requires-2 c κs = search needs
 
-natural-of-requires-3 : tie.Need-natural-of-requires-3
-natural-of-requires-3 c κs = search needs
+add-stands : tie.Need-add-stands
+add-stands c = search needs
+
+mul-stands : tie.Need-mul-stands
+mul-stands c = search needs
+
+sub-stands : tie.Need-sub-stands
+sub-stands c = search needs
+
+part-stands-start : tie.Need-part-stands-start
+part-stands-start c = search needs
+
+part-stands-end : tie.Need-part-stands-end
+part-stands-end c = search needs
+
+number-of-requires : tie.Need-number-of-requires
+number-of-requires c κs = search needs
 
 stands-requires : tie.Need-stands-requires
-unfolding setOf
 stands-requires c κs =
-    let held = c .before .before .before .pre .1 .0 in
-    rw (c .before .before .natural-of .ensures .0, c .before .natural-of2 .ensures .0) (held .within, held .up)
+    let s = c .before .before .before .before in
+    rw (part-set (s .args .members .now) (nodeAt (s .args .nodes .now) (s .args .j)) _ _ (c .before .before .before .natural-of .ensures .0) (c .before .before .natural-of2 .ensures .0)) (s .pre .1 .up)
 
 returns : tie.Need-returns
-unfolding setOf
 returns c =
-    let a = c .before .before .before in
+    let s = c .before .before .before .before .before in
     c .stands .ensures
-    ∙ rw (a .natural-of .ensures .0, c .before .before .natural-of2 .ensures .0, c .before .natural-of3 .ensures .0) (ap (λ (z : ℤ). has z (setOf (a .before .args .members .now) (nodeAt (a .before .args .nodes .now) (a .before .args .j)))) (a .before .pre .1 .1))
+    ∙ ap₂ has
+    (read-back _ (c .before .number-of .ok) ∙ c .before .number-of .ensures)
+    (part-set (s .args .members .now) (nodeAt (s .args .nodes .now) (s .args .j)) _ _ (c .before .before .before .before .natural-of .ensures .0) (c .before .before .before .natural-of2 .ensures .0))
 
 pub in-set-spec : {M : Type 1} → statement M
 in-set-spec =
     tie.close
-    (tie.spec natural-of-requires natural-of-requires-2 natural-of-requires-3 stands-requires returns)
+    (tie.spec
+    natural-of-requires
+    natural-of-requires-2
+    add-stands
+    mul-stands
+    sub-stands
+    part-stands-start
+    part-stands-end
+    number-of-requires
+    stands-requires
+    returns)

@@ -22,7 +22,7 @@ unfolding unused
 needed c = rw (toZ-ofZ (c .before .before .fits .need)) at (sym (c .before .equal .ensures) ∙ c .if1 .left)
 
 in-set-requires : tie.Need-in-set-requires
-in-set-requires c κs = ((c .before .before .pre .0, omega arith), (c .before .before .pre .1 .0, c .before .before .pre .1 .1 (needed c)))
+in-set-requires c κs = ((c .before .before .pre .0, omega arith), c .before .before .pre .1)
 
 returns-2 : tie.Need-returns-2
 returns-2 c = c .in-set .ensures ∙ sym (or-first-false _ _ (needed (c .before)))

@@ -5,7 +5,6 @@ use Rattle.stab.specs.Rule.{kindFits}
 use Rattle.signed.proofs.Signs.{read-back}
 use Rattle.branch.specs.Lent.{fitsKind, rowsFit}
 use Rattle.fields.proofs.Answers.{first-fails, second-fails, third-decides}
-use Rattle.fields.proofs.FieldLaws.{kind-natural}
 use Rattle.fields.proofs.rows_fit.Statement.{statement}
 use Rattle.fields.proofs.rows_fit.Tie as tie
 use Rattle.stab.proofs.Bools.{asked-false, asked-true}
@@ -20,10 +19,7 @@ returns c =
     first-fails _ _ (rw (read-back (r .before .args .rule .on) (r .struct-told .given .0 .1)) at (asked-false (c .before .kind-fits .ensures) (c .if1 .taken)))
 
 on-stands-requires : tie.Need-on-stands-requires
-on-stands-requires c κs =
-    let r = c .before .before .before in
-    rw (read-back (r .before .args .rule .on) (r .struct-told .given .0 .1))
-    (r .before .pre .0 .0, (r .before .pre .1, λ h. kind-natural _ _ _ _ h (rw (read-back (r .before .args .rule .on) (r .struct-told .given .0 .1)) at (asked-true (c .before .before .kind-fits .ensures) (c .before .if1 .left)))))
+on-stands-requires c κs = let r = c .before .before .before in (r .before .pre .0 .0, r .before .pre .1)
 
 returns-2 : tie.Need-returns-2
 unfolding rowsFit kindFits fitsKind node set isRow row rows rowCount

@@ -3,7 +3,7 @@ use native.Mathlib.Omega.{arith}
 use mathlib.Core.Path.{_∙_}
 use Rattle.stab.specs.Node.{node, set, row, rows}
 use Rattle.stab.specs.Rule.{symbolFits}
-use Rattle.stab.proofs.Trees.{below-nat, below-pos}
+use Rattle.stab.proofs.Trees.{below-nat}
 use Rattle.formula.specs.Column.{column}
 use Rattle.fields.proofs.Answers.{first-fails, second-decides}
 use Rattle.fields.proofs.symbol_fits.Statement.{statement}
@@ -11,7 +11,7 @@ use Rattle.fields.proofs.symbol_fits.Tie as tie
 use Rattle.stab.proofs.Bools.{asked-false, asked-true}
 
 in-set-requires : tie.Need-in-set-requires
-in-set-requires c κs = ((c .pre .0, omega arith), (c .pre .1 .0, below-pos 1024 _ (c .pre .1 .1 .1)))
+in-set-requires c κs = ((c .pre .0, omega arith), c .pre .1 .0)
 
 returns : tie.Need-returns
 unfolding symbolFits node set

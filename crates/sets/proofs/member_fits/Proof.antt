@@ -1,9 +1,7 @@
 use borrow.Author.Needs.{needs}
-use mathlib.Core.Path.{sym, _∙_, ap}
-use Prim.Native.Nat.{ℕ, _+_, _-_}
-use lib.IntN.{pos}
+use mathlib.Core.Path.{sym, _∙_, ap₂}
 use lib.Signed.{ltZ}
-use lib.ListN.{getD}
+use Rattle.signed.proofs.Signs.{read-back}
 use borrow.Author.Tests.{not-true, not-false}
 use Rattle.sets.proofs.SetLaws.{member-inner, member-first, member-next}
 use Rattle.sets.proofs.member_fits.Statement.{statement}
@@ -27,22 +25,26 @@ returns-2 c =
     let a = b .args in
     member-first (a .facts .now) (a .n) (a .members .now) (a .start) (a .len) (b .pre .1) (a .i) (b .pre .2) (sym (c .before .before .is-outer .ensures) ∙ not-false (c .before .before .is-outer .result) (c .before .if1 .left)) (c .if2 .taken)
 
-sub-is-less : tie.Need-sub-is-less
-sub-is-less c = search needs
+sub-at : tie.Need-sub-at
+sub-at c = search needs
 
-natural-at-requires : tie.Need-natural-at-requires
-natural-at-requires c κs = search needs
+at-requires : tie.Need-at-requires
+at-requires c κs = search needs
 
-is-less-requires : tie.Need-is-less-requires
-is-less-requires c κs = search needs
+at-requires-2 : tie.Need-at-requires-2
+at-requires-2 c κs = search needs
+
+less-requires : tie.Need-less-requires
+less-requires c κs = search needs
 
 returns-3 : tie.Need-returns-3
 returns-3 c =
-    let b = c .before .before .before .before .before .before in
+    let l = c .before .before .before in
+    let b = l .before .before .before .before in
     let a = b .args in
-    c .is-less .ensures
-    ∙ ap (λ (r : ℕ). ltZ (getD (a .members .now) (a .start + a .i - 1) (pos 0)) (pos r)) (c .before .natural-at .ensures .0)
-    ∙ member-next (a .facts .now) (a .n) (a .members .now) (a .start) (a .len) (b .pre .1) (a .i) (b .pre .2) (sym (c .before .before .before .before .is-outer .ensures) ∙ not-false (c .before .before .before .before .is-outer .result) (c .before .before .before .if1 .left)) (c .before .before .if2 .left)
+    c .less .ensures
+    ∙ ap₂ ltZ (read-back _ (c .before .before .at .ok) ∙ c .before .before .at .ensures) (read-back _ (c .before .at2 .ok) ∙ c .before .at2 .ensures)
+    ∙ member-next (a .facts .now) (a .n) (a .members .now) (a .start) (a .len) (b .pre .1) (a .i) (b .pre .2) (sym (l .before .before .is-outer .ensures) ∙ not-false (l .before .before .is-outer .result) (l .before .if1 .left)) (l .if2 .left)
 
 pub member-fits-spec : {M : Type 1} → statement M
 member-fits-spec =
@@ -52,7 +54,8 @@ member-fits-spec =
     is-outer-requires
     returns
     returns-2
-    sub-is-less
-    natural-at-requires
-    is-less-requires
+    sub-at
+    at-requires
+    at-requires-2
+    less-requires
     returns-3)

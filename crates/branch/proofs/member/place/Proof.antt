@@ -1,93 +1,73 @@
--- The place lies between lo and hi, and half of what lies between is left out in each turn.
+-- What was passed is less than z.
 use borrow.Author.Needs.{needs}
-use Prim.Native.Nat.{_-_, _≤_}
+use borrow.Author.Count.{below-more}
+use Prim.Native.Nat.{ℕ, _-_, _<_, _≤_}
 use native.Mathlib.Omega.{arith}
 use mathlib.Core.Path.{_≡_, sym, _∙_, ap}
+use mathlib.Core.Bool.{true}
 use lib.IntN.{ℤ, pos}
+use lib.ListN.{length, getD}
 use lib.Signed.{ltZ}
-use lib.ListN.{take, drop}
-use Rattle.branch.specs.Search.{Between}
-use Rattle.branch.proofs.Ascending.{between-all, between-up, between-down, part-length, part-at}
+use mir.Syntax.{w32}
+use mir.Val.{toZ, ofZ}
+use mir.Facts.{toZ-ofZ}
+use Rattle.signed.proofs.Signs.{read-back}
+use Rattle.stab.proofs.Bools.{asked-false, asked-true}
+use Rattle.stab.proofs.Searches.{place-is}
 use Rattle.branch.proofs.member.place.Statement.{statement}
 use Rattle.branch.proofs.member.place.Tie as tie
+use Rattle.branch.proofs.member.place.Reads as reads
+use Rattle.branch.proofs.member.place.Lts as lts
 
 abbrev Inv-loop : tie.InvT-loop
-Inv-loop members start len z lo₀ hi₀ lo hi = Between (take len (drop start members)) z lo hi
+Inv-loop list z i₀ i = (i ≤ length list) × ((j : ℕ) → j < i → ltZ (getD list j (pos 0)) (toZ w32 z) ≡ true)
 
 abbrev μ-loop : tie.MeasureT-loop
-μ-loop members start len z lo₀ hi₀ lo hi = hi - lo
+μ-loop list z i₀ i = length list - i
 
 loop-holds : tie.Need-loop-holds Inv-loop μ-loop
-loop-holds c =
-    let a = c .args in
-    rw (part-length (a .members .now) (a .start) (a .len) (c .pre .0)) at (between-all _ (c .pre .1) (a .z))
+loop-holds c = (omega arith, λ j p. absurd (omega arith))
 
--- hi is at most len
-bound : (c : tie.At-loop Inv-loop μ-loop) → c .loop .hi ≤ c .before .args .len
-bound c =
-    let a = c .before .args in
-    omega (arith, c .loop .inv .within, part-length (a .members .now) (a .start) (a .len) (c .before .pre .0))
+mul-less : tie.Need-mul-less Inv-loop μ-loop
+mul-less c = search needs
 
-sub-mid : tie.Need-sub-mid Inv-loop μ-loop
-sub-mid c = omega arith
+shared-slice-copy-out-less : tie.Need-shared-slice-copy-out-less Inv-loop μ-loop
+shared-slice-copy-out-less c = search needs
 
-add-mid : tie.Need-add-mid Inv-loop μ-loop
-add-mid c = omega (arith, bound (c .before))
+less-requires : tie.Need-less-requires Inv-loop μ-loop
+less-requires c κs = search needs
 
-add-is-less : tie.Need-add-is-less Inv-loop μ-loop
-add-is-less c = omega (arith, bound (c .before))
+-- what is read at i
+read : (c : tie.After-less Inv-loop μ-loop) → c .less .result ≡ ltZ (getD (c .before .before .before .before .args .list .now) (c .before .before .before .loop .i) (pos 0)) (toZ w32 (ofZ w32 (c .before .before .before .before .args .z)))
+read c =
+    let l = c .before .before .before in
+    c .less .ensures
+    ∙ ap (λ (x : ℤ). ltZ x (toZ w32 (ofZ w32 (l .before .args .z)))) (read-back (getD (l .before .args .list .now) (l .loop .i) (pos 0)) (c .before .less-arg .given))
 
-is-less-requires : tie.Need-is-less-requires Inv-loop μ-loop
-is-less-requires c κs = search needs
+returns : tie.Need-returns Inv-loop μ-loop
+returns c =
+    let l = c .before .before .before .before in
+    let a = l .before .args in
+    let e : toZ w32 (ofZ w32 (a .z)) ≡ a .z = toZ-ofZ (l .before .fits .z) in
+    sym (rw e at (place-is (toZ w32 (ofZ w32 (a .z))) (a .list .now) (l .loop .i) (l .loop .inv .0) (l .loop .inv .1) (λ p. asked-false (read (c .before)) (c .if1 .taken))))
 
-add-lo : tie.Need-add-lo Inv-loop μ-loop
-add-lo c = omega (arith, bound (c .before .before .before))
+add-i : tie.Need-add-i Inv-loop μ-loop
+add-i c = omega arith
 
 loop-less : tie.Need-loop-less Inv-loop μ-loop
 loop-less c = omega arith
 
 loop-again : tie.Need-loop-again Inv-loop μ-loop
 loop-again c =
-    let l = c .before .before .before in
+    let l = c .before .before .before .before in
+    (omega arith, below-more _ _ (l .loop .inv .1) (asked-true (read (c .before)) (c .if1 .left)))
+
+returns-2 : tie.Need-returns-2 Inv-loop μ-loop
+returns-2 c =
+    let l = c .before in
     let a = l .before .args in
-    between-up
-    _
-    (l .before .pre .1)
-    (a .z)
-    (l .loop .lo)
-    (l .loop .hi)
-    _
-    (l .loop .inv)
-    (omega arith)
-    (ap (λ (x : ℤ). ltZ x (pos (a .z))) (part-at (a .members .now) (a .start) (a .len) (l .before .pre .0) _ (omega (arith, bound l)))
-    ∙ sym (c .before .is-less .ensures)
-    ∙ c .if1 .taken)
-
-loop-less-2 : tie.Need-loop-less-2 Inv-loop μ-loop
-loop-less-2 c = omega arith
-
-loop-again-2 : tie.Need-loop-again-2 Inv-loop μ-loop
-loop-again-2 c =
-    let l = c .before .before .before in
-    let a = l .before .args in
-    between-down
-    _
-    (l .before .pre .1)
-    (a .z)
-    (l .loop .lo)
-    (l .loop .hi)
-    _
-    (l .loop .inv)
-    (omega arith)
-    (omega arith)
-    (ap (λ (x : ℤ). ltZ x (pos (a .z))) (part-at (a .members .now) (a .start) (a .len) (l .before .pre .0) _ (omega (arith, bound l)))
-    ∙ sym (c .before .is-less .ensures)
-    ∙ c .if1 .left)
-
-returns : tie.Need-returns Inv-loop μ-loop
-returns c =
-    let e : c .before .loop .hi ≡ c .before .loop .lo = omega (arith, c .before .loop .inv .order) in
-    rw e at (c .before .loop .inv)
+    let e : toZ w32 (ofZ w32 (a .z)) ≡ a .z = toZ-ofZ (l .before .fits .z) in
+    sym (rw e at (place-is (toZ w32 (ofZ w32 (a .z))) (a .list .now) (l .loop .i) (l .loop .inv .0) (l .loop .inv .1) (λ p. absurd (omega arith))))
 
 pub place-spec : {M : Type 1} → statement M
 place-spec =
@@ -96,13 +76,11 @@ place-spec =
     Inv-loop
     μ-loop
     loop-holds
-    sub-mid
-    add-mid
-    add-is-less
-    is-less-requires
-    add-lo
+    mul-less
+    shared-slice-copy-out-less
+    less-requires
+    returns
+    add-i
     loop-less
     loop-again
-    loop-less-2
-    loop-again-2
-    returns)
+    returns-2)

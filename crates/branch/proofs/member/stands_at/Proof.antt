@@ -1,26 +1,31 @@
 use borrow.Author.Needs.{needs}
-use mathlib.Core.Path.{sym, _∙_}
-use borrow.Author.Tests.{lt-ltb, le-ltb}
 use native.Mathlib.Omega.{arith}
-use Rattle.stab.proofs.Bools.{and-first-false, and-first-true}
+use mathlib.Core.Path.{sym, _∙_, ap₂}
+use mir.Facts.{toZ-ofZ}
+use Rattle.signed.proofs.Signs.{read-back}
+use Rattle.stab.specs.Basic.{eqZ}
+use Rattle.stab.proofs.Searches.{stands-at, stands-past}
 use Rattle.branch.proofs.member.stands_at.Statement.{statement}
 use Rattle.branch.proofs.member.stands_at.Tie as tie
+use Rattle.branch.proofs.member.stands_at.Reads as reads
+use Rattle.branch.proofs.member.stands_at.Lts as lts
 
-add-is-number : tie.Need-add-is-number
-add-is-number c = search needs
+mul-equal : tie.Need-mul-equal
+mul-equal c = search needs
 
-is-number-requires : tie.Need-is-number-requires
-is-number-requires c κs = search needs
+shared-slice-copy-out-equal : tie.Need-shared-slice-copy-out-equal
+shared-slice-copy-out-equal c = search needs
+
+equal-requires : tie.Need-equal-requires
+equal-requires c κs = search needs
 
 returns : tie.Need-returns
 returns c =
-    let a = c .before .before .args in
-    c .is-number .ensures ∙ sym (and-first-true _ _ (lt-ltb (a .i) (a .len) (c .before .if1 .taken)))
+    let a = c .before .before .before .args in
+    c .equal .ensures ∙ ap₂ eqZ (toZ-ofZ (c .before .before .before .fits .z)) (read-back _ (c .before .equal-arg .given)) ∙ sym (stands-at (a .z) (a .list .now) (a .i) (omega arith))
 
 returns-2 : tie.Need-returns-2
-returns-2 c =
-    let a = c .before .args in
-    sym (and-first-false _ _ (le-ltb (a .i) (a .len) (omega arith)))
+returns-2 c = let a = c .before .args in sym (stands-past (a .z) (a .list .now) (a .i) (omega arith))
 
 pub stands-at-spec : {M : Type 1} → statement M
-stands-at-spec = tie.close (tie.spec add-is-number is-number-requires returns returns-2)
+stands-at-spec = tie.close (tie.spec mul-equal shared-slice-copy-out-equal equal-requires returns returns-2)
