@@ -5,21 +5,21 @@ use branch::node;
 use branch::worked;
 use formula::kept;
 ghost use mathlib.Core.Path.{_≡_};
-ghost use mathlib.Core.Bool.{Bool, true};
+ghost use mathlib.Core.Bool.{true};
 ghost use mathlib.Core.List.{[]};
 ghost use Prim.Native.Nat.{_+_, _*_, _<_, _≤_, _^_};
 ghost use lib.Dec.{eqb};
-ghost use lib.IntN.{pos, _+ℤ_};
+ghost use lib.IntN.{pos, _+ℤ_, _-ℤ_};
 ghost use lib.ListN.{getD};
 ghost use lib.Signed.{leZ};
 ghost use Rattle.stab.specs.Basic.{_and_, eqZ, nat};
 ghost use Rattle.stab.specs.Formula.{joined, baseOf, offset};
 ghost use Rattle.stab.specs.Meaning.{base};
 ghost use Rattle.stab.specs.Node.{nodeAt};
-ghost use Rattle.stab.specs.Rule.{ofRule, splitFits, indexAt, clashFits, voidFits, loopFits, boundFits};
+ghost use Rattle.stab.specs.Rule.{ofRule, splitFits, indexAt, clashFits, voidFits, boundFits};
 ghost use Rattle.formula.specs.Facts.{AllFormed};
 ghost use Rattle.branch.specs.Work.{AllWorked};
-ghost use Rattle.branch.specs.Lent.{lent, bounded, boundBy, FieldsKnown};
+ghost use Rattle.branch.specs.Lent.{lent, bounded, FieldsKnown};
 
 // Rule 2: open, L at most 9998.
 fn split_fits(exact: bool, l: usize) -> bool
@@ -119,17 +119,6 @@ fn clash_fits(
     same_index(schema, s, proof, on, with, l)
 }
 
-// Rule 8: the ancestor is open with `least`, and L - k is at least that.
-fn link_fits(l: usize, exact: bool, least: usize, k: usize) -> bool
-    requires { ⌜ (least < 2 ^ 32) × (k < 2 ^ 32) ⌝ }
-    ensures { λ r. ⌜ ((own : Bool) → r ≡ loopFits (bounded own l) (bounded exact least) (pos k)) ⌝ }
-{
-    if exact {
-        return false;
-    }
-    least + k <= l
-}
-
 // Node j is exact.
 fn is_exact(work: &[u32], j: usize) -> bool
     requires { ⌜ j < 2 ^ 32 ⌝ }
@@ -138,19 +127,15 @@ fn is_exact(work: &[u32], j: usize) -> bool
     kept::kept_at(work, 4 * j + worked::EXACT) == 1
 }
 
-// Node j is a link whose target's bound allows it, where L is the node's own.
+// Rule 8: L - k is at least the target's, where L is the node's own.
 fn target_allows(nodes: &[i32], work: &[u32], j: usize, l: usize) -> bool
     requires { ⌜ j < 2 ^ 32 ⌝ }
-    ensures { λ r. ⌜ ((own : Bool) → r ≡ loopFits (bounded own l) (boundBy (now (work .entry)) (nat (nodeAt (now (nodes .entry)) j .to))) (pos (nat (nodeAt (now (nodes .entry)) j .by)))) ⌝ }
+    ensures { λ r. ⌜ r ≡ leZ (pos (getD (now (work .entry)) (4 * nat (nodeAt (now (nodes .entry)) j .to) + 1) 0)) (pos l -ℤ pos (nat (nodeAt (now (nodes .entry)) j .by))) ⌝ }
 {
     let to = node::natural_of(nodes, j, node::TO);
     let least = kept::kept_at(work, 4 * to + worked::L);
-    link_fits(
-        l,
-        is_exact(work, to),
-        least,
-        node::natural_of(nodes, j, node::BY),
-    )
+    let k = node::natural_of(nodes, j, node::BY);
+    least + k <= l
 }
 
 // What the rule of node j asks of its bound holds. No set is looked at.

@@ -1,5 +1,5 @@
 -- Laws of the tests that the definitions are made of.
-use mathlib.Core.Path.{_≡_, refl, sym, _∙_}
+use mathlib.Core.Path.{_≡_, refl, sym, _∙_, ap}
 use mathlib.Core.Logic.{_⊎_, inl, inr}
 use mathlib.Core.Bool.{Bool, true, false, not, true≢false, false≢true}
 use mathlib.Core.Option.{Option, none, some}
@@ -146,6 +146,14 @@ otherwise-some none y a h = absurd (mathlib.Core.Option.Option·none-ne-some a h
 otherwise-some (some b) y a h = h
 
 -- ---- a test of which one part is known
+pub otherwise-same : {A : Type 0} (x y z : Option A) → (x ≡ none → y ≡ z) → (x otherwise y) ≡ (x otherwise z)
+unfolding _otherwise_
+otherwise-same none y z h = h refl
+otherwise-same (some a) y z h = refl
+
+pub otherwise-first-same : {A : Type 0} {x y : Option A} (z : Option A) → x ≡ y → (x otherwise z) ≡ (y otherwise z)
+otherwise-first-same {A} z e = ap (λ (w : Option A). w otherwise z) e
+
 pub and-first-true : (a b : Bool) → a ≡ true → (a and b) ≡ b
 unfolding _and_
 and-first-true true b h = refl

@@ -1,7 +1,7 @@
 -- Demand 2: the check accepts exactly the records that keep the rules, and the model check exactly the models that are right.
 mod Formulas
-mod Nodes
-mod Steps
+pub mod Nodes
+pub mod Steps
 mod Checked
 mod Models
 pub mod Refusals
@@ -10,7 +10,7 @@ use mathlib.Core.Path.{_≡_}
 use mathlib.Core.Logic.{_↔_}
 use mathlib.Core.Option.{none}
 use Rattle.stab.specs.Node.{Tableau}
-use Rattle.stab.specs.Check.{refusal, linkCount, verdict, check}
+use Rattle.stab.specs.Check.{refusal, linkCount, verdict, checkBy, check}
 use Rattle.stab.specs.Model.{Model, modelRefusal, checkModel}
 use Rattle.stab.specs.Keeps.{Keeps, KeepsModel}
 use Rattle.stab.specs.declared.Verdict.the-variants.{Accepted}
@@ -20,7 +20,7 @@ use Refusals.{of-refusal, of-model-refusal, accepted}
 
 -- the check accepts exactly the records that keep the rules, and says how many nodes and links they have
 pub accepts-exactly : (T : Tableau) (n l : ℕ) → (check T ≡ Accepted n l) ↔ (Keeps T × (n ≡ T .nodeRows) × (l ≡ linkCount T))
-unfolding check verdict
+unfolding check checkBy refusal verdict
 accepts-exactly T n l = (
   λ h. let a = accepted (refusal T) (T .nodeRows) (linkCount T) n l (of-refusal T) h in (tableau-clears T .0 (a .0), a .1, a .2),
   λ p. rw (tableau-clears T .1 (p .0), p .1, p .2),

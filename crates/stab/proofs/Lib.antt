@@ -12,9 +12,11 @@ pub mod Meanings
 pub mod Alikes
 pub mod Bounds
 pub mod Ancestors
+pub mod Ranges
 -- The theorems of docs/THEOREMS.md.
 pub mod Soundness
 pub mod Exactness
+pub mod OpenTargets
 pub mod Texts
 pub mod Audit
 pub mod Packed

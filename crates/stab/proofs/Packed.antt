@@ -7,7 +7,7 @@ use mathlib.Core.Option.{Option, none, some}
 use lib.IntN.{pos, _+ℤ_, _-ℤ_}
 use Rattle.stab.specs.Basic.{nat}
 use Rattle.stab.specs.Node.{Tableau}
-use Rattle.stab.specs.Check.{refusal, check, verdict, linkCount}
+use Rattle.stab.specs.Check.{refusal, checkBy, check, verdict, linkCount}
 use Rattle.stab.specs.Model.{Model, modelRefusal, checkModel}
 use Rattle.stab.specs.Answer.{Numbers, refusalNumber, placeNumber, refusedNumbers, verdictNumbers, oneNumber, packed, answerIn, numbersIn, placeCode, Packs}
 use Rattle.stab.specs.Refuted.{Refuted, SameSchema, Irrefutable}
@@ -59,7 +59,7 @@ found-packs : (v : Verdict) → IsRefused v → Packs v
 found-packs v r = subst Packs (sym (r .2)) (near-packs (r .0) (r .1) (r .3))
 
 pub check-packs : (T : Tableau) → Packs (check T)
-unfolding check verdict linkCount
+unfolding check checkBy refusal verdict linkCount
 check-packs T = go (refusal T) refl
   where
     go : (x : Option Verdict) → refusal T ≡ x → Packs (verdict x (Accepted (T .nodeRows) (linkCount T)))

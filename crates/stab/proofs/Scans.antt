@@ -8,8 +8,8 @@ use mathlib.Core.Bool.{Bool, true, false, false≢true}
 use mathlib.Core.List.{List, [], _∷_, List·Memᴰ, List·Memᴰ·head, List·Memᴰ·tail, List·Memᴰ·cases-cons, List·Memᴰ·not-nil}
 use mathlib.Core.Option.{Option, none, some}
 use lib.IntN.{ℤ}
-use Rattle.stab.specs.Basic.{if_then_else_, scan, count, has, allOf, eqZ}
-use Rattle.stab.proofs.Bools.{otherwise-first, otherwise-second, otherwise-none, otherwise-some, and-left, and-right, and-both, or-cases, or-left, or-right}
+use Rattle.stab.specs.Basic.{if_then_else_, _otherwise_, scan, count, has, allOf, eqZ}
+use Rattle.stab.proofs.Bools.{otherwise-same, otherwise-first, otherwise-second, otherwise-none, otherwise-some, and-left, and-right, and-both, or-cases, or-left, or-right}
 use Rattle.stab.proofs.Whole.{eqZ-true, eqZ-of}
 
 pub below-suc : (k n : ℕ) → k < suc n → (k < n) ⊎ (k ≡ n)
@@ -36,6 +36,14 @@ none-scan f (suc n) h k p =
     (λ q. none-scan f n (otherwise-first (scan f n) (f n) h) k q)
     (λ q. subst (λ (m : ℕ). f m ≡ none) (sym q) (otherwise-second (scan f n) (f n) h))
     (below-suc k n p)
+
+-- two scans find the same if they find the same at each number before which nothing is found
+pub scan-same : {A : Type 0} (f g : ℕ → Option A) (n : ℕ) → ((k : ℕ) → k < n → scan g k ≡ none → f k ≡ g k) → scan f n ≡ scan g n
+unfolding scan
+scan-same f g zero h = refl
+scan-same f g (suc n) h =
+    ap (λ (x : Option _). x otherwise f n) (scan-same f g n (λ k p. h k (omega arith)))
+    ∙ otherwise-same (scan g n) (f n) (g n) (h n (omega arith))
 
 -- the loop's step: nothing was found below i, nor at i
 pub scan-more : {A : Type 0} (f : ℕ → Option A) (i : ℕ) → scan f i ≡ none → f i ≡ none → scan f (i + 1) ≡ none

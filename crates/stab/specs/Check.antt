@@ -89,15 +89,19 @@ tablesHold T =
 unfoldable pub withinLimits : Tableau → Bool
 withinLimits T = leb (rowCount T) 1024 and leb (T .nodeRows) 1024 and leb (T .memberCount) 8192
 
-unfoldable pub refusal : Tableau → Option Verdict
-refusal T =
+-- what is found, where `judge` says what is found of a node once tables, formulas, sets and parents are right
+unfoldable pub refusalBy : (Tableau → ℕ → Option Verdict) → Tableau → Option Verdict
+refusalBy judge T =
     wholeUnless (tablesHold T) TableTooShort otherwise
     wholeUnless (withinLimits T) TooMany otherwise
     formulasRefusal (rows T) (rowCount T) (T .schemaRows) (T .root) (T .least) otherwise
     scan (setRefusal T) (T .nodeRows) otherwise
     wholeUnless (ltb 0 (T .nodeRows)) Parent otherwise
     scan (parentRefusal T) (T .nodeRows) otherwise
-    scan (nodeRefusal T) (T .nodeRows)
+    scan (judge T) (T .nodeRows)
+
+unfoldable pub refusal : Tableau → Option Verdict
+refusal T = refusalBy nodeRefusal T
 
 -- node j is a rule 8 row
 unfoldable pub isLink : List ℤ → ℕ → Bool
@@ -112,5 +116,9 @@ unfoldable pub verdict : Option Verdict → Verdict → Verdict
 verdict none v = v
 verdict (some w) v = w
 
+-- the check by such a judge; "Acceptance gives the number of nodes and of rule 8 rows"
+unfoldable pub checkBy : (Tableau → ℕ → Option Verdict) → Tableau → Verdict
+checkBy judge T = verdict (refusalBy judge T) (Accepted (T .nodeRows) (linkCount T))
+
 unfoldable pub check : Tableau → Verdict
-check T = verdict (refusal T) (Accepted (T .nodeRows) (linkCount T))
+check T = checkBy nodeRefusal T

@@ -133,11 +133,10 @@ pub record Clashes (T : Tableau) (j : ℕ) : Type 0 where
   pub sameSymbol : row T (node T j .on) .a ≡ row T (node T j .with) .a
   pub sameIndex : SameIndex (bound T j) (row T (node T j .on)) (row T (node T j .with))
 
--- rule 8, with a link to node i
+-- rule 8, with a link to node i. In a tableau that keeps the rules node i is open (`target-open`).
 pub record Loops (T : Tableau) (j i : ℕ) : Type 0 where
   pub target : node T j .to ≡ pos i
   pub ancestor : Ancestor (T .nodes) i j
-  pub isOpen : bound T i .exact ≡ false
   pub above : pos (bound T i .L) ≤ℤ (pos (bound T j .L) -ℤ node T j .by)
   pub lowered : (z : ℤ) → List·Memᴰ z (set T i) → (x : ℤ) × List·Memᴰ x (set T j) × Alike (lower (node T j .by) (formula T z)) (formula T x)
 

@@ -7,6 +7,7 @@ pub mod Node
 pub mod Rule
 pub mod Check
 pub mod Search
+pub mod OpenTarget
 pub mod Model
 pub mod Keeps
 pub mod Refuted

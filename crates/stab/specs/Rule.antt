@@ -138,9 +138,9 @@ clashFits B v w = eqZ (v .b) (w .b) and eqZ (v .c) (w .c) or B .exact and eqZ (i
 unfoldable pub voidFits : Bound → Row → Bool
 voidFits B w = B .exact and ltZ (pos (B .L)) (w .b +ℤ w .c)
 
--- the ancestor, with bound A, is "open"; "L - k ≥ the ancestor's bound"
+-- "L - k ≥ the ancestor's bound", for an ancestor with bound A. That it is "open" is not looked at (02, No. 3: "take the test out").
 unfoldable pub loopFits : Bound → Bound → ℤ → Bool
-loopFits B A k = not (A .exact) and leZ (pos (A .L)) (pos (B .L) -ℤ k)
+loopFits B A k = leZ (pos (A .L)) (pos (B .L) -ℤ k)
 
 unfoldable pub boundFits : Tableau → ℕ → Bool
 boundFits T j =

@@ -7,7 +7,7 @@ use lib.Dec.{ltb}
 use lib.IntN.{pos}
 use Rattle.stab.specs.Basic.{within, below, _otherwise_, scan}
 use Rattle.stab.specs.Node.{Tableau, setFits, parentFits}
-use Rattle.stab.specs.Check.{finding, wholeUnless, atUnless, rootFits, formulasRefusal, setRefusal, parentRefusal, nodeRefusal, tablesHold, withinLimits, refusal, linkCount, verdict, check}
+use Rattle.stab.specs.Check.{finding, wholeUnless, atUnless, rootFits, formulasRefusal, setRefusal, parentRefusal, nodeRefusal, tablesHold, withinLimits, refusal, refusalBy, linkCount, verdict, check, checkBy}
 use Rattle.stab.specs.declared.Place.{Place}
 use Rattle.stab.specs.declared.Place.the-variants.{Whole}
 use Rattle.stab.specs.declared.Refusal.{Refusal}
@@ -65,7 +65,7 @@ module _ (T : Tableau) where
 
   -- the whole refusal, by its groups
   pub refusal-is : refusal T ≡ (wholeUnless (tablesHold T) TableTooShort otherwise (wholeUnless (withinLimits T) TooMany otherwise ((rowsRefusal T otherwise nodesRefusal T) otherwise scan (nodeRefusal T) (T .nodeRows))))
-  unfolding refusal rowsRefusal nodesRefusal
+  unfolding refusal refusalBy rowsRefusal nodesRefusal
   refusal-is =
       let R = rowsRefusal T in
       let A = scan (setRefusal T) (T .nodeRows) in
@@ -80,11 +80,11 @@ module _ (T : Tableau) where
 -- ---- the verdict from what was found
 
 pub refused-is : (T : Tableau) (f : Finding) (why : Refusal) (p : Place) → finding f ≡ refusal T → f ≡ Found why p → Refused why p ≡ check T
-unfolding check verdict finding
+unfolding check checkBy refusal verdict finding
 refused-is T f why p e h = ap (λ (x : Option Verdict). verdict x (Accepted (T .nodeRows) (linkCount T))) (sym (ap finding h) ∙ e)
 
 pub accepted-is : (T : Tableau) (f : Finding) (links : ℕ) → finding f ≡ refusal T → f ≡ Nothing → links ≡ linkCount T → Accepted (T .nodeRows) links ≡ check T
-unfolding check verdict finding
+unfolding check checkBy refusal verdict finding
 accepted-is T f links e h l =
     ap (Accepted (T .nodeRows)) l ∙ ap (λ (x : Option Verdict). verdict x (Accepted (T .nodeRows) (linkCount T))) (sym (ap finding h) ∙ e)
 

@@ -29,6 +29,10 @@ impl Seen {
         self.packed >> 39
     }
 
+    pub fn place(&self) -> i64 {
+        (self.packed >> 26 & 8191) as i64 - 1
+    }
+
     pub fn links(&self) -> u64 {
         self.packed & 8191
     }
@@ -38,10 +42,9 @@ impl Seen {
         if self == other {
             return None;
         }
-        let place = |seen: &Seen| (seen.packed >> 26 & 8191) as i64 - 1;
         let words = |seen: &Seen| {
             let Seen { results, span, fault, .. } = seen;
-            format!("answer {} place {} {results:?} {span:?} {fault}", seen.answer(), place(seen))
+            format!("answer {} place {} {results:?} {span:?} {fault}", seen.answer(), seen.place())
         };
         let (ours, theirs) = (words(self), words(other));
         let memory = match (self.outside, self.tables != other.tables || self.out != other.out) {

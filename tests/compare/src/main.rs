@@ -18,7 +18,7 @@ fn generated(tally: &mut Tally, seed: u64, count: u64) {
     while compared < count {
         let case = case(seed, number);
         let what = format!("seed {seed} case {number} ({})", case.sort);
-        compared += u64::from(tally.compare_generated(&what, case.sort, &case.input));
+        compared += u64::from(tally.compare_generated(&what, &case));
         number += 1;
     }
 }

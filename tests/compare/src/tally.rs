@@ -4,7 +4,8 @@ use crate::again::ways;
 use crate::calls::{of_library, of_reference};
 use crate::soundness::Soundness;
 use std::collections::BTreeMap;
-use zorambi_reference::generate::Input;
+use zorambi_reference::generate::cases::EXACT_ANCESTOR;
+use zorambi_reference::generate::{exact, Aim, Case, Input};
 
 /// The entries by what they do, as columns of the table of answers.
 const GROUPS: [&str; 6] = ["check", "model", "read", "write", "program", "again"];
@@ -18,6 +19,17 @@ struct Accepted {
     linked: u64,
 }
 
+/// How often cases of one kind were compared, and what came of them at the node that they are about, at
+/// an earlier and at a later one.
+#[derive(Clone, Copy, Default)]
+struct Aimed {
+    cases: u64,
+    accepted: u64,
+    at: u64,
+    earlier: u64,
+    later: u64,
+}
+
 #[derive(Default)]
 pub struct Tally {
     pub passed: u64,
@@ -26,6 +38,8 @@ pub struct Tally {
     answers: [[u64; 23]; GROUPS.len()],
     /// Generated tableaux by sort.
     tableaux: BTreeMap<&'static str, Accepted>,
+    /// Generated tableaux that are made to show one thing, by their sort and kind.
+    aimed: BTreeMap<(&'static str, &'static str), Aimed>,
     pub soundness: Soundness,
 }
 
@@ -81,20 +95,47 @@ impl Tally {
     }
 
     /// The same with a generated case; tableaux are counted by their sort.
-    pub fn compare_generated(&mut self, what: &str, sort: &'static str, input: &Input) -> bool {
+    pub fn compare_generated(&mut self, what: &str, case: &Case) -> bool {
         let before = self.answers[0][0];
-        if !self.compare(what, input) {
+        if !self.compare(what, &case.input) {
             return false;
         }
-        if let Input::Check(t) = input {
+        if let Input::Check(t) = &case.input {
             let accepted = self.answers[0][0] > before;
             let links = t.nodes.chunks_exact(9).take(t.node_count).filter(|node| node[1] == 8).count();
-            let counts = self.tableaux.entry(sort).or_default();
+            let counts = self.tableaux.entry(case.sort).or_default();
             counts.cases += 1;
             counts.accepted += u64::from(accepted);
             counts.linked += u64::from(accepted && links > 0);
         }
+        if let Some(aim) = &case.aim {
+            self.judge_aim(what, case, aim);
+        }
         true
+    }
+
+    /// A case that is made to show one thing: what is expected of it, and its counts.
+    fn judge_aim(&mut self, what: &str, case: &Case, aim: &Aim) {
+        let Some(ours) = of_library(&case.input) else { return };
+        let (answer, place) = (ours.answer(), ours.place());
+        if let Some((expected, at)) = aim.expected {
+            let fits = (answer, place) == (u64::from(expected), i64::from(at));
+            let why = || format!("answer {answer} place {place}, made for {expected} {at}");
+            self.test(what, if fits { Ok(()) } else { Err(why()) });
+        }
+        for kind in &aim.kinds {
+            let counts = self.aimed.entry((case.sort, kind)).or_default();
+            let node = i64::from(aim.node);
+            counts.cases += 1;
+            counts.accepted += u64::from(answer == 0);
+            counts.at += u64::from(answer > 0 && place == node);
+            counts.earlier += u64::from(answer > 0 && place < node);
+            counts.later += u64::from(answer > 0 && place > node);
+        }
+    }
+
+    fn aimed(&self, sort: &'static str, kind: &'static str) -> Aimed {
+        self.aimed.get(&(sort, kind)).copied().unwrap_or_default()
     }
 
     fn times(&self, answer: usize) -> u64 {
@@ -125,6 +166,11 @@ impl Tally {
         let enough = |fits: bool| if fits { Ok(()) } else { Err("too few".to_string()) };
         self.test("a fifth of the tableaux accepted", enough(cases > 0 && accepted * 5 >= cases));
         self.test("half of those with links", enough(accepted > 0 && linked * 2 >= accepted));
+        for (kind, at, earlier) in exact::KINDS {
+            let counts = self.aimed(EXACT_ANCESTOR, kind);
+            let fits = (counts.at > 0) == at && (counts.earlier > 0) == earlier && counts.later + counts.accepted == 0;
+            self.test(&format!("link to an exact ancestor, {kind}"), enough(fits));
+        }
     }
 
     pub fn print(&self) {
@@ -139,6 +185,13 @@ impl Tally {
         }
         let all = self.all_tableaux();
         println!("{:26}{:>9}{:>10}{:>12}", "all", all.cases, all.accepted, all.linked);
+        let Aimed { cases, at, earlier, .. } = self.aimed(EXACT_ANCESTOR, exact::ANY);
+        println!("links to an exact ancestor: {cases} compared, {at} with 14 at the link, {earlier} with 14 earlier");
+        println!("{:56}{:>7}{:>10}{:>8}{:>9}{:>7}", "made for", "cases", "accepted", "there", "earlier", "later");
+        for ((sort, kind), counts) in &self.aimed {
+            let Aimed { cases, accepted, at, earlier, later } = counts;
+            println!("{:56}{cases:>7}{accepted:>10}{at:>8}{earlier:>9}{later:>7}", format!("{sort}: {kind}"));
+        }
         self.soundness.print();
         println!("{} passed, {} failed", self.passed, self.failed);
     }

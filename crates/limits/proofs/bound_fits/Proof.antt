@@ -5,7 +5,7 @@ use mathlib.Core.List.{[]}
 use lib.IntN.{pos}
 use Rattle.stab.specs.Basic.{nat}
 use Rattle.stab.specs.Node.{Tableau, Bound, node, bound, row, rows, rowCount}
-use Rattle.stab.specs.Rule.{unfoldFits, splitFits}
+use Rattle.stab.specs.Rule.{unfoldFits, splitFits, loopFits}
 use Rattle.stab.proofs.Trees.{below-pos}
 use Rattle.branch.specs.Lent.{lent, bounded}
 use Rattle.limits.proofs.BoundSteps.{bound-kept, split-asked, unfold-asked, clash-asked, void-asked, loop-asked, none-asked, unfold-on, void-on, clash-on, clash-with, by-natural}
@@ -107,12 +107,12 @@ returns-3 c =
     (void-asked (Lent (Begin m)) _ _ (numbered m) (c .before .match .keys3))
 
 returns-4 : tie.Need-returns-4
-unfolding node rows rowCount bound ofRule
+unfolding node rows rowCount bound ofRule loopFits
 returns-4 c =
     let m = c .before .before in
     let s = Begin m in
     let l = s .pre .1 .1 .1 .1 (eqZ-of _ _ (numbered m ∙ ap pos (c .before .match .keys4))) in
-    c .target-allows .ensures (m .before .before .before .is-exact .result)
+    c .target-allows .ensures
     ∙ loop-same
     (bound-read m)
     (bound-kept _ _ _ _ (nat (node (Lent s) (s .args .j) .to)) (s .pre .1 .1 .1 .0 _ (omega (arith, l, s .pre .0 .0))))

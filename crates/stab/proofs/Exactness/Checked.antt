@@ -4,7 +4,7 @@ use native.Mathlib.Omega.{arith}
 use mathlib.Core.Logic.{Iff·trans}
 use lib.ListN.{length}
 use Rattle.stab.specs.Node.{Tableau, rows, rowCount}
-use Rattle.stab.specs.Check.{holds, setRefusal, parentRefusal, nodeRefusal, tablesHold, withinLimits, refusal}
+use Rattle.stab.specs.Check.{holds, setRefusal, parentRefusal, nodeRefusal, tablesHold, withinLimits, refusalBy, refusal}
 use Rattle.stab.specs.Keeps.{Keeps}
 use Rattle.stab.specs.declared.Refusal.the-variants.{TableTooShort, TooMany, Parent}
 use Rattle.stab.proofs.Tests.{_&_, le-tests, lt-tests, _clears_, whole-clears, once-clears, _then_, scan-clears}
@@ -13,7 +13,7 @@ use Rattle.stab.proofs.Exactness.Nodes.{set-clears, parent-clears}
 use Rattle.stab.proofs.Exactness.Steps.{step-clears}
 
 pub tableau-clears : (T : Tableau) → refusal T clears Keeps T
-unfolding refusal tablesHold holds withinLimits
+unfolding refusal refusalBy tablesHold holds withinLimits
 tableau-clears T =
     Iff·trans
     (whole-clears TableTooShort

@@ -8,7 +8,7 @@ use lib.IntN.{ℤ}
 use Rattle.stab.specs.Basic.{_otherwise_, scan, unless}
 use Rattle.stab.specs.Formula.{Row}
 use Rattle.stab.specs.Node.{Tableau, rows, rowCount}
-use Rattle.stab.specs.Check.{wholeUnless, atUnless, rowRefusal, formulasRefusal, setRefusal, parentRefusal, stepRefusal, nodeRefusal, withinLimits, refusal, verdict}
+use Rattle.stab.specs.Check.{wholeUnless, atUnless, rowRefusal, formulasRefusal, setRefusal, parentRefusal, stepRefusal, nodeRefusal, withinLimits, refusalBy, refusal, verdict}
 use Rattle.stab.specs.Model.{Model, pairRefusal, schemaRow, modelRefusal}
 use Rattle.stab.specs.declared.Place.{Place}
 use Rattle.stab.specs.declared.Place.the-variants.{Whole, At}
@@ -75,7 +75,7 @@ of-node T j l =
     of-at _ _ j l
 
 pub of-refusal : (T : Tableau) → FindsRefusals (refusal T)
-unfolding refusal setRefusal parentRefusal withinLimits
+unfolding refusal refusalBy setRefusal parentRefusal withinLimits
 of-refusal T =
     of-whole _ _ or-else
     once (of-whole _ TooMany)

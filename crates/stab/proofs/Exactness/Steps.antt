@@ -43,20 +43,20 @@ on-tests T j =
     (or-tests (eqZ-tests (rule T j .on) unused) (has-tests (node T j .on) (set T j)))
     (λ p n. ⊎-elim (λ e. absurd (n e)) (λ m. m) p, λ f. ⊎-elim (λ e. inl (eqZ-true _ _ e)) (λ e. inr (f (not-eqZ _ _ e))) (decide (eqZ (rule T j .on) unused)))
 
-rule-tests : (k : ℕ) (w : Node) → ofRule k w tests (w .rule ≡ pos k)
+pub rule-tests : (k : ℕ) (w : Node) → ofRule k w tests (w .rule ≡ pos k)
 unfolding ofRule
 rule-tests k w = eqZ-tests (w .rule) (pos k)
 
-record Fields (T : Tableau) (j : ℕ) : Type 0 where
+pub record Fields (T : Tableau) (j : ℕ) : Type 0 where
   known : Below 9 (node T j .rule)
   on : KeepsKind T (rule T j .on) (node T j .on)
   onStands : rule T j .on ≢ unused → List·Memᴰ (node T j .on) (set T j)
   with : KeepsKind T (rule T j .with) (node T j .with)
   other : (rule T j .other ≡ true → Below (rowCount T) (node T j .other)) × (rule T j .other ≡ false → node T j .other ≡ unused)
-  link : (rule T j .link ≡ true → pos 1 ≤ℤ node T j .by) × (rule T j .link ≡ false → (node T j .to ≡ unused) × (node T j .by ≡ pos 0))
+  pub link : (rule T j .link ≡ true → pos 1 ≤ℤ node T j .by) × (rule T j .link ≡ false → (node T j .to ≡ unused) × (node T j .by ≡ pos 0))
   clash : node T j .rule ≡ pos 6 → List·Memᴰ (node T j .with) (set T j) × (row T (node T j .on) .a ≡ row T (node T j .with) .a)
 
-fields-tests : (T : Tableau) (j : ℕ) → fieldsFit T j tests Fields T j
+pub fields-tests : (T : Tableau) (j : ℕ) → fieldsFit T j tests Fields T j
 unfolding fieldsFit otherFits isRow linkFits symbolFits
 fields-tests T j =
     Iff·trans
@@ -82,7 +82,7 @@ fields-tests T j =
 
 -- ---- the target of a loop: 13
 
-target-tests : (T : Tableau) → ((k : ℕ) → k < T .nodeRows → KeepsParent T k) → (j : ℕ) → j < T .nodeRows → targetFits T j tests (node T j .rule ≡ pos 8 → (i : ℕ) × (node T j .to ≡ pos i) × Ancestor (T .nodes) i j)
+pub target-tests : (T : Tableau) → ((k : ℕ) → k < T .nodeRows → KeepsParent T k) → (j : ℕ) → j < T .nodeRows → targetFits T j tests (node T j .rule ≡ pos 8 → (i : ℕ) × (node T j .to ≡ pos i) × Ancestor (T .nodes) i j)
 unfolding targetFits
 target-tests T keeps j l = rule-tests 8 (node T j) ⇒ ancestor-tests T keeps (node T j .to) j l
 
@@ -98,14 +98,14 @@ index-tests B v w =
     (eqZ-tests (v .b) (w .b) & eqZ-tests (v .c) (w .c))
     (itself (B .exact) & eqZ-tests (indexAt (B .L) v) (indexAt (B .L) w))
 
-record Bounds (T : Tableau) (j : ℕ) : Type 0 where
+pub record Bounds (T : Tableau) (j : ℕ) : Type 0 where
   split : node T j .rule ≡ pos 2 → (bound T j .exact ≡ false) × (bound T j .L ≤ 9998)
   unfolds : (node T j .rule ≡ pos 3) ⊎ (node T j .rule ≡ pos 4) → (row T (node T j .on) .b +ℤ row T (node T j .on) .c) ≤ℤ pos (bound T j .L)
   clash : node T j .rule ≡ pos 6 → SameIndex (bound T j) (row T (node T j .on)) (row T (node T j .with))
   void : node T j .rule ≡ pos 7 → (bound T j .exact ≡ true) × (pos (bound T j .L) <ℤ (row T (node T j .on) .b +ℤ row T (node T j .on) .c))
-  loop : node T j .rule ≡ pos 8 → (bound T (nat (node T j .to)) .exact ≡ false) × (pos (bound T (nat (node T j .to)) .L) ≤ℤ (pos (bound T j .L) -ℤ node T j .by))
+  pub loop : node T j .rule ≡ pos 8 → pos (bound T (nat (node T j .to)) .L) ≤ℤ (pos (bound T j .L) -ℤ node T j .by)
 
-bound-tests : (T : Tableau) (j : ℕ) → boundFits T j tests Bounds T j
+pub bound-tests : (T : Tableau) (j : ℕ) → boundFits T j tests Bounds T j
 unfolding boundFits splitFits unfoldFits voidFits loopFits
 bound-tests T j =
     Iff·trans
@@ -114,9 +114,7 @@ bound-tests T j =
     (rule-tests 6 (node T j) ⇒ index-tests (bound T j) (row T (node T j .on)) (row T (node T j .with))) &
     (rule-tests 7 (node T j) ⇒
     itself (bound T j .exact) & ltZ-tests (pos (bound T j .L)) (row T (node T j .on) .b +ℤ row T (node T j .on) .c)) &
-    (rule-tests 8 (node T j) ⇒
-    not-tests (bound T (nat (node T j .to)) .exact) &
-    leZ-tests (pos (bound T (nat (node T j .to)) .L)) (pos (bound T j .L) -ℤ node T j .by)))
+    (rule-tests 8 (node T j) ⇒ leZ-tests (pos (bound T (nat (node T j .to)) .L)) (pos (bound T j .L) -ℤ node T j .by)))
     (λ p. record { split = p .0; unfolds = p .1 .0; clash = p .1 .1 .0; void = p .1 .1 .1 .0; loop = p .1 .1 .1 .1 }, λ k. (k .split, (k .unfolds, (k .clash, (k .void, k .loop)))))
 
 -- ---- with and other of an unfolding: 15
@@ -207,8 +205,7 @@ loops T j k r =
       record {
         target = k .target r .1;
         ancestor = k .target r .2;
-        isOpen = subst (λ (m : ℕ). bound T m .exact ≡ false) e (k .bounds .loop r .0);
-        above = subst (λ (m : ℕ). pos (bound T m .L) ≤ℤ (pos (bound T j .L) -ℤ node T j .by)) e (k .bounds .loop r .1);
+        above = subst (λ (m : ℕ). pos (bound T m .L) ≤ℤ (pos (bound T j .L) -ℤ node T j .by)) e (k .bounds .loop r);
         lowered = λ z m. k .lowered r z (subst (λ (m : ℕ). List·Memᴰ z (set T m)) (sym e) m);
       },
     )
@@ -258,7 +255,7 @@ judged-keeps T j d k = record {
     void = k .void;
     loop = λ r.
         let e : nat (node T j .to) ≡ k .loop r .0 = ap nat (k .loop r .1 .target) in
-        (subst (λ (m : ℕ). bound T m .exact ≡ false) (sym e) (k .loop r .1 .isOpen), subst (λ (m : ℕ). pos (bound T m .L) ≤ℤ (pos (bound T j .L) -ℤ node T j .by)) (sym e) (k .loop r .1 .above));
+        subst (λ (m : ℕ). pos (bound T m .L) ≤ℤ (pos (bound T j .L) -ℤ node T j .by)) (sym e) (k .loop r .1 .above);
   };
   partners = λ r. record {
     sameBody = k .unfolds r .sameBody;

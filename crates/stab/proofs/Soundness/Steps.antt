@@ -25,6 +25,7 @@ use Rattle.stab.proofs.Bounds.{bound-child, counted}
 use Rattle.stab.proofs.Tests.{below-tests}
 use Rattle.stab.proofs.Formed.{formed-tests}
 use Rattle.stab.proofs.Ancestors.{parent-below}
+use Rattle.stab.proofs.Ranges.{from-least, exactly, lowered-satisfies, ancestor-satisfies}
 
 -- ---- the table's entries
 
@@ -65,20 +66,6 @@ given-is T w m = refl
 lit-value : (σ : Assignment) (n : ℕ) (v : Bool) (w : Row) → truth σ n (lit v (w .a) (baseOf (w .b)) (w .c)) ≡ signed v (σ (w .a) (indexAt n w))
 unfolding truth value indexAt
 lit-value σ n v w = refl
-
-least-if : (v : Bool) (L n : ℕ) → SatisfiesIf v L n → L ≤ n
-unfolding SatisfiesIf
-least-if true L n h = omega arith
-least-if false L n h = h
-
--- n satisfies a bound only from its L on
-pub from-least : (B : Bound) (n : ℕ) → Satisfies B n → B .L ≤ n
-unfolding Satisfies
-from-least B n h = least-if (B .exact) (B .L) n h
-
-exactly : (B : Bound) (n : ℕ) → B .exact ≡ true → Satisfies B n → n ≡ B .L
-unfolding Satisfies SatisfiesIf
-exactly B n e h = subst (λ (v : Bool). SatisfiesIf v (B .L) n) e h
 
 module _ (T : Tableau) (K : Keeps T) (σ : Assignment) where
   -- row z is true at n
@@ -378,8 +365,10 @@ module _ (T : Tableau) (K : Keeps T) (σ : Assignment) where
         smaller m i
         (omega (arith, of-eq (num m) (num n ⊖ atom k) q, of-le (num 1) (atom k) k≥1))
         (omega arith)
-        (subst (λ (v : Bool). SatisfiesIf v (bound T i .L) m) (sym (u .isOpen))
-        (omega (arith, of-eq (num m) (num n ⊖ atom k) q, of-le (num (bound T i .L)) (num (bound T j .L) ⊖ atom k) bounds)))
+        (lowered-satisfies (bound T i) n m
+        (ancestor-satisfies T (λ x y. K .nodes x y .parent) j p (λ x y r. K .nodes x (omega arith) .step .split r .0) (u .ancestor) n sat)
+        (omega (arith, of-eq (num m) (num n ⊖ atom k) q, of-le (num (bound T i .L)) (num (bound T j .L) ⊖ atom k) bounds))
+        (omega (arith, of-eq (num m) (num n ⊖ atom k) q, of-le (num 1) (atom k) k≥1)))
         (λ z mem.
         let x = u .lowered z mem in
         sym (lower-value σ n m k (formula T z) (pos 0) q (properly z (member-row i (omega arith) z mem)))

@@ -214,6 +214,10 @@ fn generated(tally: &mut Tally, cases: u64, seed: u64) {
             entry.most_nodes = entry.most_nodes.max(verdict.nodes);
         }
         tally.record(&name, consistent(&case.input, &outcome, &mut soundness));
+        if let (Some(aim), Outcome::Verdict { verdict, .. }) = (&case.aim, &outcome) {
+            let found = (verdict.answer, verdict.place);
+            tally.equal(&name, found, aim.expected.unwrap_or(found));
+        }
     }
     print_counts(&counts);
     println!(

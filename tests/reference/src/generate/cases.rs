@@ -1,5 +1,6 @@
 //! One generated case of any sort, and what this implementation answers to it.
 
+use super::exact::exact_tables;
 use super::models::{damage_model, find_model, pair_rows, random_pairs, ModelTables};
 use super::pool::Pool;
 use super::prover::grow;
@@ -16,11 +17,26 @@ use crate::program::Fault;
 use crate::text::{self, ModelRead, Named, ProofRead, SchemaRead, Written};
 use crate::{model, packed, program, tableau, Verdict, MAX_TEXT};
 
-/// A case: its sort, for the counts, and its input.
+/// A case: its sort, for the counts, its input, and what it is made to show, if it is one thing.
 #[derive(Clone, Debug)]
 pub struct Case {
     pub sort: &'static str,
     pub input: Input,
+    pub aim: Option<Aim>,
+}
+
+/// The sort of a link to an exact ancestor.
+pub const EXACT_ANCESTOR: &str = "check, exact ancestor";
+
+/// What a case is made to show.
+#[derive(Clone, Debug)]
+pub struct Aim {
+    /// All that it is, for the counts.
+    pub kinds: Vec<&'static str>,
+    /// The node that it is about.
+    pub node: i32,
+    /// Answer and place, if they follow from how the case was made.
+    pub expected: Option<(u8, i32)>,
 }
 
 /// What a function is called with. `fill` is what lent memory holds before.
@@ -261,7 +277,12 @@ pub fn run(input: &Input) -> Outcome {
 pub fn case(seed: u64, number: u64) -> Case {
     let mut rng = Rng::new(mix(seed.wrapping_add(mix(number))));
     let rng = &mut rng;
-    let (sort, input) = match rng.below(100) {
+    let mut aim = None;
+    let mut aimed = |(tables, aim_of): (Tables, Aim)| {
+        aim = Some(aim_of);
+        Input::Check(tables)
+    };
+    let (sort, input) = match rng.below(104) {
         0..=21 => ("check, grown", Input::Check(grown(rng))),
         22..=33 => ("check, grown and damaged", Input::Check(damaged(rng))),
         34..=49 => ("check, sharp", Input::Check(sharp_tables(rng))),
@@ -288,9 +309,10 @@ pub fn case(seed: u64, number: u64) -> Case {
             ("line at fault", Input::CheckFault { schema, proof })
         }
         97 => ("line at fault in a model", model_fault_case(rng)),
-        _ => ("compare rows", compare_case(rng)),
+        98 | 99 => ("compare rows", compare_case(rng)),
+        _ => (EXACT_ANCESTOR, aimed(exact_tables(rng))),
     };
-    Case { sort, input }
+    Case { sort, input, aim }
 }
 
 fn any_schema(rng: &mut Rng) -> Schema {

@@ -6,11 +6,13 @@
 //! * [`prover`]: grows a tableau by the rules
 //! * [`tables`]: a tableau as a tree and as tables, and damage to both
 //! * [`sharp`]: tableaux in which one condition decides
+//! * [`exact`]: links to an exact ancestor
 //! * [`models`]: models, found or at random
 //! * [`texts`]: texts, and damage to them
 //! * [`cases`]: one case of any sort, and what this implementation answers to it
 
 pub mod cases;
+pub mod exact;
 pub mod models;
 pub mod pool;
 pub mod prover;
@@ -20,5 +22,5 @@ pub mod sharp;
 pub mod tables;
 pub mod texts;
 
-pub use cases::{case, run, Case, Input, Outcome};
+pub use cases::{case, run, Aim, Case, Input, Outcome};
 pub use rng::Rng;

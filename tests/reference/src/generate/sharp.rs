@@ -45,7 +45,7 @@ pub fn sharp_tables(rng: &mut Rng) -> Tables {
 }
 
 /// A tableau with all branches closed, as small as comes soon.
-fn closed_tree(rng: &mut Rng) -> Tree {
+pub fn closed_tree(rng: &mut Rng) -> Tree {
     loop {
         let grown = grow(&false_schema(rng), rng);
         if grown.closed && grown.tree.nodes.len() < 300 {
@@ -54,8 +54,8 @@ fn closed_tree(rng: &mut Rng) -> Tree {
     }
 }
 
-/// n ≥ or n = this, for each node of a right tableau.
-fn bounds(tree: &Tree) -> Vec<(i32, bool)> {
+/// n ≥ (true) or n = (false) this, for each node; ups are right.
+pub fn bounds(tree: &Tree) -> Vec<(i32, bool)> {
     let mut bounds: Vec<(i32, bool)> = Vec::new();
     let mut seen = vec![0; tree.nodes.len()];
     for node in &tree.nodes {
@@ -98,7 +98,7 @@ fn append(tree: &mut Tree, row: Row) -> i32 {
     tree.rows.len() as i32 - 1
 }
 
-fn insert_member(node: &mut TreeNode, row: i32) {
+pub fn insert_member(node: &mut TreeNode, row: i32) {
     if let Err(at) = node.set.binary_search(&row) {
         node.set.insert(at, row);
     }

@@ -1,0 +1,124 @@
+-- That the target of a link is open need not be looked at: the check with that test gives the same verdict, whatever the tableau.
+use Prim.Native.Nat.{ℕ, _<_}
+use native.Mathlib.Omega.{arith}
+use mathlib.Core.Path.{_≡_, sym, _∙_, ap, subst}
+use mathlib.Core.Logic.{⊎-elim}
+use mathlib.Core.Bool.{Bool, true, false}
+use mathlib.Core.Option.{Option, none}
+use lib.IntN.{ℤ, pos, _-ℤ_}
+use lib.Signed.{leZ, _≤ℤ_}
+use Rattle.stab.specs.Basic.{_and_, nat}
+use Rattle.stab.specs.Node.{Tableau, Bound, node, bound}
+use Rattle.stab.specs.Rule.{entry, ruleTable, ruleOf, rule, loopFits, fieldsFit, targetFits, boundFits}
+use Rattle.stab.specs.Check.{atUnless, parentRefusal, stepRefusal, nodeRefusal, refusalBy, checkBy, verdict, check, linkCount}
+use Rattle.stab.specs.OpenTarget.{targetOpen, stepRefusalOpen, nodeRefusalOpen, checkOpen}
+use Rattle.stab.specs.Keeps.{KeepsParent, Ancestor, KeepsStep, Loops, Keeps}
+use Rattle.stab.specs.declared.Refusal.the-variants.{Bound as BoundWrong, Fields, Target}
+use Rattle.stab.specs.declared.Verdict.{Verdict}
+use Rattle.stab.specs.declared.Verdict.the-variants.{Accepted}
+use Rattle.stab.proofs.Bools.{decide, and-first-true, and-first-false, otherwise-same, otherwise-first-same}
+use Rattle.stab.proofs.Whole.{atom, num, _⊖_, of-le, leZ-of, of-leZ}
+use Rattle.stab.proofs.Scans.{scan-same, none-scan}
+use Rattle.stab.proofs.Tests.{_⇒_, not-tests, at-clears, scan-clears, itself}
+use Rattle.stab.proofs.Ranges.{OpenSplits, exact-ancestor}
+use Rattle.stab.proofs.Exactness.Nodes.{parent-clears}
+use Rattle.stab.proofs.Exactness.Steps.{rule-tests, fields-tests, target-tests, bound-tests, step-clears}
+
+-- a loop uses to and by
+link-used : (T : Tableau) (j : ℕ) → node T j .rule ≡ pos 8 → rule T j .link ≡ true
+unfolding rule ruleOf ruleTable entry nat
+link-used T j r = ap (λ (z : ℤ). ruleOf z .link) r
+
+-- L - k ≥ L' keeps the bounds of a leaf and its target apart, so an exact ancestor cannot be the target
+apart : (B A : Bound) (k : ℤ) → B ≡ A → pos 1 ≤ℤ k → pos (A .L) ≤ℤ (pos (B .L) -ℤ k) → ⊥
+apart B A k e h l =
+    omega (arith, ap (λ (C : Bound). C .L) e, of-le (num 1) (atom k) (leZ-of h), of-le (num (A .L)) (num (B .L) ⊖ atom k) (leZ-of l))
+
+module _ (T : Tableau) (parents : (k : ℕ) → k < T .nodeRows → KeepsParent T k) where
+  -- "An exact ancestor makes all below it exact with its own L", where the nodes before j keep their rules
+  pub exact-below : (j i : ℕ) → j < T .nodeRows → ((k : ℕ) → k < j → KeepsStep T k) → Ancestor (T .nodes) i j → bound T i .exact ≡ true → bound T j ≡ bound T i
+  exact-below j i l before a x = exact-ancestor T parents j l (λ k p r. before k p .split r .0) a x
+
+  -- "so L - k is under its bound and 14 is given anyhow"
+  pub given-anyhow : (j i : ℕ) → j < T .nodeRows → ((k : ℕ) → k < j → KeepsStep T k) → Ancestor (T .nodes) i j → bound T i .exact ≡ true → (k : ℤ) → pos 1 ≤ℤ k → loopFits (bound T j) (bound T i) k ≡ false
+  unfolding loopFits
+  given-anyhow j i l before a x k h =
+      ⊎-elim
+      (λ t. absurd (apart (bound T j) (bound T i) k (exact-below j i l before a x) h (of-leZ t)))
+      (λ f. f)
+      (decide (leZ (pos (bound T i .L)) (pos (bound T j .L) -ℤ k)))
+
+  not-exact : (j i : ℕ) → j < T .nodeRows → OpenSplits T parents j → Ancestor (T .nodes) i j → pos 1 ≤ℤ node T j .by → pos (bound T i .L) ≤ℤ (pos (bound T j .L) -ℤ node T j .by) → bound T i .exact ≡ false
+  not-exact j i l splits a k above =
+      ⊎-elim
+      (λ x. absurd (apart (bound T j) (bound T i) (node T j .by) (exact-ancestor T parents j l splits a x) k above))
+      (λ x. x)
+      (decide (bound T i .exact))
+
+  module _ (j : ℕ) (l : j < T .nodeRows) (before : (k : ℕ) → k < j → nodeRefusal T k ≡ none) where
+    splits : OpenSplits T parents j
+    splits k p r = step-clears T parents k (omega arith) .0 (before k p) .1 .split r .0
+
+    is-open : fieldsFit T j ≡ true → targetFits T j ≡ true → boundFits T j ≡ true → node T j .rule ≡ pos 8 → bound T (nat (node T j .to)) .exact ≡ false
+    unfolding nat
+    is-open f t b r =
+        let w = target-tests T parents j l .0 t r in
+        let e : nat (node T j .to) ≡ w .0 = ap nat (w .1) in
+        subst (λ (m : ℕ). bound T m .exact ≡ false) (sym e)
+        (not-exact j (w .0) l splits (w .2)
+        (fields-tests T j .0 f .link .0 (link-used T j r))
+        (subst (λ (m : ℕ). pos (bound T m .L) ≤ℤ (pos (bound T j .L) -ℤ node T j .by)) e (bound-tests T j .0 b .loop r)))
+
+    -- with the tests before it passed, the test that went says nothing more
+    nothing-more : fieldsFit T j ≡ true → targetFits T j ≡ true → (boundFits T j and targetOpen T j) ≡ boundFits T j
+    unfolding targetOpen
+    nothing-more f t =
+        ⊎-elim
+        (λ b.
+        and-first-true (boundFits T j) _ b
+        ∙ (rule-tests 8 (node T j) ⇒ not-tests (bound T (nat (node T j .to)) .exact)) .1 (is-open f t b)
+        ∙ sym b)
+        (λ b. and-first-false (boundFits T j) _ b ∙ sym b)
+        (decide (boundFits T j))
+
+    same-step : stepRefusalOpen T j ≡ stepRefusal T j
+    unfolding stepRefusalOpen stepRefusal
+    same-step =
+        otherwise-same _ _ _ (λ d.
+        otherwise-same _ _ _ (λ f.
+        otherwise-same _ _ _ (λ t.
+        otherwise-first-same _
+        (ap (λ (v : Bool). atUnless v BoundWrong j)
+        (nothing-more (at-clears Fields j (itself (fieldsFit T j)) .0 f) (at-clears Target j (itself (targetFits T j)) .0 t))))))
+
+    same-node : nodeRefusalOpen T j ≡ nodeRefusal T j
+    unfolding nodeRefusalOpen nodeRefusal
+    same-node = otherwise-first-same _ same-step
+
+-- ---- the theorems
+
+same-refusal : (T : Tableau) → refusalBy nodeRefusalOpen T ≡ refusalBy nodeRefusal T
+unfolding refusalBy
+same-refusal T =
+    otherwise-same _ _ _ (λ a.
+    otherwise-same _ _ _ (λ b.
+    otherwise-same _ _ _ (λ c.
+    otherwise-same _ _ _ (λ d.
+    otherwise-same _ _ _ (λ e.
+    otherwise-same _ _ _ (λ p.
+    scan-same (nodeRefusalOpen T) (nodeRefusal T) (T .nodeRows) (λ j l h.
+    same-node T (scan-clears (parentRefusal T) (T .nodeRows) (λ i m. parent-clears T i) .0 p) j l (none-scan (nodeRefusal T) j h))))))))
+
+-- 02, No. 3: "Every verdict and place is the same.", for every tableau, whatever its numbers
+pub open-needless : (T : Tableau) → checkOpen T ≡ check T
+unfolding checkOpen check checkBy
+open-needless T = ap (λ (x : Option Verdict). verdict x (Accepted (T .nodeRows) (linkCount T))) (same-refusal T)
+
+-- in a tableau that keeps the rules every link's target is open
+pub target-open : (T : Tableau) → Keeps T → (j i : ℕ) → j < T .nodeRows → node T j .rule ≡ pos 8 → Loops T j i → bound T i .exact ≡ false
+target-open T K j i l r u =
+    not-exact T (λ x y. K .nodes x y .parent) j i l
+    (λ k p s. K .nodes k (omega arith) .step .split s .0)
+    (u .ancestor)
+    (K .nodes j l .step .linkUsed (link-used T j r))
+    (u .above)

@@ -1,0 +1,31 @@
+-- The check with the test put back that 02, No. 3 takes out of document 01's rule 8: "to is a proper ancestor, open". It gives the
+-- same verdict as the check, whatever the tableau (`open-needless`).
+use Prim.Native.Nat.{ℕ}
+use mathlib.Core.Bool.{Bool, not}
+use mathlib.Core.Option.{Option}
+use Rattle.stab.specs.Basic.{_and_, _implies_, nat, _otherwise_}
+use Rattle.stab.specs.Node.{Tableau, node, bound}
+use Rattle.stab.specs.Rule.{ofRule, drawn, fieldsFit, targetFits, boundFits, partnersFit, loweredFits, childrenFit}
+use Rattle.stab.specs.Check.{atUnless, checkBy}
+use Rattle.stab.specs.declared.Refusal.the-variants.{Drawn, Fields, Target, Bound, Partner, Lowered, Children}
+use Rattle.stab.specs.declared.Verdict.{Verdict}
+
+-- the target of a link is open
+unfoldable pub targetOpen : Tableau → ℕ → Bool
+targetOpen T j = ofRule 8 (node T j) implies not (bound T (nat (node T j .to)) .exact)
+
+-- 11 to 16, with that test among those of 14
+unfoldable pub stepRefusalOpen : Tableau → ℕ → Option Verdict
+stepRefusalOpen T j =
+    atUnless (drawn T j) Drawn j otherwise
+    atUnless (fieldsFit T j) Fields j otherwise
+    atUnless (targetFits T j) Target j otherwise
+    atUnless (boundFits T j and targetOpen T j) Bound j otherwise
+    atUnless (partnersFit T j) Partner j otherwise
+    atUnless (loweredFits T j) Lowered j
+
+unfoldable pub nodeRefusalOpen : Tableau → ℕ → Option Verdict
+nodeRefusalOpen T j = stepRefusalOpen T j otherwise atUnless (childrenFit T j) Children j
+
+unfoldable pub checkOpen : Tableau → Verdict
+checkOpen T = checkBy nodeRefusalOpen T
