@@ -1,32 +1,25 @@
--- Lowered rows: their sizes, and where they stand in a set.
-use Prim.Native.Nat.{ℕ, zero, suc, _+_, _<_}
+-- A lowered row in a list, by places.
+use Prim.Native.Nat.{ℕ, zero, suc, _<_, _≤_}
 use native.Mathlib.Omega.{arith}
-use mathlib.Core.Path.{_≡_, refl, sym, _∙_, ap, ap₂}
+use mathlib.Core.Path.{_≡_, refl, sym, ap₂}
+use mathlib.Core.Logic.{⊎-elim}
 use mathlib.Core.Bool.{true, false}
 use mathlib.Core.List.{List, [], _∷_}
+use lib.Dec.{leb}
 use lib.IntN.{ℤ, pos}
 use lib.ListN.{getD, length}
-use Rattle.stab.specs.Formula.{Formula, const, lit, join, iter, size}
-use Rattle.stab.specs.Alike.{lower, agree}
-use Rattle.stab.specs.Node.{Tableau}
+use borrow.Author.Tests.{leb-true, leb-false}
+use Rattle.stab.specs.Basic.{_or_}
+use Rattle.stab.specs.Alike.{alike}
+use Rattle.stab.specs.Node.{Tableau, formula}
 use Rattle.stab.specs.Rule.{isLowered, hasLowered}
-use Rattle.stab.proofs.Bools.{or-left, or-right, or-false}
-use Rattle.stab.proofs.Alikes.{agree-true}
-use Rattle.sets.proofs.SetLaws.{fails}
+use Rattle.stab.proofs.Bools.{decide, or-left, or-right, or-false, same-test}
+use Rattle.stab.proofs.Alikes.{alike-sym, alike-trans, alike-lower}
 
--- ---- lowering keeps the size
-
-lower-size : (k : ℤ) (f : Formula) → size (lower k f) ≡ size f
-unfolding lower size
-lower-size k (const v) = refl
-lower-size k (lit v s x c) = refl
-lower-size k (join o f g) = ap₂ (λ (m n : ℕ). 1 + m + n) (lower-size k f) (lower-size k g)
-lower-size k (iter o f b c) = refl
-
-pub sizes-differ : (k : ℤ) (f g : Formula) → (size f ≡ size g → ⊥) → false ≡ agree (lower k f) g
-sizes-differ k f g h = sym (fails _ (λ e. h (sym (lower-size k f) ∙ ap size (agree-true (lower k f) g e))))
-
--- ---- a lowered row in a list, by places
+-- what holds from m on and before it
+pub all-round : {P : ℕ → Type 0} (m n : ℕ) → ((i : ℕ) → m ≤ i → i < n → P i) → ((i : ℕ) → 0 ≤ i → i < m → P i) → (i : ℕ) → i < n → P i
+all-round m n after before i l =
+    ⊎-elim (λ e. after i (leb-true m i e) l) (λ e. before i (omega arith) (leb-false m i e)) (decide (leb m i))
 
 module _ (T : Tableau) (k z : ℤ) where
   pub lowered-at : (xs : List ℤ) (i : ℕ) → i < length xs → isLowered T k z (getD xs i (pos 0)) ≡ true → true ≡ hasLowered T k xs z
@@ -39,3 +32,16 @@ module _ (T : Tableau) (k z : ℤ) where
   unfolding hasLowered
   lowered-nowhere [] h = refl
   lowered-nowhere (x ∷ xs) h = sym (or-false _ _ (h zero (omega arith)) (sym (lowered-nowhere xs (λ i p. h (suc i) (omega arith)))))
+
+-- rows that are alike have the same partners
+module _ (T : Tableau) (k y z : ℤ) (e : alike (formula T y) (formula T z) ≡ true) where
+  twins-at : (x : ℤ) → isLowered T k y x ≡ isLowered T k z x
+  unfolding isLowered
+  twins-at x =
+      let down = alike-lower k (formula T y) (formula T z) e in
+      same-test _ _ (alike-trans _ _ (formula T x) (alike-sym _ _ down)) (alike-trans _ _ (formula T x) down)
+
+  pub twins-lowered : (xs : List ℤ) → hasLowered T k xs y ≡ hasLowered T k xs z
+  unfolding hasLowered
+  twins-lowered [] = refl
+  twins-lowered (x ∷ xs) = ap₂ _or_ (twins-at x) (twins-lowered xs)

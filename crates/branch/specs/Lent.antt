@@ -1,14 +1,14 @@
 -- The lent tables with the numbers that go with them, and what a step's code reads of them.
 use Prim.Native.Nat.{ℕ, _+_, _*_, _<_, _≤_}
 use mathlib.Core.Path.{_≡_}
-use mathlib.Core.Bool.{Bool, true}
+use mathlib.Core.Bool.{Bool, true, false}
 use mathlib.Core.List.{List}
 use lib.Dec.{eqb}
 use lib.IntN.{ℤ, pos}
 use lib.Signed.{leZ}
 use lib.ListN.{length, getD}
 use Rattle.stab.specs.Basic.{if_then_else_, _and_, _or_, eqZ, nat, below, has, ascending}
-use Rattle.stab.specs.Formula.{Row}
+use Rattle.stab.specs.Formula.{Row, tree, loose}
 use Rattle.stab.specs.Node as N
 use Rattle.stab.specs.Node.{Tableau, Bound, Node, node, nodeAt, set, setOf}
 use Rattle.stab.specs.Rule as R
@@ -33,10 +33,11 @@ pub record SetHeld (nodes members : List ℤ) (j : ℕ) : Type 0 where
   pub within : nat (nodeAt nodes j .start) + nat (nodeAt nodes j .size) ≤ length members
   pub up : ascending (setOf members (nodeAt nodes j)) ≡ true
 
--- and it lists numbers of n rows
-pub record SetOfRows (nodes members : List ℤ) (n j : ℕ) : Type 0 where
+-- and it lists outer rows, of n rows
+pub record SetOfRows (rows : ℕ → Row) (nodes members : List ℤ) (n j : ℕ) : Type 0 where
   pub held : SetHeld nodes members j
-  pub rows : (i : ℕ) → i < nat (nodeAt nodes j .size) → below n (getD (setOf members (nodeAt nodes j)) i (pos 0)) ≡ true
+  pub named : (i : ℕ) → i < nat (nodeAt nodes j .size) → below n (getD (setOf members (nodeAt nodes j)) i (pos 0)) ≡ true
+  pub outer : (i : ℕ) → i < nat (nodeAt nodes j .size) → loose (tree rows (nat (getD (setOf members (nodeAt nodes j)) i (pos 0)))) ≡ false
 
 -- what is known of a child: where its set and its parent's lie, and that its rank is kept
 pub record ChildKnown (nodes members : List ℤ) (work : List ℕ) (j : ℕ) : Type 0 where

@@ -57,6 +57,11 @@ fn accepted() {
         b"accepted/arbiter_at_most_one/proof.txt",
     );
     record(
+        b"accepted/arbiter_instance_swapped",
+        b"accepted/arbiter_instance_swapped/schema.txt",
+        b"accepted/arbiter_instance_swapped/proof.txt",
+    );
+    record(
         b"accepted/chain_531",
         b"accepted/chain_531/schema.txt",
         b"accepted/chain_531/proof.txt",
@@ -76,9 +81,19 @@ fn accepted() {
         b"accepted/rca_zero/schema.txt",
         b"accepted/rca_zero/proof.txt",
     );
+    record(
+        b"accepted/token_on_two_rails",
+        b"accepted/token_on_two_rails/schema.txt",
+        b"accepted/token_on_two_rails/proof.txt",
+    );
 }
 
 fn refused() {
+    record(
+        b"refused/instance_regrouped",
+        b"refused/instance_regrouped/schema.txt",
+        b"refused/instance_regrouped/proof.txt",
+    );
     record(
         b"refused/link_bound_of_leaf",
         b"refused/link_bound_of_leaf/schema.txt",

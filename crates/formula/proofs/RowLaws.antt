@@ -3,14 +3,14 @@ use Prim.Native.Nat.{ℕ, zero, suc, _+_, _-_, _*_, _<_, _≤_, max}
 use native.Mathlib.Omega.{arith}
 use native.Mathlib.Numerals.{add-one}
 use mathlib.Core.Path.{_≡_, refl, sym, _∙_, ap, ap₂, subst}
-use mathlib.Core.Bool.{Bool, true, false, not}
+use mathlib.Core.Bool.{Bool, true, false, false≢true, not}
 use mathlib.Core.Logic.{_⊎_, inl, inr, ⊎-elim}
 use mathlib.Core.List.{List}
 use mathlib.Core.Option.{Option, none, some, Option·some-ne-none}
-use lib.Dec.{leb, ltb, leb·zero, leb·suc-suc}
+use lib.Dec.{eqb, leb, ltb, leb·zero, leb·suc-suc}
 use lib.ListN.{length}
 use lib.IntN.{ℤ, pos, negsuc, negℤ}
-use borrow.Author.Tests.{le-leb, lt-leb, leb-true}
+use borrow.Author.Tests.{eqb-true, eqb-false, le-leb, lt-leb, leb-true}
 use Rattle.stab.specs.Basic.{if_then_else_, _and_, _or_, eqZ, within, nat, below, _otherwise_, scan}
 use Rattle.stab.specs.Formula as F
 use Rattle.stab.specs.Formula.{Row, Op, conj, disj, Kind, constant, literal, junction, iteration, unknown, kindOf, Base, nothing, parameter, index, baseOf, Formula, lit, join, iter, decode, tree, onIndex, isOuter, offset, wellFormedAs, wellFormed, smallEnough}
@@ -19,8 +19,8 @@ use Rattle.stab.specs.declared.Place.the-variants.{Whole, At}
 use Rattle.stab.specs.declared.Refusal.the-variants.{Root, IllFormed, TooLarge}
 use Rattle.stab.specs.declared.Verdict.{Verdict}
 use Rattle.stab.specs.declared.Verdict.the-variants.{Refused}
-use Rattle.stab.proofs.Bools.{and-both, and-left, and-right, and-first-false, and-second-false, if-true, if-false, not-of-false, not-of-true, false-of-not, true-of-not, otherwise-none, otherwise-some, none-unless, some-unless}
-use Rattle.stab.proofs.Whole.{num, of-eq, eqZ-not, nat-pos, at-least-0, below-0}
+use Rattle.stab.proofs.Bools.{decide, and-both, and-left, and-right, and-first-false, and-second-false, if-true, if-false, not-of-false, not-of-true, false-of-not, true-of-not, otherwise-none, otherwise-some, none-unless, some-unless}
+use Rattle.stab.proofs.Whole.{num, of-eq, eqZ-of, eqZ-not, nat-pos, at-least-0, below-0}
 use Rattle.stab.proofs.Scans.{below-suc, scan-found}
 use Rattle.stab.proofs.Decoded.{decoded}
 use Rattle.formula.specs.Facts.{bit, Known}
@@ -66,6 +66,23 @@ pub offset-natural : (z : ℤ) → nat (negℤ z) ≤ 9999 → offset z ≡ leb 
 unfolding offset within nat _and_
 offset-natural (pos n) h = refl
 offset-natural (negsuc n) h = and-both (leb n 9998) _ (le-leb n 9998 (omega arith)) refl
+
+at-most : (m n : ℕ) → (n < m → ⊥) → m ≤ n
+at-most m n f = omega (arith, f)
+
+-- an offset has small parts
+pub offset-small : (z : ℤ) → offset z ≡ true → (nat z ≤ 9999) × (nat (negℤ z) ≤ 9999)
+offset-small z h =
+    let u : nat (negℤ z) ≤ 9999 = at-most _ _ (λ l. false≢true (sym (offset-negative z l) ∙ h)) in
+    (leb-true (nat z) 9999 (sym (offset-natural z u) ∙ h), u)
+
+-- a test of naturals that says what a test of whole numbers says
+pub test-same : (m n : ℕ) (a b : ℤ) → (m ≡ n → a ≡ b) → (a ≡ b → m ≡ n) → eqb m n ≡ eqZ a b
+test-same m n a b there back =
+    ⊎-elim
+    (λ e. e ∙ sym (eqZ-of a b (there (eqb-true m n e))))
+    (λ e. e ∙ sym (eqZ-not a b (λ p. eqb-false m n e (back p))))
+    (decide (eqb m n))
 
 -- ---- kinds
 

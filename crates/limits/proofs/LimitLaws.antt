@@ -15,7 +15,7 @@ use Rattle.stab.specs.Node.{Bound}
 use Rattle.stab.specs.Rule.{indexAt, loopFits}
 use Rattle.stab.proofs.Bools.{decide, same-test}
 use Rattle.stab.proofs.Whole.{atom, num, _⊕_, _⊖_, le-of, of-le, lt-of, not-lt-of, of-not-le, eq-of, of-eq, eqZ-true, plus-nat, minus-nat}
-use Rattle.leaves.proofs.Compares.{test-same}
+use Rattle.formula.proofs.RowLaws.{test-same}
 
 -- L ≥ b + c
 pub reach-test : (b c : ℤ) (l : ℕ) → leb (nat b + nat c) (l + (nat (negℤ b) + nat (negℤ c))) ≡ leZ (b +ℤ c) (pos l)

@@ -9,10 +9,11 @@ use lib.Signed.{leZ, _≤ℤ_}
 use Rattle.stab.specs.Basic.{nat}
 use Rattle.stab.specs.Formula.{Row, conj, disj, Formula, iter, tree, isBody, wellFormed}
 use Rattle.stab.specs.Meaning.{Assignment, op, empty, over, rangeSize, value}
-use Rattle.stab.specs.Alike.{lower, instance}
+use Rattle.stab.specs.Alike.{lower, instance, alike}
 use Rattle.stab.proofs.Bools.{and-left, and-right, and-both, or-cases, or-left, or-right}
 use Rattle.stab.proofs.Whole.{atom, num, _⊕_, _⊖_, le-of, of-le, eq-of, of-eq, leZ-of, of-leZ, nat-pos, nat-le}
 use Rattle.stab.proofs.Meanings.{lower-value, instance-value}
+use Rattle.stab.proofs.Alikes.{alike-tests, alike-value}
 use Rattle.stab.proofs.Decoded as D
 
 -- "lowering by k has at n the value that the formula has at n - k", for the formula of any row whose table is well formed up to it
@@ -22,6 +23,10 @@ lowered-means rows r h σ n m k i e = lower-value σ n m k (tree rows r) i e (D.
 -- "an instance at n - c has the body's value there"
 pub instance-means : (σ : Assignment) (n : ℕ) (c i : ℤ) (f : Formula) → isBody f ≡ true → value σ n (instance c f) i ≡ value σ n f (pos n -ℤ c)
 instance-means σ n c i f h = instance-value σ n c f i h
+
+-- formulas that are alike have one value, at every n and i and under every assignment
+pub alike-means : (σ : Assignment) (n : ℕ) (i : ℤ) (f g : Formula) → alike f g ≡ true → value σ n f i ≡ value σ n g i
+alike-means σ n i f g h = alike-value σ n (alike-tests f g .0 h) i
 
 -- ---- iterations
 

@@ -45,6 +45,13 @@ unfolding _or_
 or-right true b h = refl
 or-right false b h = h
 
+pub or-comm : (a b : Bool) → (a or b) ≡ (b or a)
+unfolding _or_
+or-comm true true = refl
+or-comm true false = refl
+or-comm false true = refl
+or-comm false false = refl
+
 pub or-false : (a b : Bool) → a ≡ false → b ≡ false → (a or b) ≡ false
 unfolding _or_
 or-false true b h k = h

@@ -17,6 +17,7 @@ pub mod Ranges
 pub mod Soundness
 pub mod Exactness
 pub mod OpenTargets
+pub mod InOrders
 pub mod Texts
 pub mod Audit
 pub mod Packed

@@ -105,7 +105,7 @@ lower-limit : (n m : ℕ) (k b c : ℤ) → pos m ≡ (pos n -ℤ k) → rangeSi
 lower-limit n m k b c e =
     ap (rangeSize b) (eq-of (num n ⊖ (atom c ⊕ atom k)) (num m ⊖ atom c) (omega (arith, of-eq (num m) (num n ⊖ atom k) e)))
 
-over-same : (o : Op) (p q : ℤ → Bool) (b : ℤ) (k : ℕ) → ((i : ℤ) → p i ≡ q i) → over o p b k ≡ over o q b k
+pub over-same : (o : Op) (p q : ℤ → Bool) (b : ℤ) (k : ℕ) → ((i : ℤ) → p i ≡ q i) → over o p b k ≡ over o q b k
 unfolding over
 over-same o p q b zero h = refl
 over-same o p q b (suc k) h = ap₂ (op o) (over-same o p q b k h) (h (b +ℤ pos k))

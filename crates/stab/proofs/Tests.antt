@@ -10,17 +10,14 @@ use lib.IntN.{ℤ, pos}
 use lib.Signed.{leZ, ltZ, _≤ℤ_, _<ℤ_}
 use borrow.Author.Tests.{le-leb, leb-true, lt-ltb, ltb-true, eq-eqb, eqb-true}
 use Rattle.stab.specs.Basic.{if_then_else_, _and_, _or_, _implies_, eqZ, within, below, has, allOf, ascending, sameList, _otherwise_, scan, unless}
-use Rattle.stab.specs.Formula.{Formula}
-use Rattle.stab.specs.Alike.{agree}
 use Rattle.stab.specs.Check.{wholeUnless, atUnless}
 use Rattle.stab.specs.declared.Place.the-variants.{Whole, At}
 use Rattle.stab.specs.declared.Refusal.{Refusal}
 use Rattle.stab.specs.declared.Verdict.the-variants.{Refused}
-use Rattle.stab.specs.Keeps.{Within, Below, Ascending, Alike}
+use Rattle.stab.specs.Keeps.{Within, Below, Ascending}
 use Rattle.stab.proofs.Bools.{and-left, and-right, and-both, or-cases, or-left, or-right, implies-use, implies-make, false-of-not, not-of-false, unless-none, none-unless, otherwise-first, otherwise-second, otherwise-none}
 use Rattle.stab.proofs.Whole.{of-leZ, leZ-of, of-ltZ, ltZ-of, eqZ-true, eqZ-of}
 use Rattle.stab.proofs.Scans.{scan-none, none-scan, has-mem, mem-has, all-use, all-make}
-use Rattle.stab.proofs.Alikes.{agree-true, agree-refl}
 
 infix 3 _tests_
 abbrev pub _tests_ : Bool → Type 0 → Type 0
@@ -81,7 +78,7 @@ pub below-tests : (n : ℕ) (z : ℤ) → below n z tests Below n z
 unfolding below
 below-tests n z = leZ-tests (pos 0) z & ltZ-tests z (pos n)
 
--- ---- lists and formulas
+-- ---- lists
 
 pub has-tests : (z : ℤ) (xs : List ℤ) → has z xs tests List·Memᴰ z xs
 has-tests z xs = (has-mem z xs, mem-has z xs)
@@ -103,10 +100,6 @@ same-list-tests [] (y ∷ ys) = (λ h. absurd (false≢true h), λ e. cc)
 same-list-tests (x ∷ xs) [] = (λ h. absurd (false≢true h), λ e. cc)
 same-list-tests (x ∷ xs) (y ∷ ys) =
     Iff·trans (eqZ-tests x y & same-list-tests xs ys) (λ p. ap₂ _∷_ (p .0) (p .1), λ e. (cc, cc))
-
-pub agree-tests : (f g : Formula) → agree f g tests Alike f g
-unfolding Alike
-agree-tests f g = (agree-true f g, λ e. rw (← e) (agree-refl f))
 
 -- ---- findings
 

@@ -5,11 +5,13 @@ use mathlib.Core.Path.{_≡_, refl}
 use mathlib.Core.List.{List, [], _∷_, _++_}
 use lib.IntN.{pos, negsuc}
 use lib.ListN.{replicate}
+use Rattle.stab.specs.InOrder.{agree, partnersInOrder, hasLoweredInOrder, loweredInOrder, stepRefusalInOrder, nodeRefusalInOrder, checkInOrder}
 use Rattle.stab.specs.Text.{bytes}
+use Rattle.stab.specs.Read.{readSchema, readProof}
 use Rattle.stab.specs.Write.{writeModel, output}
 use Rattle.stab.specs.LineNumber.{lineOf}
-use Rattle.stab.specs.Answer.{packed}
-use Rattle.stab.specs.Program.{checkProgram, modelProgram}
+use Rattle.stab.specs.Answer.{verdictNumbers, packed}
+use Rattle.stab.specs.Program.{printed, tableauOf, afterReading, checkProgram, modelProgram}
 use Rattle.stab.specs.declared.Place.the-variants.{Whole, At}
 use Rattle.stab.specs.declared.Refusal.the-variants.{Bound, False}
 use Rattle.stab.specs.declared.Verdict.the-variants.{Accepted, Refused}
@@ -68,6 +70,37 @@ leafBound = checkProgram
     (bytes "root least\n4 1\nkind a b c\n2 0 2 0\n7 0 0 0\n3 0 2 0\n6 2 1 0\n4 1 3 0\n")
     (bytes "kind a b c\n6 2 1 1\n3 0 1 0\n7 0 0 1\n2 0 1 0\nup rule on with other to by set\n-1 0 4 -1 -1 -1 0 4\n0 3 3 5 6 -1 0 1 3\n1 4 1 7 8 -1 0 1 5 6\n2 8 -1 -1 -1 1 1 5 7\n2 6 8 6 -1 -1 0 6 8\n")
 
+-- ---- sides in either order
+
+-- A, the big or of row 5, B, that of row 6, and C, the big and of not p, each from 2 up to n, are never all true: B and C are
+-- unfolded, and the link has of the two big ors B's rest alone, which has to be A lowered too. Given are the rows 4 to 9, where row 3
+-- is p and q and row 8 is A; the rows 18 and 19, of which 19 is the instance; and node 8's set.
+sided : (List ℕ → List ℕ → List ℕ) → String → String → String → List ℕ
+sided program bodies instance eighth = program
+    (bytes "root least\n12 1\nkind a b c\n2 0 2 0\n2 1 2 0\n2 2 2 0\n4 0 1 0\n" ++ bytes bodies ++ bytes "6 7 2 0\n4 8 9 0\n4 11 10 0\n")
+    (bytes "kind a b c\n7 6 2 1\n6 7 2 1\n2 0 1 0\n2 1 1 0\n2 2 1 0\n" ++
+    bytes instance ++
+    bytes "3 0 1 0\nup rule on with other to by set\n-1 0 12 -1 -1 -1 0 12\n0 0 11 -1 -1 -1 0 10 11\n1 2 -1 -1 -1 -1 0 8 9 10\n2 7 8 -1 -1 -1 0 8\n2 3 10 14 20 -1 0 8 9 10\n4 4 9 13 19 -1 0 9 14 20\n5 8 -1 -1 -1 2 1 13 14\n5 0 19 -1 -1 -1 0 19 20\n7 0 18 -1 -1 -1 0 " ++
+    bytes eighth ++
+    bytes "\n8 6 15 20 -1 -1 0 15 20\n")
+
+-- the bodies (p and q) and r, and r and (q and p)
+swapped : String
+swapped = "4 1 0 0\n4 3 2 0\n4 2 4 0\n3 0 2 0\n7 5 2 0\n7 6 2 0\n"
+
+-- the same, with B over A's body
+oneBody : String
+oneBody = "4 1 0 0\n4 3 2 0\n4 2 4 0\n3 0 2 0\n7 5 2 0\n7 5 2 0\n"
+
+-- the bodies (p and q) and r, and p and (q and r)
+regrouped : String
+regrouped = "4 1 2 0\n4 3 2 0\n4 0 4 0\n3 0 2 0\n7 5 2 0\n7 6 2 0\n"
+
+-- as the check program, with sides in order
+inOrderProgram : List ℕ → List ℕ → List ℕ
+inOrderProgram schema proof =
+    printed (afterReading (λ s p. verdictNumbers (checkInOrder (tableauOf s p))) (readSchema 4096 schema) (readProof 4096 9216 8192 proof))
+
 -- ---- the trials
 
 pub computed : List (List ℕ)
@@ -118,6 +151,15 @@ computed =
     openClashAtLeast ∷
     emptyUnfolded ∷
     leafBound ∷
+    -- swapped bodies, with the instance (p and q) and r: accepted; in order the instance is wrong, and with r and (q and p) the link
+    sided checkProgram swapped "4 15 16 0\n4 18 17 0\n" "18 20" ∷
+    sided inOrderProgram swapped "4 15 16 0\n4 18 17 0\n" "18 20" ∷
+    sided inOrderProgram swapped "4 16 15 0\n4 17 18 0\n" "18 20" ∷
+    -- "with still names the same body row": the bodies of on and with are alike, and two rows
+    sided checkProgram oneBody "4 15 16 0\n4 18 17 0\n" "18 20" ∷
+    -- regrouped bodies: the instance (p and q) and r is wrong, and with p and (q and r) the link
+    sided checkProgram regrouped "4 15 16 0\n4 18 17 0\n" "18 20" ∷
+    sided checkProgram regrouped "4 16 17 0\n4 15 18 0\n" "15 18 20" ∷
     -- the one number
     (packed (Accepted 7 1) ∷ packed (Refused Bound (At 5)) ∷ packed (Refused False Whole) ∷ []) ∷
     -- line 2 of a text; line 3, which is unfinished; line 0
@@ -165,6 +207,12 @@ stated =
     answer "14 1 0 0" ∷
     answer "14 0 0 0" ∷
     answer "14 3 0 0" ∷
+    answer "0 0 10 1" ∷
+    answer "15 5 0 0" ∷
+    answer "16 6 0 0" ∷
+    answer "15 5 0 0" ∷
+    answer "15 5 0 0" ∷
+    answer "16 6 0 0" ∷
     -- 1 * 8192 * 8192 + 7 * 8192 + 1; (14 * 8192 + 6) * 8192 * 8192; 20 * 8192 * 8192 * 8192
     (67166209 ∷ 7696984047616 ∷ 10995116277760 ∷ []) ∷
     bytes "cd" ∷
@@ -174,5 +222,5 @@ stated =
     replicate 26 0 ∷ []
 
 pub trials : computed ≡ stated
-unfolding evaluated schema₂₅₅ schemaTrue model schemaFalse nodes byZero openClash openClashAtLeast emptyUnfolded leafBound answer computed stated
+unfolding evaluated schema₂₅₅ schemaTrue model schemaFalse nodes byZero openClash openClashAtLeast emptyUnfolded leafBound agree partnersInOrder hasLoweredInOrder loweredInOrder stepRefusalInOrder nodeRefusalInOrder checkInOrder sided swapped oneBody regrouped inOrderProgram answer computed stated
 trials = refl

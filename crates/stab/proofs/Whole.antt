@@ -8,7 +8,7 @@ use mathlib.Core.Bool.{Bool, true, false, not, false≢true, true≢false}
 use lib.Dec.{T, ltb}
 use lib.IntN.{ℤ, pos, negsuc, negℤ, subℕ, _+ℤ_, _-ℤ_}
 use lib.Signed.{leZ, ltZ, _≤ℤ_, _<ℤ_}
-use borrow.Author.Tests.{le-leb, leb-true, leb-false, lt-ltb, le-ltb, ltb-true, ltb-false, eq-eqb, eqb-true}
+use borrow.Author.Tests.{le-leb, lt-leb, leb-true, leb-false, lt-ltb, le-ltb, ltb-true, ltb-false, eq-eqb, eqb-true}
 use Rattle.stab.specs.Basic.{eqZ, nat}
 
 pub plus : ℤ → ℕ
@@ -122,6 +122,13 @@ not-le-parts (pos a) (negsuc b) h = omega arith
 not-le-parts (negsuc a) (pos b) h = absurd (true≢false h)
 not-le-parts (negsuc a) (negsuc b) h = omega (arith, leb-false b a h)
 
+parts-not-le : (a b : ℤ) → plus b + minus a < plus a + minus b → leZ a b ≡ false
+unfolding plus minus
+parts-not-le (pos a) (pos b) h = lt-leb a b (omega arith)
+parts-not-le (pos a) (negsuc b) h = refl
+parts-not-le (negsuc a) (pos b) h = absurd (omega arith)
+parts-not-le (negsuc a) (negsuc b) h = lt-leb b a (omega arith)
+
 not-lt-parts : (a b : ℤ) → ltZ a b ≡ false → plus b + minus a ≤ plus a + minus b
 unfolding plus minus
 not-lt-parts (pos a) (pos b) h = omega (arith, ltb-false a b h)
@@ -153,6 +160,9 @@ le-of e f h = parts-le (eval e) (eval f) (omega (arith, parts e, parts f))
 
 pub of-le : (e f : Exp) → leZ (eval e) (eval f) ≡ true → P e + N f ≤ P f + N e
 of-le e f h = omega (arith, parts e, parts f, le-parts (eval e) (eval f) h)
+
+pub not-le-of : (e f : Exp) → P f + N e < P e + N f → leZ (eval e) (eval f) ≡ false
+not-le-of e f h = parts-not-le (eval e) (eval f) (omega (arith, parts e, parts f))
 
 pub of-not-le : (e f : Exp) → leZ (eval e) (eval f) ≡ false → P f + N e < P e + N f
 of-not-le e f h = omega (arith, parts e, parts f, not-le-parts (eval e) (eval f) h)

@@ -1,7 +1,7 @@
--- 01, "What a formula means", second paragraph: lowered by k, a body's instance at n - c.
+-- 01, "What a formula means", second paragraph: lowered by k, a body's instance at n - c; and 02, No. 4: when two formulas are alike.
 use mathlib.Core.Bool.{Bool, true, false}
 use lib.IntN.{ℤ, _+ℤ_, _-ℤ_}
-use Rattle.stab.specs.Basic.{_and_, eqZ}
+use Rattle.stab.specs.Basic.{_and_, _or_, eqZ}
 use Rattle.stab.specs.Formula.{Op, conj, disj, Base, nothing, parameter, index, Formula, const, lit, join, iter}
 
 -- "n + c in f stands as n + (c - k)"
@@ -10,7 +10,7 @@ lowerBase k nothing c = c
 lowerBase k parameter c = c -ℤ k
 lowerBase k index c = c
 
--- f lowered by k: "and the limit n - c as n - (c + k). Bodies agree exactly."
+-- f lowered by k: "and the limit n - c as n - (c + k)". A body is not lowered; 01's "Bodies agree exactly" is amended by `alike`.
 unfoldable pub lower : ℤ → Formula → Formula
 lower k (const v) = const v
 lower k (lit v s x c) = lit v s x (lowerBase k x c)
@@ -52,21 +52,21 @@ eqBase index nothing = false
 eqBase index parameter = false
 eqBase index index = true
 
--- two formulas "agree in shape and in all numbers": "found by going down the two formulas side by side"
-unfoldable pub agree : Formula → Formula → Bool
-agree (const v) (const w) = eqBool v w
-agree (const v) (lit w t y d) = false
-agree (const v) (join p h k) = false
-agree (const v) (iter p h b d) = false
-agree (lit v s x c) (const w) = false
-agree (lit v s x c) (lit w t y d) = eqBool v w and eqZ s t and eqBase x y and eqZ c d
-agree (lit v s x c) (join p h k) = false
-agree (lit v s x c) (iter p h b d) = false
-agree (join o f g) (const w) = false
-agree (join o f g) (lit w t y d) = false
-agree (join o f g) (join p h k) = eqOp o p and agree f h and agree g k
-agree (join o f g) (iter p h b d) = false
-agree (iter o f b c) (const w) = false
-agree (iter o f b c) (lit w t y d) = false
-agree (iter o f b c) (join p h k) = false
-agree (iter o f b c) (iter p h d e) = eqOp o p and agree f h and eqZ b d and eqZ c e
+-- "found by going down the two formulas side by side"; 02, No. 4: two formulas are "alike if they agree after swapping the sides of any and or or, also inside bodies"
+unfoldable pub alike : Formula → Formula → Bool
+alike (const v) (const w) = eqBool v w
+alike (const v) (lit w t y d) = false
+alike (const v) (join p h k) = false
+alike (const v) (iter p h b d) = false
+alike (lit v s x c) (const w) = false
+alike (lit v s x c) (lit w t y d) = eqBool v w and eqZ s t and eqBase x y and eqZ c d
+alike (lit v s x c) (join p h k) = false
+alike (lit v s x c) (iter p h b d) = false
+alike (join o f g) (const w) = false
+alike (join o f g) (lit w t y d) = false
+alike (join o f g) (join p h k) = eqOp o p and (alike f h and alike g k or alike f k and alike g h)
+alike (join o f g) (iter p h b d) = false
+alike (iter o f b c) (const w) = false
+alike (iter o f b c) (lit w t y d) = false
+alike (iter o f b c) (join p h k) = false
+alike (iter o f b c) (iter p h d e) = eqOp o p and alike f h and eqZ b d and eqZ c e

@@ -8,7 +8,7 @@ use lib.IntN.{ℤ, pos, negℤ, _+ℤ_, _-ℤ_}
 use lib.Signed.{_≤ℤ_, _<ℤ_}
 use lib.ListN.{length}
 use Rattle.stab.specs.Basic.{nat}
-use Rattle.stab.specs.Formula.{Row, Kind, constant, literal, junction, iteration, unknown, kindOf, index, Formula, const, lit, join, iter, tree, size, depth}
+use Rattle.stab.specs.Formula.{Row, Op, Kind, constant, literal, junction, iteration, unknown, kindOf, index, Formula, const, lit, join, iter, tree, size, depth}
 use Rattle.stab.specs.Alike.{lower, instance}
 use Rattle.stab.specs.Node.{Tableau, Bound, rows, rowCount, row, formula, node, nodeAt, set, setStart, setEnd, bound, rank, childCount}
 use Rattle.stab.specs.Rule.{unused, rule, given, indexAt}
@@ -66,9 +66,18 @@ pub record KeepsFormulas (rows : ℕ → Row) (n s : ℕ) (root least : ℤ) : T
   pub each : (r : ℕ) → r < n → KeepsRow rows r
   pub rootOuter : Outer (tree rows (nat root))
 
--- "agree in shape and in all numbers"
-unfoldable pub Alike : Formula → Formula → Type 0
-Alike f g = f ≡ g
+-- 02, No. 4: the second is the first "after swapping the sides of any and or or, also inside bodies"
+pub data Alike : Formula → Formula → Type 0 where
+  -- nothing is swapped
+  itself : {f : Formula} → Alike f f
+  -- the sides of an and, of an or
+  sides : {o : Op} {f g : Formula} → Alike (join o f g) (join o g f)
+  -- within the left side, within the right side, inside a body
+  left : {o : Op} {f h g : Formula} → Alike f h → Alike (join o f g) (join o h g)
+  right : {o : Op} {f g k : Formula} → Alike g k → Alike (join o f g) (join o f k)
+  inside : {o : Op} {f h : Formula} {b c : ℤ} → Alike f h → Alike (iter o f b c) (iter o h b c)
+  -- one after another
+  next : {f g h : Formula} → Alike f g → Alike g h → Alike f h
 
 -- ---- nodes
 

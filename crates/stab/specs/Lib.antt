@@ -8,6 +8,7 @@ pub mod Rule
 pub mod Check
 pub mod Search
 pub mod OpenTarget
+pub mod InOrder
 pub mod Model
 pub mod Keeps
 pub mod Refuted

@@ -9,7 +9,7 @@ use lib.ListN.{getD}
 use Rattle.stab.specs.Basic.{if_then_else_, _and_, _or_, _implies_, eqZ, nat, below, has, allOf}
 use Rattle.stab.specs.Formula.{Row, baseOf}
 use Rattle.stab.specs.Meaning.{base}
-use Rattle.stab.specs.Alike.{lower, instance, agree}
+use Rattle.stab.specs.Alike.{lower, instance, alike}
 use Rattle.stab.specs.Node.{Tableau, Node, Bound, row, formula, isRow, node, set, bound, rank, childCount, isAncestor}
 use Rattle.stab.specs.declared.Rule.{Rule}
 
@@ -156,9 +156,9 @@ boundFits T j =
 unfoldable pub shortened : Row → Row → Bool
 shortened on with = eqZ (with .a) (on .a) and eqZ (with .b) (on .b) and eqZ (with .c) (on .c +ℤ pos 1)
 
--- "other is the body's instance at n - c"
+-- "other is the body's instance at n - c", up to the order of sides
 unfoldable pub isInstance : Tableau → Row → ℤ → Bool
-isInstance T on z = agree (instance (on .c) (formula T (on .a))) (formula T z)
+isInstance T on z = alike (instance (on .c) (formula T (on .a))) (formula T z)
 
 unfoldable pub partnersFit : Tableau → ℕ → Bool
 partnersFit T j =
@@ -167,9 +167,9 @@ partnersFit T j =
 
 -- ---- the lowered rows of a loop: refusal 16
 
--- row x is row z lowered by k
+-- row x is row z lowered by k, up to the order of sides
 unfoldable pub isLowered : Tableau → ℤ → ℤ → ℤ → Bool
-isLowered T k z x = agree (lower k (formula T z)) (formula T x)
+isLowered T k z x = alike (lower k (formula T z)) (formula T x)
 
 -- row z, lowered by k, stands in the set
 unfoldable pub hasLowered : Tableau → ℤ → List ℤ → ℤ → Bool

@@ -11,7 +11,7 @@ use Rattle.stab.specs.Node.{Tableau, Node, node, row}
 use Rattle.stab.specs.Rule.{ofRule, shortened, isInstance, partnersFit}
 use Rattle.stab.proofs.Bools.{or-cases}
 use Rattle.stab.proofs.Whole.{atom, num, _⊕_, eq-of, of-eq, eqZ-true, plus-nat, minus-nat}
-use Rattle.leaves.proofs.Compares.{test-same}
+use Rattle.formula.proofs.RowLaws.{test-same}
 use Rattle.fields.proofs.Answers.{first-fails, second-decides, implies-made, implies-spared}
 
 -- w = o + 1

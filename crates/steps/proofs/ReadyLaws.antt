@@ -9,11 +9,13 @@ use mathlib.Core.List.{List}
 use lib.Dec.{leb}
 use lib.IntN.{ℤ, pos, negℤ}
 use lib.Signed.{leZ}
+use lib.ListN.{getD}
 use borrow.Author.Tests.{leb-true, leb-false}
 use Rattle.stab.specs.Basic.{_and_, nat, below, allOf, ascending}
-use Rattle.stab.specs.Node.{Tableau, node, nodeAt, set, setStart, setEnd, setFollows, setFits, parentFits, rowCount, isOuterRow, isAncestor, aboveN, aboveIf}
+use Rattle.stab.specs.Formula.{tree, loose, isOuter}
+use Rattle.stab.specs.Node.{Tableau, node, nodeAt, set, setOf, setStart, setEnd, setFollows, setFits, parentFits, rows, rowCount, isRow, formula, isOuterRow, isAncestor, aboveN, aboveIf}
 use Rattle.stab.specs.Rule.{ofRule, targetFits}
-use Rattle.stab.proofs.Bools.{and-left, and-right, and-both, or-false, implies-use, decide}
+use Rattle.stab.proofs.Bools.{and-left, and-right, and-both, or-false, false-of-not, implies-use, decide}
 use Rattle.stab.proofs.Whole.{eqZ-not, nat-of, below-0}
 use Rattle.branch.specs.Lent.{SetHeld, SetOfRows, ChildKnown}
 use Rattle.branch.specs.Parents.{upFits, AllUpFit}
@@ -28,7 +30,12 @@ use Rattle.sets.proofs.SetRefusals.{outer-below}
 
 -- ---- sets
 
-module _ (T : Tableau) (facts work : List ℕ) (ready : Ready T facts work) where
+-- in an outer row no literal on i stands outside an iteration
+outer-loose : (T : Tableau) (z : ℤ) → isOuterRow T z ≡ true → loose (tree (rows T) (nat z)) ≡ false
+unfolding isOuterRow isOuter formula
+outer-loose T z h = false-of-not _ (and-right (isRow T z) _ h)
+
+module _ (T : Tableau) (facts forms work : List ℕ) (ready : Ready T facts forms work) where
   placed : (j : ℕ) → j < T .nodeRows → placeFits (T .nodes) (T .memberCount) j ≡ true
   unfolding placeFits setFits
   placed j p =
@@ -62,14 +69,17 @@ module _ (T : Tableau) (facts work : List ℕ) (ready : Ready T facts work) wher
         up = and-left _ _ (listed j p);
       }
 
-  pub set-of-rows : (j : ℕ) → j < T .nodeRows → SetOfRows (T .nodes) (T .members) (rowCount T) j
+  outer-at : (j : ℕ) → j < T .nodeRows → (i : ℕ) → i < nat (nodeAt (T .nodes) j .size) → isOuterRow T (getD (setOf (T .members) (nodeAt (T .nodes) j)) i (pos 0)) ≡ true
   unfolding set node
+  outer-at j p i q =
+      at-all (isOuterRow T) (pos 0) (set T j) (and-right (ascending (set T j)) _ (listed j p)) i (omega (arith, set-length (T .nodes) (T .members) j (set-held j p)))
+
+  pub set-of-rows : (j : ℕ) → j < T .nodeRows → SetOfRows (rows T) (T .nodes) (T .members) (rowCount T) j
   set-of-rows j p =
       record {
         held = set-held j p;
-        rows =
-            λ i q. outer-below T _
-            (at-all (isOuterRow T) (pos 0) (set T j) (and-right (ascending (set T j)) _ (listed j p)) i (omega (arith, set-length (T .nodes) (T .members) j (set-held j p))));
+        named = λ i q. outer-below T _ (outer-at j p i q);
+        outer = λ i q. outer-loose T _ (outer-at j p i q);
       }
 
   -- ---- parents

@@ -1,16 +1,18 @@
 // `with` and `other` of an unfolding: refusal 15.
 use branch::counts::Counts;
 use branch::node;
+use classes::compare;
 ghost use mathlib.Core.Path.{_≡_};
 ghost use mathlib.Core.Bool.{true};
 ghost use mathlib.Core.List.{[]};
-ghost use Prim.Native.Nat.{_+_, _<_, _≤_, _^_};
+ghost use Prim.Native.Nat.{_+_, _<_, _^_};
 ghost use lib.IntN.{pos, _+ℤ_};
 ghost use Rattle.stab.specs.Basic.{_or_, eqZ};
 ghost use Rattle.stab.specs.Formula.{joined, offset};
 ghost use Rattle.stab.specs.Node.{nodeAt};
 ghost use Rattle.stab.specs.Rule.{ofRule, shortened, partnersFit};
-ghost use Rattle.formula.specs.Facts.{AllFormed};
+ghost use Rattle.formula.specs.Facts.{AllKnown};
+ghost use Rattle.classes.specs.Class.{Ready};
 ghost use Rattle.branch.specs.Lent.{lent, FieldsKnown};
 
 // Node j unfolds an iteration.
@@ -55,10 +57,19 @@ fn is_shortened(schema: &[i32], s: usize, proof: &[i32], on: usize, with: usize)
 }
 
 // If node j unfolds an iteration, `with` is the shortened one and `other` its body's instance. No set is looked at.
-pub fn partners_fit(schema: &[i32], proof: &[i32], nodes: &[i32], t: Counts, j: usize) -> bool
-    requires { ⌜ (j < 2 ^ 32) × (t .schema + t .proof ≤ 1024) ⌝ }
+pub fn partners_fit(
+    schema: &[i32],
+    proof: &[i32],
+    nodes: &[i32],
+    facts: &[u32],
+    forms: &[u32],
+    t: Counts,
+    j: usize,
+) -> bool
+    requires { ⌜ j < 2 ^ 32 ⌝ }
     requires { ⌜ FieldsKnown (lent (now schema) (now proof) (now nodes) [] t) j ⌝ }
-    requires { ⌜ AllFormed (joined (now schema) (t .schema) (now proof)) (t .schema + t .proof) ⌝ }
+    requires { ⌜ AllKnown (joined (now schema) (t .schema) (now proof)) (now facts) (t .schema + t .proof) ⌝ }
+    requires { ⌜ Ready (joined (now schema) (t .schema) (now proof)) (now forms) (t .schema + t .proof) ⌝ }
     ensures { λ r. ⌜ r ≡ partnersFit (lent (now (schema .entry)) (now (proof .entry)) (now (nodes .entry)) [] t) j ⌝ }
 {
     if !unfolds(nodes, j) {
@@ -70,5 +81,5 @@ pub fn partners_fit(schema: &[i32], proof: &[i32], nodes: &[i32], t: Counts, j: 
         return false;
     }
     let other = node::natural_of(nodes, j, node::OTHER);
-    alike::is_instance(schema, t.schema, proof, on, other)
+    compare::is_instance(schema, t.schema, proof, facts, forms, on, other)
 }

@@ -12,7 +12,7 @@ use stab::Place;
 use stab::Refusal;
 ghost use mathlib.Core.Path.{_≡_};
 ghost use mathlib.Core.Bool.{true};
-ghost use Prim.Native.Nat.{_+_, _*_, _<_, _≤_, _^_};
+ghost use Prim.Native.Nat.{_+_, _*_, _<_, _^_};
 ghost use lib.Dec.{eqb};
 ghost use lib.ListN.{getD};
 ghost use Rattle.stab.specs.Basic.{_implies_, nat, below, scan};
@@ -20,7 +20,7 @@ ghost use Rattle.stab.specs.Formula.{joined};
 ghost use Rattle.stab.specs.Node.{nodeAt, isAncestor};
 ghost use Rattle.stab.specs.Rule.{ruleOf, ofRule, drawn, loweredFits};
 ghost use Rattle.stab.specs.Check.{finding, stepRefusal, nodeRefusal};
-ghost use Rattle.formula.specs.Facts.{AllKnown, AllFormed};
+ghost use Rattle.classes.specs.Class.{Ready as Compared};
 ghost use Rattle.branch.specs.Lent.{lent, SetOfRows, ChildKnown};
 ghost use Rattle.branch.specs.Parents.{AllUpFit};
 ghost use Rattle.steps.specs.Ready.{Ready};
@@ -65,15 +65,14 @@ fn lowered_fits(
     proof: &[i32],
     nodes: &[i32],
     members: &[i32],
-    facts: &[u32],
+    forms: &[u32],
     t: Counts,
     j: usize,
 ) -> bool
-    requires { ⌜ (j < 2 ^ 32) × (t .schema + t .proof ≤ 1024) ⌝ }
-    requires { ⌜ AllKnown (joined (now schema) (t .schema) (now proof)) (now facts) (t .schema + t .proof) ⌝ }
-    requires { ⌜ AllFormed (joined (now schema) (t .schema) (now proof)) (t .schema + t .proof) ⌝ }
-    requires { ⌜ SetOfRows (now nodes) (now members) (t .schema + t .proof) j ⌝ }
-    requires { ⌜ (ofRule 8 (nodeAt (now nodes) j) ≡ true → (nat (nodeAt (now nodes) j .to) < 2 ^ 32) × SetOfRows (now nodes) (now members) (t .schema + t .proof) (nat (nodeAt (now nodes) j .to))) ⌝ }
+    requires { ⌜ j < 2 ^ 32 ⌝ }
+    requires { ⌜ Compared (joined (now schema) (t .schema) (now proof)) (now forms) (t .schema + t .proof) ⌝ }
+    requires { ⌜ SetOfRows (joined (now schema) (t .schema) (now proof)) (now nodes) (now members) (t .schema + t .proof) j ⌝ }
+    requires { ⌜ (ofRule 8 (nodeAt (now nodes) j) ≡ true → (nat (nodeAt (now nodes) j .to) < 2 ^ 32) × SetOfRows (joined (now schema) (t .schema) (now proof)) (now nodes) (now members) (t .schema + t .proof) (nat (nodeAt (now nodes) j .to))) ⌝ }
     ensures { λ r. ⌜ r ≡ loweredFits (lent (now (schema .entry)) (now (proof .entry)) (now (nodes .entry)) (now (members .entry)) t) j ⌝ }
 {
     if !node::is_of(nodes, j, node::RULE, 8) {
@@ -81,7 +80,7 @@ fn lowered_fits(
     }
     let to = node::natural_of(nodes, j, node::TO);
     let by = signed::at(nodes, 9 * j + node::BY);
-    lowered::all_lowered(schema, proof, nodes, members, facts, t, j, to, by)
+    lowered::all_lowered(schema, proof, nodes, members, forms, t, j, to, by)
 }
 
 // 17: the number of children is the rule's.
@@ -100,12 +99,13 @@ fn step(
     nodes: &[i32],
     members: &[i32],
     facts: &[u32],
+    forms: &[u32],
     work: &[u32],
     t: Counts,
     j: usize,
 ) -> Finding
     requires { ⌜ j < t .nodes ⌝ }
-    requires { ⌜ Ready (lent (now schema) (now proof) (now nodes) (now members) t) (now facts) (now work) ⌝ }
+    requires { ⌜ Ready (lent (now schema) (now proof) (now nodes) (now members) t) (now facts) (now forms) (now work) ⌝ }
     ensures { λ r. ⌜ finding r ≡ stepRefusal (lent (now (schema .entry)) (now (proof .entry)) (now (nodes .entry)) (now (members .entry)) t) j ⌝ }
 {
     if !drawn_fits(schema, proof, nodes, members, work, t, j) {
@@ -132,13 +132,13 @@ fn step(
             place: Place::At(j),
         };
     }
-    if !partners::partners_fit(schema, proof, nodes, t, j) {
+    if !partners::partners_fit(schema, proof, nodes, facts, forms, t, j) {
         return Finding::Found {
             why: Refusal::Partner,
             place: Place::At(j),
         };
     }
-    if !lowered_fits(schema, proof, nodes, members, facts, t, j) {
+    if !lowered_fits(schema, proof, nodes, members, forms, t, j) {
         return Finding::Found {
             why: Refusal::Lowered,
             place: Place::At(j),
@@ -154,15 +154,16 @@ fn judge(
     nodes: &[i32],
     members: &[i32],
     facts: &[u32],
+    forms: &[u32],
     work: &[u32],
     t: Counts,
     j: usize,
 ) -> Finding
     requires { ⌜ j < t .nodes ⌝ }
-    requires { ⌜ Ready (lent (now schema) (now proof) (now nodes) (now members) t) (now facts) (now work) ⌝ }
+    requires { ⌜ Ready (lent (now schema) (now proof) (now nodes) (now members) t) (now facts) (now forms) (now work) ⌝ }
     ensures { λ r. ⌜ finding r ≡ nodeRefusal (lent (now (schema .entry)) (now (proof .entry)) (now (nodes .entry)) (now (members .entry)) t) j ⌝ }
 {
-    let found = step(schema, proof, nodes, members, facts, work, t, j);
+    let found = step(schema, proof, nodes, members, facts, forms, work, t, j);
     let Finding::Nothing = found else {
         return found;
     };
@@ -182,15 +183,16 @@ pub fn each_node(
     nodes: &[i32],
     members: &[i32],
     facts: &[u32],
+    forms: &[u32],
     work: &[u32],
     t: Counts,
 ) -> Finding
-    requires { ⌜ Ready (lent (now schema) (now proof) (now nodes) (now members) t) (now facts) (now work) ⌝ }
+    requires { ⌜ Ready (lent (now schema) (now proof) (now nodes) (now members) t) (now facts) (now forms) (now work) ⌝ }
     ensures { λ r. ⌜ finding r ≡ scan (nodeRefusal (lent (now (schema .entry)) (now (proof .entry)) (now (nodes .entry)) (now (members .entry)) t)) (t .nodes) ⌝ }
 {
     let mut j: usize = 0;
     while j < t.nodes {
-        let found = judge(schema, proof, nodes, members, facts, work, t, j);
+        let found = judge(schema, proof, nodes, members, facts, forms, work, t, j);
         let Finding::Nothing = found else {
             return found;
         };

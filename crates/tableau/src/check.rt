@@ -9,15 +9,15 @@ ghost use Prim.Native.Nat.{ℕ, _+_, _*_, _≤_};
 ghost use mathlib.Core.Option.{none};
 ghost use lib.Dec.{leb};
 ghost use lib.ListN.{length};
-ghost use Rattle.stab.specs.Basic.{_and_, _otherwise_};
+ghost use Rattle.stab.specs.Basic.{_and_, _otherwise_, scan};
 ghost use Rattle.stab.specs.Formula.{joined};
-ghost use Rattle.stab.specs.Check.{finding, holds, refusal};
+ghost use Rattle.stab.specs.Check.{finding, holds, refusal, nodeRefusal};
 ghost use Rattle.stab.specs.Check.{check as checked};
 ghost use Rattle.stab.specs.Refuted.{Refuted};
 ghost use Rattle.stab.specs.declared.Verdict.the-variants.{Accepted};
-ghost use Rattle.formula.specs.Facts.{AllKnown};
+ghost use Rattle.formula.specs.Facts.{AllKnown, AllFormed};
+ghost use Rattle.classes.specs.Class.{AllWorked as AllClassed};
 ghost use Rattle.branch.specs.Work.{tableau};
-ghost use Rattle.steps.specs.Ready.{Ready};
 ghost use Rattle.tableau.specs.Passes.{rowsRefusal, nodesRefusal};
 
 // The tables hold what their counts say.
@@ -92,8 +92,18 @@ fn nodes_pass(
     sets::parents::parents(nodes, k, members, root)
 }
 
-// Refusals 6 to 10. Where nothing is found, all is ready for single steps to be judged.
-fn ready(
+// What two of n well-formed rows are compared by is kept; the rest of what it is worked out with is not needed again.
+fn classify(schema: &[i32], s: usize, proof: &[i32], n: usize, forms: &mut [u32], sides: &mut [u32])
+    requires { ⌜ (n ≤ 1024) × (4 * n ≤ length (now forms)) × (2 * n ≤ length (now sides)) ⌝ }
+    requires { ⌜ AllFormed (joined (now schema) s (now proof)) n ⌝ }
+    ensures { λ _. ⌜ AllClassed (joined (now (schema .entry)) s (now (proof .entry))) (now (forms .exit)) n ⌝ }
+{
+    let mut heads = [0u32; 1021];
+    classes::work_out(schema, s, proof, n, forms, sides, &mut heads);
+}
+
+// Refusals 6 to 10. Where nothing is found, what is known of rows is kept.
+fn passes(
     schema: &[i32],
     s: usize,
     proof: &[i32],
@@ -105,17 +115,16 @@ fn ready(
     k: usize,
     members: &[i32],
     m: usize,
-    work: &mut [u32],
 ) -> Finding
-    requires { ⌜ (s + p ≤ 1024) × (4096 ≤ length (now facts)) × (k ≤ 1024) × (m ≤ 8192) × (9 * k ≤ length (now nodes)) × (m ≤ length (now members)) × (4096 ≤ length (now work)) ⌝ }
+    requires { ⌜ (s + p ≤ 1024) × (4 * (s + p) ≤ length (now facts)) × (k ≤ 1024) × (m ≤ length (now members)) ⌝ }
     ensures { λ r. ⌜ finding r ≡ (rowsRefusal (tableau (now (schema .entry)) s (now (proof .entry)) p root least (now (nodes .entry)) k (now (members .entry)) m) otherwise nodesRefusal (tableau (now (schema .entry)) s (now (proof .entry)) p root least (now (nodes .entry)) k (now (members .entry)) m)) ⌝ }
-    ensures { λ r. ⌜ (finding r ≡ none → Ready (tableau (now (schema .entry)) s (now (proof .entry)) p root least (now (nodes .entry)) k (now (members .entry)) m) (now (facts .exit)) (now (work .exit))) ⌝ }
+    ensures { λ r. ⌜ (finding r ≡ none → AllKnown (joined (now (schema .entry)) s (now (proof .entry))) (now (facts .exit)) (s + p) × AllFormed (joined (now (schema .entry)) s (now (proof .entry))) (s + p)) ⌝ }
 {
     let found = formula::rows::formulas(schema, s, proof, s + p, root, least, facts);
     let Finding::Nothing = found else {
         return found;
     };
-    let found = nodes_pass(
+    nodes_pass(
         schema,
         s,
         proof,
@@ -127,12 +136,150 @@ fn ready(
         k,
         members,
         m,
+    )
+}
+
+// The refusals of single steps, in a record in which nothing was found before them.
+fn single_steps(
+    schema: &[i32],
+    s: usize,
+    proof: &[i32],
+    p: usize,
+    facts: &[u32],
+    forms: &mut [u32],
+    sides: &mut [u32],
+    root: i32,
+    least: i32,
+    nodes: &[i32],
+    k: usize,
+    members: &[i32],
+    m: usize,
+    work: &mut [u32],
+) -> Finding
+    requires { ⌜ (s + p ≤ 1024) × (4 * (s + p) ≤ length (now forms)) × (2 * (s + p) ≤ length (now sides)) × (k ≤ 1024) × (m ≤ 8192) × (9 * k ≤ length (now nodes)) × (m ≤ length (now members)) × (4 * k ≤ length (now work)) ⌝ }
+    requires { ⌜ AllKnown (joined (now schema) s (now proof)) (now facts) (s + p) × AllFormed (joined (now schema) s (now proof)) (s + p) ⌝ }
+    requires { ⌜ (rowsRefusal (tableau (now schema) s (now proof) p root least (now nodes) k (now members) m) otherwise nodesRefusal (tableau (now schema) s (now proof) p root least (now nodes) k (now members) m)) ≡ none ⌝ }
+    ensures { λ r. ⌜ finding r ≡ scan (nodeRefusal (tableau (now (schema .entry)) s (now (proof .entry)) p root least (now (nodes .entry)) k (now (members .entry)) m)) k ⌝ }
+{
+    bounds::work_out(nodes, k, least, work);
+    classify(schema, s, proof, s + p, forms, sides);
+    let t = Counts {
+        schema: s,
+        proof: p,
+        root,
+        least,
+        nodes: k,
+        members: m,
+    };
+    steps::steps::each_node(schema, proof, nodes, members, facts, forms, work, t)
+}
+
+// What is found from refusal 6 on in a record of few rows and nodes, which need not wait for the tables of a large one.
+fn small_record(
+    schema: &[i32],
+    s: usize,
+    proof: &[i32],
+    p: usize,
+    root: i32,
+    least: i32,
+    nodes: &[i32],
+    k: usize,
+    members: &[i32],
+    m: usize,
+) -> Finding
+    requires { ⌜ (s + p ≤ 256) × (k ≤ 256) × (m ≤ 8192) × (9 * k ≤ length (now nodes)) × (m ≤ length (now members)) ⌝ }
+    ensures { λ r. ⌜ finding r ≡ ((rowsRefusal (tableau (now (schema .entry)) s (now (proof .entry)) p root least (now (nodes .entry)) k (now (members .entry)) m) otherwise nodesRefusal (tableau (now (schema .entry)) s (now (proof .entry)) p root least (now (nodes .entry)) k (now (members .entry)) m)) otherwise scan (nodeRefusal (tableau (now (schema .entry)) s (now (proof .entry)) p root least (now (nodes .entry)) k (now (members .entry)) m)) k) ⌝ }
+{
+    let mut facts = [0u32; 1024];
+    let found = passes(
+        schema,
+        s,
+        proof,
+        p,
+        &mut facts,
+        root,
+        least,
+        nodes,
+        k,
+        members,
+        m,
     );
     let Finding::Nothing = found else {
         return found;
     };
-    bounds::work_out(nodes, k, least, work);
-    Finding::Nothing
+    let mut forms = [0u32; 1024];
+    let mut sides = [0u32; 512];
+    let mut work = [0u32; 1024];
+    single_steps(
+        schema,
+        s,
+        proof,
+        p,
+        &facts,
+        &mut forms,
+        &mut sides,
+        root,
+        least,
+        nodes,
+        k,
+        members,
+        m,
+        &mut work,
+    )
+}
+
+// The same in any record within the limits.
+fn large_record(
+    schema: &[i32],
+    s: usize,
+    proof: &[i32],
+    p: usize,
+    root: i32,
+    least: i32,
+    nodes: &[i32],
+    k: usize,
+    members: &[i32],
+    m: usize,
+) -> Finding
+    requires { ⌜ (s + p ≤ 1024) × (k ≤ 1024) × (m ≤ 8192) × (9 * k ≤ length (now nodes)) × (m ≤ length (now members)) ⌝ }
+    ensures { λ r. ⌜ finding r ≡ ((rowsRefusal (tableau (now (schema .entry)) s (now (proof .entry)) p root least (now (nodes .entry)) k (now (members .entry)) m) otherwise nodesRefusal (tableau (now (schema .entry)) s (now (proof .entry)) p root least (now (nodes .entry)) k (now (members .entry)) m)) otherwise scan (nodeRefusal (tableau (now (schema .entry)) s (now (proof .entry)) p root least (now (nodes .entry)) k (now (members .entry)) m)) k) ⌝ }
+{
+    let mut facts = [0u32; 4096];
+    let found = passes(
+        schema,
+        s,
+        proof,
+        p,
+        &mut facts,
+        root,
+        least,
+        nodes,
+        k,
+        members,
+        m,
+    );
+    let Finding::Nothing = found else {
+        return found;
+    };
+    let mut forms = [0u32; 4096];
+    let mut sides = [0u32; 2048];
+    let mut work = [0u32; 4096];
+    single_steps(
+        schema,
+        s,
+        proof,
+        p,
+        &facts,
+        &mut forms,
+        &mut sides,
+        root,
+        least,
+        nodes,
+        k,
+        members,
+        m,
+        &mut work,
+    )
 }
 
 // What is found first in a record.
@@ -162,34 +309,12 @@ fn first_refusal(
             place: Place::Whole,
         };
     }
-    let mut facts = [0u32; 4096];
-    let mut work = [0u32; 4096];
-    let found = ready(
-        schema,
-        s,
-        proof,
-        p,
-        &mut facts,
-        root,
-        least,
-        nodes,
-        k,
-        members,
-        m,
-        &mut work,
-    );
-    let Finding::Nothing = found else {
-        return found;
-    };
-    let t = Counts {
-        schema: s,
-        proof: p,
-        root,
-        least,
-        nodes: k,
-        members: m,
-    };
-    steps::steps::each_node(schema, proof, nodes, members, &facts, &work, t)
+    if s + p <= 256 {
+        if k <= 256 {
+            return small_record(schema, s, proof, p, root, least, nodes, k, members, m);
+        }
+    }
+    large_record(schema, s, proof, p, root, least, nodes, k, members, m)
 }
 
 // The check's answer. Where it accepts, the schema is false at every natural n from its least value up, under every assignment.

@@ -2,10 +2,10 @@
 
 use crate::calls::of_reference;
 use crate::tally::Tally;
-use zorambi_reference::formula::{Row, AND, BIG_AND, BIG_OR, FALSE, LITERAL, NEGATED, ON_I, ON_N, OR, PLAIN};
+use zorambi_reference::formula::{Row, AND, BIG_AND, BIG_OR, FALSE, LITERAL, NEGATED, ON_I, ON_N, OR, PLAIN, TRUE};
 use zorambi_reference::generate::models::ModelTables;
 use zorambi_reference::generate::tables::{Tables, Tree, TreeNode};
-use zorambi_reference::generate::Input;
+use zorambi_reference::generate::{Input, Rng};
 
 /// Each sort of them, as deep and with sets, sizes and ranges as large as they come, but fewer nodes.
 pub fn test(tally: &mut Tally) {
@@ -18,6 +18,14 @@ pub fn test(tally: &mut Tally) {
         ("unfoldings with instances of size 4,033", unfoldings(40)),
         ("formulas of depth 64, leaning left", deep(true)),
         ("formulas of depth 64, leaning right", deep(false)),
+        ("links of 33 rows of size 4,033, either order", links(33, 3, Part::Twins)),
+        ("links of 24 rows of size 4,033, either order, parts shared", links(24, 3, Part::TwinsShared)),
+        ("links of 5 rows of depth 62, either order", links(5, 3, Part::Leaning)),
+        ("links of 28 rows of one shape and size 255", one_shape(14, 3)),
+        ("links by 1 to 40, two trees of 499 rows, either order", links_by_many(40)),
+        ("unfoldings with instances in either order", swapped_unfoldings(40)),
+        ("1,024 rows of one class", one_class()),
+        ("1,024 rows, 970 ors of one shape, no two alike", no_two_alike()),
     ];
     let models = [
         ("29,998 values, body of size 4,095", long_range(LITERALS_APART)),
@@ -49,6 +57,19 @@ pub fn tableaux() -> Vec<(&'static str, Tables)> {
         ("1,000 unfoldings with instances of size 4,033", unfoldings(1000)),
         ("formulas of depth 64, leaning left", deep(true)),
         ("formulas of depth 64, leaning right", deep(false)),
+        ("100 links of 33 rows of size 4,033, either order", links(33, 100, Part::Twins)),
+        ("330 links of 10 rows of size 4,033, either order", links(10, 330, Part::Twins)),
+        ("150 links of 24 rows of size 4,033, either order, parts shared", links(24, 150, Part::TwinsShared)),
+        ("330 links of 10 rows of size 4,033, either order, parts shared", links(10, 330, Part::TwinsShared)),
+        ("450 links of 5 rows of size 4,037 and depth 62, either order", links(5, 450, Part::Leaning)),
+        ("110 links of 28 rows of one shape and size 255", one_shape(14, 110)),
+        ("500 links by 1 to 500, two trees of 499 rows, either order", links_by_many(500)),
+        ("1,000 unfoldings with instances of size 4,033, either order", swapped_unfoldings(1000)),
+        ("1,024 rows of one class", one_class()),
+        ("50 links of 62 small rows among 1,024 of one class", links_in_one_class()),
+        ("1,024 rows, half of them ors of one class", ors_of_one_class()),
+        ("1,024 rows, no two of one class", no_two_of_one_class()),
+        ("1,024 rows, 970 ors of one shape, no two alike", no_two_alike()),
     ]
 }
 
@@ -68,6 +89,7 @@ pub fn models() -> Vec<(&'static str, ModelTables)> {
 struct Builder {
     rows: Vec<Row>,
     nodes: Vec<TreeNode>,
+    rng: Rng,
 }
 
 impl Builder {
@@ -97,6 +119,42 @@ impl Builder {
         (6..11).fold(parts[5], |below, level| self.row([OR, parts[level], below, 0]))
     }
 
+    /// An or of the two in either order.
+    fn either(&mut self, a: i32, b: i32) -> i32 {
+        let row = if self.rng.chance(50) { [OR, a, b, 0] } else { [OR, b, a, 0] };
+        self.row(row)
+    }
+
+    /// Parts F and G that differ in a single leaf, by levels: F is F or G, G is F or F of the level below.
+    /// Either order of the sides looks right down to that leaf.
+    fn twins(&mut self, f: i32, g: i32, levels: usize) -> Vec<i32> {
+        let mut pair = [f, g];
+        let mut found = vec![f];
+        for _ in 0..levels {
+            let [f, g] = pair;
+            pair = [self.either(f, g), self.row([OR, f, f, 0])];
+            found.push(pair[0]);
+        }
+        found
+    }
+
+    /// The same as `large`, of such parts.
+    fn large_twins(&mut self, f: i32, g: i32) -> i32 {
+        let parts = self.twins(f, g, 10);
+        (6..11).fold(parts[5], |below, level| self.either(parts[level], below))
+    }
+
+    /// Two chains of 54 ors that differ in their last leaf, each or with a part of size 63 or 31: size 4,035.
+    fn leaning(&mut self, f: i32, g: i32) -> i32 {
+        let small = self.doubled(OR, f, 4);
+        let part = self.row([OR, small, small, 0]);
+        let ends = [f, g].map(|end| {
+            let below = (0..9).fold(end, |below, _| self.either(below, part));
+            (9..54).fold(below, |below, _| self.either(below, small))
+        });
+        self.either(ends[0], ends[1])
+    }
+
     fn tables(self, root: i32, schema_count: usize) -> Tables {
         Tree { root, least: 0, rows: self.rows, schema_count, nodes: self.nodes }.tables()
     }
@@ -112,6 +170,14 @@ pub enum Part {
     Own,
     /// Literals on the index too, so that instances are told apart at once.
     OnIndex,
+    /// Literals on the index in parts that look alike in either order, swapped at random.
+    Twins,
+    /// The same with other literals, in the same rows for some of the instances.
+    TwinsShared,
+    /// The same, leaning, with literals on the index.
+    Leaning,
+    /// The same of size 2 ^ (levels + 1) - 1.
+    Levels(usize),
 }
 
 /// Ands of false with an iteration; `held` instances of its body stand in the target's set, and
@@ -120,12 +186,20 @@ pub fn links(held: usize, count: usize, part: Part) -> Tables {
     let mut b = Builder::default();
     let no = b.row([FALSE, 0, 0, 0]);
     let first = b.row([LITERAL, 0, ON_I, 0]);
+    let second = b.row([LITERAL, 1, ON_I, 0]);
     let shared = match part {
-        Part::None => no,
-        Part::OnIndex => b.large(first),
-        _ => b.large(no),
+        Part::None => vec![no],
+        Part::OnIndex => vec![b.large(first)],
+        Part::Twins => vec![b.large_twins(first, second)],
+        Part::Leaning => vec![b.leaning(first, second)],
+        Part::Levels(levels) => vec![b.twins(first, second, levels)[levels]],
+        Part::TwinsShared => {
+            let yes = b.row([TRUE, 0, 0, 0]);
+            (0..8).map(|_| b.large_twins(yes, no)).collect()
+        }
+        Part::Shared | Part::Own => vec![b.large(no)],
     };
-    let body = if part == Part::None { first } else { b.row([OR, shared, first, 0]) };
+    let body = if part == Part::None { first } else { b.row([OR, shared[0], first, 0]) };
     let mut iteration = b.row([BIG_AND, body, -9999, 0]);
     let root = b.row([AND, no, iteration, 0]);
     let schema_count = b.rows.len();
@@ -133,9 +207,22 @@ pub fn links(held: usize, count: usize, part: Part) -> Tables {
         let literal = b.row([LITERAL, 0, ON_N, -limit]);
         let before = match part {
             Part::None => return literal,
-            Part::Shared => shared,
+            Part::Shared => shared[0],
             Part::Own => b.large(no),
             Part::OnIndex => b.large(literal),
+            Part::Twins | Part::Leaning | Part::Levels(_) => {
+                let second = b.row([LITERAL, 1, ON_N, -limit]);
+                let large = match part {
+                    Part::Twins => b.large_twins(literal, second),
+                    Part::Levels(levels) => b.twins(literal, second, levels)[levels],
+                    _ => b.leaning(literal, second),
+                };
+                return b.either(large, literal);
+            }
+            Part::TwinsShared => {
+                let large = b.rng.pick(&shared);
+                return b.either(large, literal);
+            }
         };
         b.row([OR, before, literal, 0])
     };
@@ -187,6 +274,174 @@ pub fn unfoldings(count: usize) -> Tables {
     }
     b.node([up, 5, no, -1, -1, -1, 0], &[no]);
     b.tables(root, schema_count)
+}
+
+/// One iteration unfolded again and again, to 30 instances whose sides are swapped at random.
+pub fn swapped_unfoldings(count: usize) -> Tables {
+    let mut b = Builder::default();
+    let no = b.row([FALSE, 0, 0, 0]);
+    let instance = |b: &mut Builder, base: i32| {
+        let [first, second] = [0, 1].map(|symbol| b.row([LITERAL, symbol, base, 0]));
+        let large = b.large_twins(first, second);
+        b.either(large, first)
+    };
+    let body = instance(&mut b, ON_I);
+    let iteration = b.row([BIG_AND, body, 0, 0]);
+    let root = b.row([AND, no, iteration, 0]);
+    let schema_count = b.rows.len();
+    let with = b.row([BIG_AND, body, 0, 1]);
+    let others: Vec<i32> = (0..30).map(|_| instance(&mut b, ON_N)).collect();
+    let mut up = b.node([-1, 0, root, -1, -1, -1, 0], &[root]);
+    for at in 0..count {
+        up = b.node([up, 3, iteration, with, others[at % 30], -1, 0], &[no, iteration]);
+    }
+    b.node([up, 5, no, -1, -1, -1, 0], &[no]);
+    b.tables(root, schema_count)
+}
+
+/// `count` links to one ancestor whose set has iterations over `held` bodies of size 255, and an instance
+/// of each. The bodies differ in one symbol only; the sides of all are swapped at random.
+pub fn one_shape(held: usize, count: usize) -> Tables {
+    let mut b = Builder::default();
+    let no = b.row([FALSE, 0, 0, 0]);
+    let formula = |b: &mut Builder, at: usize, base: i32, offset: i32| {
+        let [first, second] = [0, at as i32 + 1].map(|symbol| b.row([LITERAL, symbol, base, offset]));
+        b.twins(first, second, 7)[7]
+    };
+    let bodies: Vec<i32> = (0..held).map(|at| formula(&mut b, at, ON_I, 0)).collect();
+    let iterations: Vec<i32> = bodies.iter().map(|body| b.row([BIG_AND, *body, -9999, 0])).collect();
+    let mut ands = vec![no];
+    for iteration in &iterations {
+        ands.push(b.row([AND, ands[ands.len() - 1], *iteration, 0]));
+    }
+    let root = ands[held];
+    let schema_count = b.rows.len();
+    let mut up = -1;
+    let mut set = vec![root];
+    for at in (0..held).rev() {
+        up = b.node([up, 0, ands[at + 1], -1, -1, -1, 0], &set);
+        set.retain(|row| *row != ands[at + 1]);
+        set.extend([ands[at], iterations[at]]);
+    }
+    // Unfolds each of them; the leaf of the links has no more than the last round's formulas.
+    let round = |b: &mut Builder, set: &mut Vec<i32>, mut up: i32, limit: i32| {
+        let mut found = vec![no];
+        for (at, body) in bodies.iter().enumerate() {
+            let on = set.iter().copied().find(|row| b.rows[*row as usize] == [BIG_AND, *body, -9999, limit]);
+            let on = on.expect("an iteration");
+            let with = b.row([BIG_AND, *body, -9999, limit + 1]);
+            let other = formula(b, at, ON_N, -limit);
+            up = b.node([up, 3, on, with, other, -1, 0], set);
+            set.retain(|row| *row != on);
+            set.extend([with, other]);
+            found.extend([with, other]);
+        }
+        *set = found;
+        up
+    };
+    up = round(&mut b, &mut set, up, 0);
+    let target = b.node([up, 2, -1, -1, -1, -1, 0], &set);
+    b.node([target, 5, no, -1, -1, -1, 0], &[no]);
+    up = round(&mut b, &mut set, target, 1);
+    for _ in 1..count {
+        let split = b.node([up, 2, -1, -1, -1, -1, 0], &set);
+        b.node([split, 8, -1, -1, -1, target, 1], &set);
+        up = split;
+    }
+    b.node([up, 8, -1, -1, -1, target, 1], &set);
+    b.tables(root, schema_count)
+}
+
+/// Links by 1 to `count` to one ancestor. Its set has two trees that differ in their sides, with a row for
+/// each occurrence; the leaves have one of the two.
+pub fn links_by_many(count: usize) -> Tables {
+    let mut b = Builder::default();
+    let no = b.row([FALSE, 0, 0, 0]);
+    let trees = [0, 1].map(|_| {
+        let mut level: Vec<i32> = (0..250).map(|at| b.row([LITERAL, at % 2, PLAIN, at / 100])).collect();
+        while level.len() > 1 {
+            level = level
+                .chunks(2)
+                .map(|pair| if pair.len() == 1 { pair[0] } else { b.either(pair[0], pair[1]) })
+                .collect();
+        }
+        level[0]
+    });
+    let both = b.row([AND, trees[0], trees[1], 0]);
+    let root = b.row([AND, no, both, 0]);
+    let schema_count = b.rows.len();
+    b.node([-1, 0, root, -1, -1, -1, 0], &[root]);
+    b.node([0, 0, both, -1, -1, -1, 0], &[no, both]);
+    let target = b.node([1, 2, -1, -1, -1, -1, 0], &[no, trees[0], trees[1]]);
+    b.node([target, 5, no, -1, -1, -1, 0], &[no]);
+    let mut up = target;
+    for by in 1..=count as i32 {
+        // n ≥ by here, and n = by in a first child.
+        if by < count as i32 {
+            up = b.node([up, 2, -1, -1, -1, -1, 0], &[no, trees[1]]);
+        }
+        b.node([up, 8, -1, -1, -1, target, by], &[no, trees[1]]);
+    }
+    b.tables(root, schema_count)
+}
+
+/// Further rows up to 1,024 below a root of false alone.
+fn filled(rows: impl Fn(&mut Builder)) -> Tables {
+    let mut b = Builder::default();
+    let no = b.row([FALSE, 0, 0, 0]);
+    rows(&mut b);
+    b.rows.truncate(1024);
+    b.node([-1, 5, no, -1, -1, -1, 0], &[no]);
+    b.tables(no, 1)
+}
+
+/// Literals on n that differ in what is added to it.
+fn one_class() -> Tables {
+    filled(|b| {
+        for offset in 0..1023 {
+            b.row([LITERAL, 0, ON_N, offset * 17 - 8700]);
+        }
+    })
+}
+
+/// The same after the rows of links of such literals.
+fn links_in_one_class() -> Tables {
+    let mut t = links(60, 50, Part::None);
+    while t.schema_count + t.proof_count < 1024 {
+        t.proof.extend([LITERAL, 0, ON_N, t.proof_count as i32]);
+        t.proof_count += 1;
+    }
+    t
+}
+
+/// Pairs of neighbouring ones of them, in either order.
+fn ors_of_one_class() -> Tables {
+    filled(|b| {
+        let literals: Vec<i32> = (0..512).map(|offset| b.row([LITERAL, 0, ON_N, offset * 7 - 1500])).collect();
+        for pair in literals.windows(2) {
+            b.either(pair[0], pair[1]);
+        }
+    })
+}
+
+fn no_two_of_one_class() -> Tables {
+    filled(|b| {
+        for at in 0..1023 {
+            b.row([LITERAL + at % 2, at % 256, PLAIN, at]);
+        }
+    })
+}
+
+/// Ors of any two of 45 literals.
+fn no_two_alike() -> Tables {
+    filled(|b| {
+        let literals: Vec<i32> = (0..45).map(|symbol| b.row([LITERAL, symbol, ON_N, 0])).collect();
+        for (at, a) in literals.iter().enumerate() {
+            for other in &literals[..at] {
+                b.either(*a, *other);
+            }
+        }
+    })
 }
 
 /// A root of depth 64 over an iteration of depth 63, unfolded and linked.

@@ -4,6 +4,7 @@
 //! * [`again`]: a text read and written again, rows written and read again, from the same cases
 //! * [`paper`]: the paper's record, its neighbours and its models, with the paper's answers
 //! * [`records`]: shipped records, with the answers in their `expected` files
+//! * [`sides`]: shipped records with sides of their ands and ors swapped
 //! * [`edges`]: texts and tables at the limits of the paper
 //! * [`heavy`]: the largest and slowest inputs
 //! * [`soundness`]: accepted records evaluated
@@ -15,5 +16,6 @@ pub mod edges;
 pub mod heavy;
 pub mod paper;
 pub mod records;
+pub mod sides;
 pub mod soundness;
 pub mod tally;

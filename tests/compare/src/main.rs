@@ -3,7 +3,7 @@
 use std::path::Path;
 use std::process::exit;
 use zorambi_compare::tally::Tally;
-use zorambi_compare::{edges, heavy, paper, records};
+use zorambi_compare::{edges, heavy, paper, records, sides};
 use zorambi_reference::generate::case;
 
 const USE: &str = "\
@@ -38,6 +38,7 @@ fn main() {
         ["some", seed, count, folder] => {
             paper::test(&mut tally);
             records::test(&mut tally, Path::new(folder));
+            sides::test(&mut tally, Path::new(folder), 1);
             generated(&mut tally, number(seed), number(count));
         }
         [seed, count, folder] => {
@@ -45,6 +46,7 @@ fn main() {
             records::test(&mut tally, Path::new(folder));
             edges::test(&mut tally);
             println!("{} cases chosen by hand", tally.passed + tally.failed);
+            sides::test(&mut tally, Path::new(folder), 20);
             generated(&mut tally, number(seed), number(count));
             tally.test_cover();
         }

@@ -2,9 +2,11 @@
 
 use crate::again::ways;
 use crate::calls::{of_library, of_reference};
+use crate::sides as of_records;
 use crate::soundness::Soundness;
 use std::collections::BTreeMap;
-use zorambi_reference::generate::cases::EXACT_ANCESTOR;
+use zorambi_reference::generate::cases::{EXACT_ANCESTOR, SIDES};
+use zorambi_reference::generate::sides::{self, Comes};
 use zorambi_reference::generate::{exact, Aim, Case, Input};
 
 /// The entries by what they do, as columns of the table of answers.
@@ -170,6 +172,21 @@ impl Tally {
             let counts = self.aimed(EXACT_ANCESTOR, kind);
             let fits = (counts.at > 0) == at && (counts.earlier > 0) == earlier && counts.later + counts.accepted == 0;
             self.test(&format!("link to an exact ancestor, {kind}"), enough(fits));
+        }
+        for (kind, comes) in sides::KINDS {
+            let counts = self.aimed(SIDES, kind);
+            let refused = counts.at + counts.earlier + counts.later;
+            let fits = match comes {
+                Comes::Accepted => counts.accepted > 0 && refused == 0,
+                Comes::Refused => refused > 0 && counts.accepted == 0,
+                Comes::MostlyRefused => refused > counts.accepted,
+            };
+            self.test(&format!("sides, {kind}"), enough(fits));
+        }
+        for (kind, accepted) in of_records::KINDS {
+            let counts = self.aimed(of_records::SORT, kind);
+            let fits = counts.cases > 0 && counts.accepted == if accepted { counts.cases } else { 0 };
+            self.test(&format!("sides of a record, {kind}"), enough(fits));
         }
     }
 

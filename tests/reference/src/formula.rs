@@ -1,7 +1,11 @@
-//! Formula rows: which rows are well-formed, size, depth, outer rows, and the two comparisons
-//! that go down two formulas side by side.
+//! Formula rows: which rows are well-formed, size, depth, outer rows, and the two comparisons. These
+//! hold formulas alike that agree after swapping sides of ands and ors; they are made by writing the
+//! formulas with their sides in order.
 
 use crate::{holds, refuse, Refusal, MAX_DEPTH, MAX_N, MAX_OFFSET, MAX_SIZE, MAX_SYMBOL, ROW_WIDTH};
+use std::cell::RefCell;
+use std::collections::HashMap;
+use std::hash::{BuildHasherDefault, Hasher};
 
 /// kind a b c
 pub type Row = [i32; 4];
@@ -46,6 +50,7 @@ impl Facts {
 pub struct Formulas {
     rows: Vec<Row>,
     facts: Vec<Option<Facts>>,
+    forms: RefCell<Forms>,
 }
 
 impl Formulas {
@@ -74,6 +79,9 @@ impl Formulas {
     pub fn pop(&mut self) {
         self.rows.pop();
         self.facts.pop();
+        for known in self.forms.get_mut().of_rows.values_mut() {
+            known.truncate(self.rows.len());
+        }
     }
 
     /// What would be known of `row` as the next row.
@@ -160,79 +168,150 @@ impl Formulas {
         self.facts(number).is_some_and(|facts| !facts.on_i)
     }
 
-    /// Row `g` is row `f` lowered by `k`. False unless both are well-formed and within the limits.
+    /// Row `g` is row `f` lowered by `k`, up to the sides of ands and ors. False unless both are
+    /// well-formed and within the limits.
     pub fn lowered(&self, f: i32, g: i32, k: i32) -> bool {
-        self.comparable(f) && self.comparable(g) && self.lowered_parts(f, g, i64::from(k))
+        self.agree(f, Change::Lowered(k), g)
     }
 
-    /// Row `g` is the instance of body `f` at n - `c`. False unless both are well-formed and within
-    /// the limits.
+    /// Row `g` is the instance of body `f` at n - `c`, up to the sides of ands and ors. False unless
+    /// both are well-formed and within the limits.
     pub fn instance(&self, f: i32, g: i32, c: i32) -> bool {
-        self.comparable(f) && self.comparable(g) && self.instance_parts(f, g, i64::from(c))
+        self.agree(f, Change::Instance(c), g)
     }
 
-    /// Rows `f` and `g` agree in shape and in all numbers. False unless both are well-formed and
-    /// within the limits.
-    pub fn same(&self, f: i32, g: i32) -> bool {
-        self.comparable(f) && self.comparable(g) && self.same_parts(f, g)
+    /// Rows `f` and `g` are alike: they agree after swapping the sides of some ands and ors. False
+    /// unless both are well-formed and within the limits.
+    pub fn alike(&self, f: i32, g: i32) -> bool {
+        self.agree(f, Change::Nothing, g)
     }
 
-    fn comparable(&self, number: i32) -> bool {
-        self.facts(number).is_some_and(|facts| facts.within_limits())
+    /// Each of `rows`, lowered by `k`, stands in `set`, up to the sides of ands and ors.
+    pub fn all_lowered(&self, rows: &[i32], set: &[i32], k: i32) -> bool {
+        let mut forms: Vec<Option<u32>> = set.iter().map(|row| self.form(*row, Change::Nothing)).collect();
+        forms.sort_unstable();
+        rows.iter().all(|row| {
+            let form = self.form(*row, Change::Lowered(k));
+            form.is_some() && forms.binary_search(&form).is_ok()
+        })
     }
 
-    /// The two rows, if they have the same kind and the same size: two formulas that agree in shape do.
-    fn alike(&self, f: i32, g: i32) -> Option<(Row, Row)> {
-        let (row_f, row_g) = (self.rows[f as usize], self.rows[g as usize]);
-        let alike = row_f[0] == row_g[0]
-            && self.facts[f as usize].map(|facts| facts.size) == self.facts[g as usize].map(|facts| facts.size);
-        alike.then_some((row_f, row_g))
+    fn agree(&self, f: i32, change: Change, g: i32) -> bool {
+        let form = self.form(f, change);
+        form.is_some() && form == self.form(g, Change::Nothing)
     }
 
-    // The three comparisons below are called with comparable rows only. The parts of a comparable
-    // row are comparable and have smaller numbers, and no path down is longer than 64.
-
-    fn same_parts(&self, f: i32, g: i32) -> bool {
-        if f == g {
-            return true;
+    /// The form of a changed row. `None` unless it is well-formed, within the limits, and can be changed so.
+    fn form(&self, number: i32, change: Change) -> Option<u32> {
+        let facts = self.facts(number)?;
+        if !facts.within_limits() {
+            return None;
         }
-        let Some(([kind, a, b, c], [_, a_g, b_g, c_g])) = self.alike(f, g) else {
-            return false;
+        let change = match change {
+            Change::Lowered(_) if !facts.on_n => Change::Nothing,
+            _ => change,
         };
-        match kind {
-            LITERAL | NEGATED => (a, b, c) == (a_g, b_g, c_g),
-            AND | OR => self.same_parts(a, a_g) && self.same_parts(b, b_g),
-            BIG_AND | BIG_OR => (b, c) == (b_g, c_g) && self.same_parts(a, a_g),
-            _ => true,
+        let mut forms = self.forms.borrow_mut();
+        let Forms { numbers, of_rows } = &mut *forms;
+        let known = of_rows.entry(change).or_default();
+        known.resize(self.rows.len(), None);
+        self.find_form(numbers, known, change, number as usize)
+    }
+
+    /// The parts of a row within the limits are within the limits and have smaller numbers, and no path
+    /// down is longer than 64.
+    fn find_form(
+        &self,
+        numbers: &mut Numbers,
+        known: &mut [Option<Option<u32>>],
+        change: Change,
+        at: usize,
+    ) -> Option<u32> {
+        if let Some(found) = known[at] {
+            return found;
+        }
+        let [kind, a, b, c] = self.rows[at];
+        let mut part = |row: i32| self.find_form(numbers, known, change, row as usize).map(i64::from);
+        let form = match kind {
+            LITERAL | NEGATED => change.literal(b, c).map(|(b, c)| [kind.into(), a.into(), b.into(), c]),
+            AND | OR => match (part(a), part(b)) {
+                (Some(a), Some(b)) => Some([kind.into(), a.min(b), a.max(b), 0]),
+                _ => None,
+            },
+            BIG_AND | BIG_OR => match (part(a), change.limit(c)) {
+                (Some(body), Some(c)) => Some([kind.into(), body, b.into(), c]),
+                _ => None,
+            },
+            _ => Some([kind.into(), 0, 0, 0]),
+        };
+        let found = form.map(|form| {
+            let next = numbers.len() as u32;
+            *numbers.entry(form).or_insert(next)
+        });
+        known[at] = Some(found);
+        found
+    }
+}
+
+/// A formula written with the sides of each and and or in order: kind a b c as in a row, but a part is
+/// the number of its form, and the smaller one is the left side. Each form has one number, so two
+/// formulas are alike exactly when their forms have the same number.
+type Form = [i64; 4];
+type Numbers = HashMap<Form, u32, BuildHasherDefault<Mixer>>;
+
+/// The forms met so far, and those of the rows under each change; `Some(None)` where there is none.
+#[derive(Clone, Debug, Default)]
+struct Forms {
+    numbers: Numbers,
+    of_rows: HashMap<Change, Vec<Option<Option<u32>>>>,
+}
+
+/// How a formula is written anew before its sides are put in order.
+#[derive(Clone, Copy, Debug, PartialEq, Eq, Hash)]
+enum Change {
+    Nothing,
+    /// n + c stands as n + (c - k), the limit n - c as n - (c + k).
+    Lowered(i32),
+    /// Of a body: i + d stands as n + (d - c).
+    Instance(i32),
+}
+
+impl Change {
+    /// What a literal's index is added to, and its offset.
+    fn literal(self, base: i32, offset: i32) -> Option<(i32, i64)> {
+        let offset = i64::from(offset);
+        match self {
+            Change::Lowered(k) if base == ON_N => Some((base, offset - i64::from(k))),
+            Change::Instance(c) if base == ON_I => Some((ON_N, offset - i64::from(c))),
+            Change::Instance(_) => None,
+            _ => Some((base, offset)),
         }
     }
 
-    fn lowered_parts(&self, f: i32, g: i32, k: i64) -> bool {
-        let Some(([kind, a, b, c], [_, a_g, b_g, c_g])) = self.alike(f, g) else {
-            return false;
-        };
-        if self.facts[f as usize].is_some_and(|facts| !facts.on_n) {
-            return self.same_parts(f, g);
+    fn limit(self, c: i32) -> Option<i64> {
+        match self {
+            Change::Nothing => Some(i64::from(c)),
+            Change::Lowered(k) => Some(i64::from(c) + i64::from(k)),
+            Change::Instance(_) => None,
         }
-        let (c, c_g) = (i64::from(c), i64::from(c_g));
-        match kind {
-            LITERAL | NEGATED => (a, b) == (a_g, b_g) && c_g == if b == ON_N { c - k } else { c },
-            AND | OR => self.lowered_parts(a, a_g, k) && self.lowered_parts(b, b_g, k),
-            BIG_AND | BIG_OR => b == b_g && c_g == c + k && self.same_parts(a, a_g),
-            _ => true,
+    }
+}
+
+/// A quick hash of a form.
+#[derive(Clone, Debug, Default)]
+struct Mixer(u64);
+
+impl Hasher for Mixer {
+    fn write(&mut self, bytes: &[u8]) {
+        for chunk in bytes.chunks(8) {
+            let mut word = [0; 8];
+            word[..chunk.len()].copy_from_slice(chunk);
+            self.0 = (self.0.rotate_left(5) ^ u64::from_le_bytes(word)).wrapping_mul(0x517c_c1b7_2722_0a95);
         }
     }
 
-    fn instance_parts(&self, f: i32, g: i32, at: i64) -> bool {
-        let Some(([kind, a, b, c], [_, a_g, b_g, c_g])) = self.alike(f, g) else {
-            return false;
-        };
-        match kind {
-            LITERAL | NEGATED => a == a_g && (b, b_g) == (ON_I, ON_N) && i64::from(c_g) == i64::from(c) - at,
-            AND | OR => self.instance_parts(a, a_g, at) && self.instance_parts(b, b_g, at),
-            BIG_AND | BIG_OR => false,
-            _ => true,
-        }
+    fn finish(&self) -> u64 {
+        self.0 ^ (self.0 >> 32)
     }
 }
 

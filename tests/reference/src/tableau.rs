@@ -275,11 +275,8 @@ fn check_node(formulas: &Formulas, nodes: &[Node], bounds: &[Bound], number: usi
     }
 
     // 16: each row of the ancestor's set stands in this set, lowered.
-    if rule.link {
-        let has_partner = |row: &i32| node.set.iter().any(|partner| formulas.lowered(*row, *partner, node.by));
-        if !nodes[target].set.iter().all(has_partner) {
-            return Err(16);
-        }
+    if rule.link && !formulas.all_lowered(nodes[target].set, node.set, node.by) {
+        return Err(16);
     }
 
     // 17: the number of children.

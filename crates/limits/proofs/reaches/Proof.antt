@@ -4,7 +4,7 @@ use Prim.Native.Nat.{ℕ, _+_}
 use mathlib.Core.Path.{_∙_, ap₂}
 use lib.Dec.{leb}
 use Rattle.formula.specs.Column.{column}
-use Rattle.leaves.proofs.Compares.{offset-small}
+use Rattle.formula.proofs.RowLaws.{offset-small}
 use Rattle.limits.proofs.LimitLaws.{reach-test}
 use Rattle.limits.proofs.reaches.Statement.{statement}
 use Rattle.limits.proofs.reaches.Tie as tie

@@ -4,7 +4,7 @@ use Prim.Native.Nat.{ℕ, _+_}
 use mathlib.Core.Path.{_∙_, ap₂}
 use lib.Dec.{eqb}
 use Rattle.formula.specs.Column.{column}
-use Rattle.leaves.proofs.Compares.{offset-small}
+use Rattle.formula.proofs.RowLaws.{offset-small}
 use Rattle.limits.proofs.LimitLaws.{index-test}
 use Rattle.limits.proofs.same_index.Statement.{statement}
 use Rattle.limits.proofs.same_index.Tie as tie

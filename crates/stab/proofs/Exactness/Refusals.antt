@@ -13,7 +13,7 @@ use Rattle.stab.specs.Model.{Model, pairRefusal, schemaRow, modelRefusal
 use Rattle.stab.specs.declared.Place.{Place}
 use Rattle.stab.specs.declared.Place.the-variants.{Whole, At}
 use Rattle.stab.specs.declared.Refusal.{Refusal}
-use Rattle.stab.specs.declared.Refusal.the-variants.{TooMany}
+use Rattle.stab.specs.declared.Refusal.the-variants.{TooMany, Drawn, Fields, Target, Bound, Partner, Lowered, Children}
 use Rattle.stab.specs.declared.Verdict.{Verdict}
 use Rattle.stab.specs.declared.Verdict.the-variants.{Accepted, Refused}
 use Rattle.stab.proofs.Tests.{_&_, le-tests, whole-clears}
@@ -68,15 +68,16 @@ of-formulas rows n s root least l =
     of-scan (rowRefusal rows) n l (λ r k. of-at _ _ r k or-else of-at _ _ r k) or-else
     of-whole _ _
 
-of-node : (T : Tableau) (j : ℕ) → j < 4096 → FindsRefusals (nodeRefusal T j)
-unfolding nodeRefusal stepRefusal
-of-node T j l =
+-- 11 to 17, by any tests
+pub of-tests : (j : ℕ) (drawn fields target bound partners lowered children : Bool) → j < 4096 → FindsRefusals ((atUnless drawn Drawn j otherwise atUnless fields Fields j otherwise atUnless target Target j otherwise atUnless bound Bound j otherwise atUnless partners Partner j otherwise atUnless lowered Lowered j) otherwise atUnless children Children j)
+of-tests j drawn fields target bound partners lowered children l =
     (of-at _ _ j l or-else of-at _ _ j l or-else of-at _ _ j l or-else of-at _ _ j l or-else of-at _ _ j l or-else of-at _ _ j l) or-else
     of-at _ _ j l
 
-pub of-refusal : (T : Tableau) → FindsRefusals (refusal T)
-unfolding refusal refusalBy setRefusal parentRefusal withinLimits
-of-refusal T =
+-- the check, with any judge of the nodes that finds refusals
+pub of-refusal-by : (judge : Tableau → ℕ → Option Verdict) (T : Tableau) → ((j : ℕ) → j < 4096 → FindsRefusals (judge T j)) → FindsRefusals (refusalBy judge T)
+unfolding refusalBy setRefusal parentRefusal withinLimits
+of-refusal-by judge T each =
     of-whole _ _ or-else
     once (of-whole _ TooMany)
     (λ h.
@@ -87,7 +88,11 @@ of-refusal T =
     of-scan (setRefusal T) (T .nodeRows) nodes (λ j l. of-at _ _ j l) or-else
     of-whole _ _ or-else
     of-scan (parentRefusal T) (T .nodeRows) nodes (λ j l. of-at _ _ j l) or-else
-    of-scan (nodeRefusal T) (T .nodeRows) nodes (of-node T))
+    of-scan (judge T) (T .nodeRows) nodes each)
+
+pub of-refusal : (T : Tableau) → FindsRefusals (refusal T)
+unfolding refusal nodeRefusal stepRefusal
+of-refusal T = of-refusal-by nodeRefusal T (λ j. of-tests j _ _ _ _ _ _ _)
 
 pub of-model-refusal : (M : Model) → FindsRefusals (modelRefusal M)
 unfolding modelRefusal pairRefusal

@@ -17,7 +17,8 @@ use Rattle.stab.specs.Keeps.{Below, Alike, KeepsParent, Ancestor, KeepsD
 use Rattle.stab.specs.declared.Refusal.the-variants.{Drawn, Fields as FieldsWrong, Target, Bound as BoundWrong, Partner, Lowered, Children}
 use Rattle.stab.proofs.Whole.{eqZ-of, eqZ-true, eqZ-not, not-eqZ}
 use Rattle.stab.proofs.Bools.{decide}
-use Rattle.stab.proofs.Tests.{_tests_, itself, _&_, or-tests, _⇒_, not-tests, if-tests, le-tests, eq-tests, leZ-tests, ltZ-tests, eqZ-tests, below-tests, has-tests, all-tests, agree-tests, _clears_, at-clears, _then_}
+use Rattle.stab.proofs.Tests.{_tests_, itself, _&_, or-tests, _⇒_, not-tests, if-tests, le-tests, eq-tests, leZ-tests, ltZ-tests, eqZ-tests, below-tests, has-tests, all-tests, _clears_, at-clears, _then_}
+use Rattle.stab.proofs.Alikes.{alike-tests}
 use Rattle.stab.proofs.Ancestors.{ancestor-tests}
 use Rattle.stab.proofs.Exactness.Nodes.{drawn-tests}
 
@@ -133,7 +134,7 @@ partners-tests T j =
     ((eqZ-tests (row T (node T j .with) .a) (row T (node T j .on) .a) &
     eqZ-tests (row T (node T j .with) .b) (row T (node T j .on) .b) &
     eqZ-tests (row T (node T j .with) .c) (row T (node T j .on) .c +ℤ pos 1)) &
-    agree-tests (instance (row T (node T j .on) .c) (formula T (row T (node T j .on) .a))) (formula T (node T j .other)))
+    alike-tests (instance (row T (node T j .on) .c) (formula T (row T (node T j .on) .a))) (formula T (node T j .other)))
     (λ p. record { sameBody = p .0 .0; sameStart = p .0 .1 .0; shorter = p .0 .1 .1; instanceOf = p .1 }, λ k. ((k .sameBody, (k .sameStart, k .shorter)), k .instanceOf))
 
 -- ---- the lowered rows of a loop: 16
@@ -147,7 +148,7 @@ unfolding hasLowered isLowered
 has-lowered-tests T k [] z = (λ h. absurd (false≢true h), λ p. absurd (List·Memᴰ·not-nil (p .1)))
 has-lowered-tests T k (x ∷ xs) z =
     Iff·trans
-    (or-tests (agree-tests (lower k (formula T z)) (formula T x)) (has-lowered-tests T k xs z)) (
+    (or-tests (alike-tests (lower k (formula T z)) (formula T x)) (has-lowered-tests T k xs z)) (
       ⊎-elim (λ e. (x, List·Memᴰ·head refl, e)) (λ p. (p .0, List·Memᴰ·tail (p .1), p .2)),
       λ p.
           ⊎-elim

@@ -14,12 +14,13 @@ use Rattle.stab.specs.Formula.{Row, Op, conj, disj, Formula, const, lit,
 use Rattle.stab.specs.Meaning.{Assignment, base, signed, op, empty, value, truth}
 use Rattle.stab.specs.Node.{Tableau, Node, Bound, rows, rowCount, row, formula, nodeAt, node, set, names, childCountOf, childCount, rank, SatisfiesIf, Satisfies, splitBound, childBound, boundOf, bound}
 use Rattle.stab.specs.Rule.{unused, entry, ruleTable, ruleOf, rule, ofRule, oneOf, given, indexAt}
-use Rattle.stab.specs.Keeps.{Below, Alike, KeepsParent, KeepsDrawn, DrawnFrom, KeepsKind, Unfolds, Clashes, Loops, KeepsStep, Keeps}
+use Rattle.stab.specs.Keeps.{Below, KeepsParent, KeepsDrawn, DrawnFrom, KeepsKind, Unfolds, Clashes, Loops, KeepsStep, Keeps}
 use Rattle.stab.specs.declared.Rule.{Rule}
 use Rattle.stab.proofs.Bools.{and-left, and-right, or-cases, if-false}
 use Rattle.stab.proofs.Whole.{atom, num, _⊕_, _⊖_, of-le, le-of, of-lt, of-eq, lt-of, leZ-of, ltZ-of, eqZ-true, nat-pos}
 use Rattle.stab.proofs.Trees.{below-nat, below-pos, below-of}
 use Rattle.stab.proofs.Meanings.{Proper, unfolds, void-value, instance-value, lower-value}
+use Rattle.stab.proofs.Alikes.{alike-value}
 use Rattle.stab.proofs.Decoded as D
 use Rattle.stab.proofs.Bounds.{bound-child, counted}
 use Rattle.stab.proofs.Tests.{below-tests}
@@ -256,7 +257,7 @@ module _ (T : Tableau) (K : Keeps T) (σ : Assignment) where
 
     -- on is true exactly if with and other are, joined by the operation
     unfold-value : (o : Op) → kindOf (row T on .kind) ≡ iteration o → kindOf (row T with .kind) ≡ iteration o → Below (rowCount T) on → Below (rowCount T) with → Unfolds T j → truth σ n (formula T on) ≡ op o (truth σ n (formula T with)) (truth σ n (formula T (node T j .other)))
-    unfolding truth Alike
+    unfolding truth
     unfold-value o ko kw bo bw u =
         let b = row T on .b in
         let c = row T on .c in
@@ -270,7 +271,7 @@ module _ (T : Tableau) (K : Keeps T) (σ : Assignment) where
         (le-of (atom b ⊕ atom c) (num n) (omega (arith, of-le (atom b ⊕ atom c) (num (bound T j .L)) (leZ-of (u .nonempty)), from-least (bound T j) n sat)))
         ∙ ap₂ (op o)
         (ap (λ (g : Formula). value σ n g (pos 0)) (sym w))
-        (sym (instance-value σ n c f (pos 0) (body-of o on ko bo)) ∙ ap (λ (g : Formula). value σ n g (pos 0)) (u .instanceOf))
+        (sym (instance-value σ n c f (pos 0) (body-of o on ko bo)) ∙ alike-value σ n (u .instanceOf) (pos 0))
 
     unfold-and-step : node T j .rule ≡ pos 3 → ⊥
     unfolding entry op givenBy if_then_else_ eqZ
@@ -347,7 +348,7 @@ module _ (T : Tableau) (K : Keeps T) (σ : Assignment) where
 
     -- what a link may use: every node is refuted at every smaller n
     loop-step : node T j .rule ≡ pos 8 → ((m i : ℕ) → m < n → i < T .nodeRows → Satisfies (bound T i) m → Holds m i → ⊥) → ⊥
-    unfolding entry truth Alike Satisfies SatisfiesIf
+    unfolding entry truth Satisfies SatisfiesIf
     loop-step e smaller =
         let R = entry-is 8 _ (entries .8) e in
         let l = keeps .loop e in
@@ -372,7 +373,7 @@ module _ (T : Tableau) (K : Keeps T) (σ : Assignment) where
         (λ z mem.
         let x = u .lowered z mem in
         sym (lower-value σ n m k (formula T z) (pos 0) q (properly z (member-row i (omega arith) z mem)))
-        ∙ ap (λ (f : Formula). value σ n f (pos 0)) (x .2)
+        ∙ alike-value σ n (x .2) (pos 0)
         ∙ holds (x .0) (x .1))
 
     -- ---- any rule

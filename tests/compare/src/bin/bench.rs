@@ -398,6 +398,15 @@ fn all_growth() {
     growth("unfoldings with instances of size 4,033", &doubled[..4], |size| {
         check("unfoldings", &heavy::unfoldings(size))
     });
+    growth("size of parts in either order, 40 links of 20 rows", &[127, 255, 511, 1023, 2047], |size| {
+        check("size", &heavy::links(20, 40, Part::Levels(size.ilog2() as usize)))
+    });
+    growth("rows of size 4,033 in either order, 20 links", &[4, 8, 16, 32], |size| {
+        check("rows in either order", &heavy::links(size, 20, Part::Twins))
+    });
+    growth("links of 10 rows of size 4,033 in either order", &[20, 40, 80, 160, 320], |size| {
+        check("links in either order", &heavy::links(10, size, Part::Twins))
+    });
     growth("proof rows read, and half as many nodes", &doubled, |size| {
         read_proof("reading", &proof_text(&heavy::wide_proof(size, size / 2)))
     });

@@ -7,8 +7,10 @@ use std::collections::BTreeMap;
 use std::panic::{catch_unwind, AssertUnwindSafe};
 use std::path::Path;
 use std::time::Instant;
-use zorambi_reference::formula::{Formulas, AND, BIG_AND, FALSE, LITERAL, NEGATED, ON_I, ON_N, OR, TRUE};
+use zorambi_reference::formula::{self, Formulas};
+use zorambi_reference::formula::{AND, BIG_AND, BIG_OR, FALSE, LITERAL, NEGATED, ON_I, ON_N, OR, PLAIN, TRUE};
 use zorambi_reference::generate::models::{find_model, pair_rows, random_assignment, random_pairs};
+use zorambi_reference::generate::sides::agree_either_way;
 use zorambi_reference::generate::tables::Tables;
 use zorambi_reference::generate::{case, run, Input, Outcome, Rng};
 use zorambi_reference::program::Fault;
@@ -53,6 +55,9 @@ fn main() {
     let mut tally = Tally::default();
     paper(&mut tally);
     println!("paper: {} passed, {} failed", tally.passed, tally.failed);
+    let before = tally.passed;
+    sides(&mut tally);
+    println!("sides in either order: {} passed, {} failed so far", tally.passed - before, tally.failed);
     let before = tally.passed;
     outside_records(&mut tally, Path::new(&records));
     println!("records: {} passed, {} failed so far", tally.passed - before, tally.failed);
@@ -135,6 +140,144 @@ fn paper(tally: &mut Tally) {
 }
 
 // ---------------------------------------------------------------------------------------------
+// Sides in either order, document 02, No. 4; all answers worked out by hand
+
+/// Rows of a table, for formulas over p (symbol 0), q (1) and r (2).
+#[derive(Default)]
+struct Table {
+    rows: Vec<i32>,
+}
+
+impl Table {
+    fn row(&mut self, row: [i32; 4]) -> i32 {
+        self.rows.extend(row);
+        self.rows.len() as i32 / 4 - 1
+    }
+
+    /// p, q and r at base + offset.
+    fn literals(&mut self, base: i32, offset: i32) -> [i32; 3] {
+        [0, 1, 2].map(|symbol| self.row([LITERAL, symbol, base, offset]))
+    }
+
+    fn lowered(&self, f: i32, g: i32, k: i32) -> bool {
+        formula::lowered(&self.rows, self.rows.len() / 4, f, g, k)
+    }
+
+    fn instance(&self, f: i32, g: i32, c: i32) -> bool {
+        formula::instance(&self.rows, self.rows.len() / 4, f, g, c)
+    }
+}
+
+fn sides(tally: &mut Tally) {
+    let mut t = Table::default();
+    let [p, q, r] = t.literals(ON_N, 0);
+    let [p1, q1, r1] = t.literals(ON_N, -1);
+    let and = |t: &mut Table, a: i32, b: i32| t.row([AND, a, b, 0]);
+    let or = |t: &mut Table, a: i32, b: i32| t.row([OR, a, b, 0]);
+
+    let (pq, pq1, qp1, p_or_q1) = (and(&mut t, p, q), and(&mut t, p1, q1), and(&mut t, q1, p1), or(&mut t, q1, p1));
+    tally.equal("p and q lowered", t.lowered(pq, pq1, 1), true);
+    tally.equal("p and q lowered, sides swapped", t.lowered(pq, qp1, 1), true);
+    tally.equal("p and q lowered by 2", t.lowered(pq, qp1, 2), false);
+    tally.equal("p and q is not q or p", t.lowered(pq, p_or_q1, 1), false);
+    let q1r1 = and(&mut t, q1, r1);
+    tally.equal("p and q is not q and r", t.lowered(pq, q1r1, 1), false);
+    let pp1 = and(&mut t, p1, p1);
+    tally.equal("p and q is not p and p", t.lowered(pq, pp1, 1), false);
+    tally.equal("p and p is not p", t.lowered(pp1, p1, 0), false);
+    let mixed = and(&mut t, q, p1);
+    tally.equal("one side lowered", t.lowered(pq, mixed, 1), false);
+
+    // (p and q) or (q and r), swapped outside, inside one side, and inside both.
+    let (qr, qr1, rq1) = (and(&mut t, q, r), and(&mut t, q1, r1), and(&mut t, r1, q1));
+    let f = or(&mut t, pq, qr);
+    for (name, left, right, fits) in [
+        ("outside", qr1, pq1, true),
+        ("inside the left", qp1, qr1, true),
+        ("outside and inside one", qr1, qp1, true),
+        ("outside and inside both", rq1, qp1, true),
+        ("the left twice", pq1, qp1, false),
+        ("the right twice", rq1, qr1, false),
+    ] {
+        let g = or(&mut t, left, right);
+        tally.equal(&format!("two levels, swapped {name}"), t.lowered(f, g, 1), fits);
+        tally.equal(&format!("two levels, swapped {name}, not lowered"), t.lowered(f, g, 0), false);
+    }
+
+    // Sides are swapped, not regrouped: (p and q) and r, p and (q and r), r and (q and p).
+    let left = and(&mut t, pq, r);
+    let (right, swapped) = (and(&mut t, p1, qr1), and(&mut t, r1, qp1));
+    tally.equal("(p and q) and r is not p and (q and r)", t.lowered(left, right, 1), false);
+    tally.equal("(p and q) and r is r and (q and p)", t.lowered(left, swapped, 1), true);
+    // (p and q) and p is p and (q and p) by swapping alone.
+    let (pqp, p_qp) = (and(&mut t, pq, p), and(&mut t, p1, qp1));
+    tally.equal("(p and q) and p is p and (q and p)", t.lowered(pqp, p_qp, 1), true);
+    // The same row for both sides, against two rows whose sides stand in different orders.
+    let (twice, once_each) = (or(&mut t, pq, pq), or(&mut t, pq1, qp1));
+    tally.equal("each occurrence has its own order", t.lowered(twice, once_each, 1), true);
+
+    // Bodies, and literals that lowering leaves alone.
+    let [p_i, q_i, r_i] = t.literals(ON_I, 0);
+    let [p_0, q_0, _] = t.literals(PLAIN, 0);
+    let (pq_i, qp_i, qr_i) = (and(&mut t, p_i, q_i), and(&mut t, q_i, p_i), and(&mut t, q_i, r_i));
+    let all = t.row([BIG_AND, pq_i, 1, 0]);
+    for (name, row, fits) in [
+        ("body swapped", [BIG_AND, qp_i, 1, 1], true),
+        ("body the same", [BIG_AND, pq_i, 1, 1], true),
+        ("another body", [BIG_AND, qr_i, 1, 1], false),
+        ("limit not lowered", [BIG_AND, qp_i, 1, 0], false),
+        ("another first index", [BIG_AND, qp_i, 0, 1], false),
+        ("a big or", [BIG_OR, qp_i, 1, 1], false),
+    ] {
+        let g = t.row(row);
+        tally.equal(&format!("iteration lowered, {name}"), t.lowered(all, g, 1), fits);
+        let (with_left, with_right) = (and(&mut t, all, p_0), and(&mut t, p_0, g));
+        tally.equal(&format!("iteration and p lowered, {name}"), t.lowered(with_left, with_right, 1), fits);
+        let other = and(&mut t, q_0, g);
+        tally.equal(&format!("iteration and q lowered, {name}"), t.lowered(with_left, other, 1), false);
+    }
+
+    // Instances: (p_i and q_i) or not p_(i-1) at n - 1 is (q_(n-1) and p_(n-1)) or not p_(n-2).
+    let before = t.row([NEGATED, 0, ON_I, -1]);
+    let body = or(&mut t, pq_i, before);
+    let [not_p2, not_p1] = [-2, -1].map(|offset| t.row([NEGATED, 0, ON_N, offset]));
+    for (name, left, right, fits) in [
+        ("in order", pq1, not_p2, true),
+        ("swapped", not_p2, pq1, true),
+        ("swapped inside", qp1, not_p2, true),
+        ("swapped twice", not_p2, qp1, true),
+        ("a leaf changed", not_p1, qp1, false),
+        ("another part", not_p2, qr1, false),
+    ] {
+        let g = or(&mut t, left, right);
+        tally.equal(&format!("instance, {name}"), t.instance(body, g, 1), fits);
+        tally.equal(&format!("instance, {name}, at n"), t.instance(body, g, 0), false);
+    }
+    let regrouped = {
+        let right = or(&mut t, q_i, r_i);
+        let (body, left) = (or(&mut t, p_i, right), or(&mut t, p1, q1));
+        let g = or(&mut t, left, r1);
+        t.instance(body, g, 1)
+    };
+    tally.equal("instance, regrouped", regrouped, false);
+
+    // Rule 3: `other` may have its sides swapped; `with` names the same body row.
+    let schema = "root least\n6 1\nkind a b c\n2 0 2 0\n2 1 2 0\n5 0 1 0\n5 1 0 0\n1 0 0 0\n6 2 1 0\n4 4 5 0\n";
+    for (name, with, other, expected) in [
+        ("in the body's order", "6 2 1 1", "5 7 8 0", (0, 0, 3, 0)),
+        ("with the instance's sides swapped", "6 2 1 1", "5 8 7 0", (0, 0, 3, 0)),
+        ("with half of the instance", "6 2 1 1", "5 7 7 0", (15, 1, 0, 0)),
+        ("with a body that is alike in another row", "6 3 1 1", "5 7 8 0", (15, 1, 0, 0)),
+    ] {
+        let proof = format!(
+            "kind a b c\n2 0 1 0\n2 1 1 0\n{with}\n{other}\nup rule on with other to by set\n\
+             -1 0 6 -1 -1 -1 0 6\n0 3 5 9 10 -1 0 4 5\n1 5 4 -1 -1 -1 0 4 9 10\n"
+        );
+        tally.equal(&format!("unfolding {name}"), check_texts(schema.as_bytes(), proof.as_bytes()), expected);
+    }
+}
+
+// ---------------------------------------------------------------------------------------------
 // The outside producer's records
 
 fn outside_records(tally: &mut Tally, folder: &Path) {
@@ -191,6 +334,8 @@ fn generated(tally: &mut Tally, cases: u64, seed: u64) {
     let mut counts: BTreeMap<&'static str, Counts> = BTreeMap::new();
     let mut soundness = Rng::new(seed);
     let (mut running, mut slowest) = (0.0, (0.0, 0));
+    // Cases that are made to show one thing, and how many of them are accepted, by sort and kind.
+    let mut aims: BTreeMap<(&'static str, &'static str), [usize; 2]> = BTreeMap::new();
     for number in 0..cases {
         let case = case(seed, number);
         let name = format!("case {number} of seed {seed} ({})", case.sort);
@@ -217,9 +362,17 @@ fn generated(tally: &mut Tally, cases: u64, seed: u64) {
         if let (Some(aim), Outcome::Verdict { verdict, .. }) = (&case.aim, &outcome) {
             let found = (verdict.answer, verdict.place);
             tally.equal(&name, found, aim.expected.unwrap_or(found));
+            for kind in &aim.kinds {
+                let [times, accepted] = aims.entry((case.sort, kind)).or_default();
+                *times += 1;
+                *accepted += usize::from(verdict.answer == 0);
+            }
         }
     }
     print_counts(&counts);
+    for ((sort, kind), [times, accepted]) in aims {
+        println!("{:58}{times:>6}{accepted:>10}", format!("{sort}: {kind}"));
+    }
     println!(
         "{:.1} s in all; {running:.2} s in the functions under test, {:.4} s for the slowest (case {})",
         start.elapsed().as_secs_f64(),
@@ -448,17 +601,27 @@ fn consistent(input: &Input, outcome: &Outcome, rng: &mut Rng) -> Result<(), Str
                 (2 | 3, 2) => Some([kind, a, 1, c - by]),
                 _ => None,
             });
-            ensure(*instance == (f_instance.is_some() && f_instance == plain(*g)), "another instance")
+            ensure(*instance == (f_instance.is_some() && f_instance == plain(*g)), "another instance")?;
+            // By trying both orders at each and and or.
+            if *k == 0 && size.iter().all(|size| size.is_some_and(|size| size <= 40)) {
+                let agree = agree_either_way(formulas.rows(), *f, *g);
+                ensure(*lowered == agree && formulas.alike(*f, *g) == agree, "alike otherwise")?;
+            }
+            Ok(())
         }
         _ => Err("an answer of another sort".to_string()),
     }
 }
 
-/// A formula written out, with each leaf changed; iterations are leaves, their bodies written as they are.
+/// A formula written out with the smaller side first, and each leaf changed; iterations are leaves, their
+/// bodies written as they are.
 fn render(formulas: &Formulas, row: i32, leaf: &dyn Fn([i64; 4]) -> Option<[i64; 4]>) -> Option<String> {
     let [kind, a, b, c] = formulas.row(row)?;
     Some(match kind {
-        AND | OR => format!("({} {kind} {})", render(formulas, a, leaf)?, render(formulas, b, leaf)?),
+        AND | OR => {
+            let (a, b) = (render(formulas, a, leaf)?, render(formulas, b, leaf)?);
+            format!("({} {kind} {})", a.clone().min(b.clone()), a.max(b))
+        }
         TRUE | FALSE | LITERAL | NEGATED => format!("{:?}", leaf([kind, a, b, c].map(i64::from))?),
         _ => {
             let [kind, _, b, c] = leaf([kind, a, b, c].map(i64::from))?;

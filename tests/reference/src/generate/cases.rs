@@ -7,6 +7,7 @@ use super::prover::grow;
 use super::rng::{mix, Rng};
 use super::schemata::{false_schema, pad_to, random_schema, Schema};
 use super::sharp::{move_set, sharp_tables};
+use super::sides::sides_tables;
 use super::tables::{
     damage_tables, damage_tree, extreme, lengthen, other_count, other_number, random_row, random_tables, Tables, Tree,
     TreeNode,
@@ -27,6 +28,8 @@ pub struct Case {
 
 /// The sort of a link to an exact ancestor.
 pub const EXACT_ANCESTOR: &str = "check, exact ancestor";
+/// The sort of a tableau with sides of ands and ors swapped.
+pub const SIDES: &str = "check, sides";
 
 /// What a case is made to show.
 #[derive(Clone, Debug)]
@@ -282,7 +285,7 @@ pub fn case(seed: u64, number: u64) -> Case {
         aim = Some(aim_of);
         Input::Check(tables)
     };
-    let (sort, input) = match rng.below(104) {
+    let (sort, input) = match rng.below(110) {
         0..=21 => ("check, grown", Input::Check(grown(rng))),
         22..=33 => ("check, grown and damaged", Input::Check(damaged(rng))),
         34..=49 => ("check, sharp", Input::Check(sharp_tables(rng))),
@@ -310,7 +313,8 @@ pub fn case(seed: u64, number: u64) -> Case {
         }
         97 => ("line at fault in a model", model_fault_case(rng)),
         98 | 99 => ("compare rows", compare_case(rng)),
-        _ => (EXACT_ANCESTOR, aimed(exact_tables(rng))),
+        100..=103 => (EXACT_ANCESTOR, aimed(exact_tables(rng))),
+        _ => (SIDES, aimed(sides_tables(rng))),
     };
     Case { sort, input, aim }
 }
@@ -983,7 +987,17 @@ fn compare_case(rng: &mut Rng) -> Input {
         }
         _ => {}
     }
-    let mut rows: Vec<[i32; 4]> = (0..pool.len() as i32).map(|number| pool.row(number)).collect();
+    // Sides swapped, then perhaps regrouped, or a leaf changed.
+    if rng.chance(70) {
+        pool.duplicates = rng.pick(&[0, 50, 100]);
+        g = g.and_then(|g| pool.swapped(g, rng)).or(g);
+        g = match rng.below(4) {
+            0 => g.and_then(|g| pool.regrouped(g, rng)).or(g),
+            1 => g.and_then(|g| pool.leaf_changed(g, rng)).or(g),
+            _ => g,
+        };
+    }
+    let mut rows = pool.rows();
     for _ in 0..rng.below(6) {
         let row = random_row(rng, rows.len());
         rows.push(row);

@@ -7,6 +7,7 @@
 //! * [`tables`]: a tableau as a tree and as tables, and damage to both
 //! * [`sharp`]: tableaux in which one condition decides
 //! * [`exact`]: links to an exact ancestor
+//! * [`sides`]: sides of ands and ors swapped
 //! * [`models`]: models, found or at random
 //! * [`texts`]: texts, and damage to them
 //! * [`cases`]: one case of any sort, and what this implementation answers to it
@@ -19,6 +20,7 @@ pub mod prover;
 pub mod rng;
 pub mod schemata;
 pub mod sharp;
+pub mod sides;
 pub mod tables;
 pub mod texts;
 

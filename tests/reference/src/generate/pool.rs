@@ -22,6 +22,21 @@ impl Pool {
         Pool { formulas: Formulas::default(), known: HashMap::new(), rng: Rng::new(rng.bits()), duplicates }
     }
 
+    /// A pool of these rows; an equal row is found, not added.
+    pub fn of_rows(rows: &[Row], rng: &mut Rng) -> Pool {
+        let mut pool = Pool::new(rng);
+        pool.duplicates = 0;
+        for (number, row) in rows.iter().enumerate() {
+            pool.formulas.push(*row);
+            pool.known.insert(*row, number as i32);
+        }
+        pool
+    }
+
+    pub fn rows(&self) -> Vec<Row> {
+        self.formulas.rows().to_vec()
+    }
+
     pub fn len(&self) -> usize {
         self.formulas.len()
     }
@@ -172,6 +187,81 @@ impl Pool {
                 BIG_AND | BIG_OR => [kind, a, b, c + k],
                 _ => [kind, a, b, c],
             })
+        })
+    }
+
+    /// The formula with sides of its ands and ors swapped at random, also inside bodies.
+    pub fn swapped(&mut self, number: i32, rng: &mut Rng) -> Option<i32> {
+        let [kind, a, b, c] = self.row(number);
+        match kind {
+            AND | OR => {
+                let (a, b) = (self.swapped(a, rng)?, self.swapped(b, rng)?);
+                self.add(if rng.chance(50) { [kind, b, a, 0] } else { [kind, a, b, 0] })
+            }
+            BIG_AND | BIG_OR => {
+                let body = self.swapped(a, rng)?;
+                self.add([kind, body, b, c])
+            }
+            _ => self.add([kind, a, b, c]),
+        }
+    }
+
+    /// The formula with one literal or constant changed.
+    pub fn leaf_changed(&mut self, number: i32, rng: &mut Rng) -> Option<i32> {
+        let [kind, a, b, c] = self.row(number);
+        match kind {
+            AND | OR if rng.chance(50) => {
+                let a = self.leaf_changed(a, rng)?;
+                self.add([kind, a, b, 0])
+            }
+            AND | OR => {
+                let b = self.leaf_changed(b, rng)?;
+                self.add([kind, a, b, 0])
+            }
+            BIG_AND | BIG_OR => {
+                let body = self.leaf_changed(a, rng)?;
+                self.add([kind, body, b, c])
+            }
+            LITERAL | NEGATED => match rng.below(4) {
+                0 => self.add([LITERAL + NEGATED - kind, a, b, c]),
+                1 => self.add([kind, if a == 0 { 1 } else { a - 1 }, b, c]),
+                _ => self.add([kind, a, b, c + rng.pick(&[-1, 1])]),
+            },
+            _ => self.constant(kind == FALSE),
+        }
+    }
+
+    /// The formula with (p and q) and r as p and (q and r) in one place, or the other way round, or so
+    /// with ors. `None` if there is no such place on the way down.
+    pub fn regrouped(&mut self, number: i32, rng: &mut Rng) -> Option<i32> {
+        let [kind, a, b, c] = self.row(number);
+        if kind >= BIG_AND {
+            let body = self.regrouped(a, rng)?;
+            return self.add([kind, body, b, c]);
+        }
+        if kind < AND {
+            return None;
+        }
+        let mut ways = [0, 1, 2, 3];
+        rng.shuffle(&mut ways);
+        ways.into_iter().find_map(|way| match (way, self.row(a), self.row(b)) {
+            (0, [kind_a, p, q, _], _) if kind_a == kind => {
+                let right = self.add([kind, q, b, 0])?;
+                self.add([kind, p, right, 0])
+            }
+            (1, _, [kind_b, q, r, _]) if kind_b == kind => {
+                let left = self.add([kind, a, q, 0])?;
+                self.add([kind, left, r, 0])
+            }
+            (2, ..) => {
+                let a = self.regrouped(a, rng)?;
+                self.add([kind, a, b, 0])
+            }
+            (3, ..) => {
+                let b = self.regrouped(b, rng)?;
+                self.add([kind, a, b, 0])
+            }
+            _ => None,
         })
     }
 

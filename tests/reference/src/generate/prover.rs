@@ -142,7 +142,7 @@ pub fn grow(schema: &Schema, rng: &mut Rng) -> Grown {
             set,
         })
         .collect();
-    let rows = (0..pool.len() as i32).map(|number| pool.row(number)).collect();
+    let rows = pool.rows();
     let mut tree = Tree { root: schema.root, least: schema.least, rows, schema_count, nodes };
     if rng.chance(50) {
         tree.renumber_nodes(rng);

@@ -1,6 +1,6 @@
 //! A small deterministic generator of pseudo-random numbers (splitmix64).
 
-#[derive(Clone, Debug)]
+#[derive(Clone, Debug, Default)]
 pub struct Rng {
     state: u64,
 }

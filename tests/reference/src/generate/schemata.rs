@@ -19,7 +19,7 @@ pub struct Schema {
 
 impl Schema {
     pub fn rows(&self) -> Vec<Row> {
-        (0..self.pool.len() as i32).map(|number| self.pool.row(number)).collect()
+        self.pool.rows()
     }
 }
 

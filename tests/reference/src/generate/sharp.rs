@@ -703,7 +703,7 @@ fn try_sharp_link(pool: &mut Pool, rng: &mut Rng) -> Option<Tree> {
     }
     offered.extend(known.iter().copied().filter(|_| rng.chance(50)));
     nodes.push(TreeNode { fields: [parent, 8, -1, -1, -1, target, by], set: sorted(&offered) });
-    let rows = (0..pool.len() as i32).map(|number| pool.row(number)).collect();
+    let rows = pool.rows();
     Some(Tree { root, least, rows, schema_count, nodes })
 }
 

@@ -36,6 +36,28 @@ pub struct Tables {
     pub member_count: usize,
 }
 
+impl Tables {
+    /// The tree of tables that have what their counts say, with sets in their places.
+    pub fn tree(&self) -> Tree {
+        let rows = |table: &[i32], count: usize| -> Vec<Row> {
+            table.chunks_exact(ROW_WIDTH).take(count).map(|row| [row[0], row[1], row[2], row[3]]).collect()
+        };
+        let node = |node: &[i32]| {
+            let (start, length) = (node[7] as usize, node[8] as usize);
+            let mut fields = [0; 7];
+            fields.copy_from_slice(&node[..7]);
+            TreeNode { fields, set: self.members[start..start + length].to_vec() }
+        };
+        Tree {
+            root: self.root,
+            least: self.least,
+            rows: [rows(&self.schema, self.schema_count), rows(&self.proof, self.proof_count)].concat(),
+            schema_count: self.schema_count,
+            nodes: self.nodes.chunks_exact(NODE_WIDTH).take(self.node_count).map(node).collect(),
+        }
+    }
+}
+
 impl Tree {
     pub fn tables(&self) -> Tables {
         let schema_count = self.schema_count.min(self.rows.len());
@@ -60,13 +82,23 @@ impl Tree {
         }
     }
 
-    /// Numbers the nodes anew: a parent before its children, brothers in their order.
-    pub fn renumber_nodes(&mut self, rng: &mut Rng) {
-        let count = self.nodes.len();
-        let mut children: Vec<Vec<usize>> = vec![Vec::new(); count];
+    /// The children of each node, in their order.
+    pub fn children(&self) -> Vec<Vec<usize>> {
+        let mut children: Vec<Vec<usize>> = vec![Vec::new(); self.nodes.len()];
         for (number, node) in self.nodes.iter().enumerate().skip(1) {
             children[node.fields[0] as usize].push(number);
         }
+        children
+    }
+
+    /// Numbers the nodes anew: a parent before its children, brothers in their order.
+    pub fn renumber_nodes(&mut self, rng: &mut Rng) {
+        self.order_nodes(&self.children(), rng);
+    }
+
+    /// The same with the children of each node in the order given.
+    pub fn order_nodes(&mut self, children: &[Vec<usize>], rng: &mut Rng) {
+        let count = self.nodes.len();
         // Places from which the next node may come: a list of brothers, the first not yet taken.
         let mut waiting: Vec<(usize, usize)> = Vec::new();
         let mut order = vec![0];

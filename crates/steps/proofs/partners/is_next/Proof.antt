@@ -4,7 +4,7 @@ use Prim.Native.Nat.{ℕ, _+_}
 use mathlib.Core.Path.{_∙_, ap₂}
 use lib.Dec.{eqb}
 use Rattle.formula.specs.Column.{column}
-use Rattle.leaves.proofs.Compares.{offset-small}
+use Rattle.formula.proofs.RowLaws.{offset-small}
 use Rattle.steps.proofs.PartnerLaws.{next-test}
 use Rattle.stab.specs.Formula.{joined}
 use Rattle.steps.proofs.partners.is_next.Statement.{statement}

@@ -16,8 +16,11 @@ use Rattle.stab.proofs.Bools.{asked-false, asked-true}
 abbrev Lent : tie.Start → Tableau
 Lent s = lent (s .args .schema .now) (s .args .proof .now) (s .args .nodes .now) [] (s .args .t)
 
+abbrev begin : tie.Else1 → tie.Start
+begin c = c .before .before .before .before
+
 -- the rule is 3 or 4
-numbered : (c : tie.Else1) → (n : ℕ) × (node (Lent (c .before .before)) (c .before .before .args .j) .rule ≡ pos n) × (3 ≤ n) × (n < 5)
+numbered : (c : tie.Else1) → (n : ℕ) × (node (Lent (begin c)) (begin c .args .j) .rule ≡ pos n) × (3 ≤ n) × (n < 5)
 unfolding node
 numbered c = unfolding-number _ (asked-true (c .before .unfolds .ensures) (c .if1 .left))
 
@@ -26,7 +29,7 @@ unfolds-requires c κs = search needs
 
 returns : tie.Need-returns
 unfolding node
-returns c = no-partners (Lent (c .before .before)) _ (asked-false (c .before .unfolds .ensures) (c .if1 .taken))
+returns c = no-partners (Lent (c .before .before .before .before)) _ (asked-false (c .before .unfolds .ensures) (c .if1 .taken))
 
 natural-of-requires : tie.Need-natural-of-requires
 natural-of-requires c κs = search needs
@@ -37,16 +40,16 @@ natural-of-requires-2 c κs = search needs
 is-shortened-requires : tie.Need-is-shortened-requires
 unfolding node row rows rowCount
 is-shortened-requires c κs =
-    let s = c .before .before .before .before in
+    let s = begin (c .before .before) in
     let k = numbered (c .before .before) in
-    let p = unfold-on (Lent s) _ _ (k .1) (s .pre .1 .0) (s .pre .1 .1) (k .2) (k .3) in
-    let q = unfold-with (Lent s) _ _ (k .1) (s .pre .1 .0) (s .pre .1 .1) (k .2) (k .3) in
-    rw (c .before .natural-of .ensures .0, c .natural-of2 .ensures .0) ((omega (arith, p .0), omega (arith, q .0)), (p .2, q .2))
+    let p = unfold-on (Lent s) _ _ (k .1) (s .pre .1 .0) (s .pre .1 .1 .1 .formed) (k .2) (k .3) in
+    let q = unfold-with (Lent s) _ _ (k .1) (s .pre .1 .0) (s .pre .1 .1 .1 .formed) (k .2) (k .3) in
+    rw (c .before .natural-of .ensures .0, c .natural-of2 .ensures .0) ((omega (arith, p .0, s .pre .1 .1 .1 .few), omega (arith, q .0, s .pre .1 .1 .1 .few)), (p .2, q .2))
 
 returns-2 : tie.Need-returns-2
 unfolding node row rows
 returns-2 c =
-    let s = c .before .before .before .before .before .before in
+    let s = begin (c .before .before .before .before) in
     not-shortened (Lent s) _
     (asked-true (c .before .before .before .before .before .unfolds .ensures) (c .before .before .before .before .if1 .left))
     (rw (c .before .before .before .natural-of .ensures .0, c .before .before .natural-of2 .ensures .0) at (asked-false (c .before .is-shortened .ensures) (c .if2 .taken)))
@@ -58,19 +61,19 @@ is-instance-requires : tie.Need-is-instance-requires
 unfolding node row rows rowCount
 is-instance-requires c κs =
     let e = c .before .before .before .before .before in
-    let s = e .before .before in
+    let s = begin e in
     let k = numbered e in
-    let p = unfold-on (Lent s) _ _ (k .1) (s .pre .1 .0) (s .pre .1 .1) (k .2) (k .3) in
-    let q = unfold-kind (Lent s) _ _ (k .1) (s .pre .1 .0) (s .pre .1 .1) (k .2) (k .3) in
-    let r = unfold-other (Lent s) _ _ (k .1) (s .pre .1 .0) (s .pre .1 .1) (k .2) (k .3) in
+    let p = unfold-on (Lent s) _ _ (k .1) (s .pre .1 .0) (s .pre .1 .1 .1 .formed) (k .2) (k .3) in
+    let q = unfold-kind (Lent s) _ _ (k .1) (s .pre .1 .0) (s .pre .1 .1 .1 .formed) (k .2) (k .3) in
+    let r = unfold-other (Lent s) _ _ (k .1) (s .pre .1 .0) (s .pre .1 .1 .1 .formed) (k .2) (k .3) in
     rw (c .before .before .before .before .natural-of .ensures .0, c .natural-of3 .ensures .0)
-    ((omega (arith, p .0), omega (arith, r)), (q, (λ a h. s .pre .1 .1 a (omega (arith, p .0)), λ a h. s .pre .1 .1 a (omega (arith, r)))))
+    ((_, p .0, r, s .pre .1 .1 .1, s .pre .1 .1 .0), q)
 
 returns-3 : tie.Need-returns-3
 unfolding node row rows isInstance formula
 returns-3 c =
     let e = c .before .before .before .before .before .before in
-    let s = e .before .before in
+    let s = begin e in
     c .is-instance .ensures
     ∙ rw (c .before .before .before .before .before .natural-of .ensures .0, c .before .natural-of3 .ensures .0)
     (instance-decides (Lent s) _

@@ -11,16 +11,16 @@ use Rattle.steps.proofs.steps.each_node.Statement.{statement}
 use Rattle.steps.proofs.steps.each_node.Tie as tie
 
 abbrev Inv-loop : tie.InvT-loop
-Inv-loop schema proof nodes members facts work t j₀ j = (j ≤ t .nodes) × (scan (nodeRefusal (lent schema proof nodes members t)) j ≡ none)
+Inv-loop schema proof nodes members facts forms work t j₀ j = (j ≤ t .nodes) × (scan (nodeRefusal (lent schema proof nodes members t)) j ≡ none)
 
 abbrev μ-loop : tie.MeasureT-loop
-μ-loop schema proof nodes members facts work t j₀ j = t .nodes - j
+μ-loop schema proof nodes members facts forms work t j₀ j = t .nodes - j
 
 loop-holds : tie.Need-loop-holds Inv-loop μ-loop
 loop-holds c = (omega arith, scan-none _ 0 (λ k l. absurd (omega arith)))
 
 judge-requires : tie.Need-judge-requires Inv-loop μ-loop
-judge-requires c κs = (omega arith, c .before .before .before .before .before .pre)
+judge-requires c κs = (omega arith, c .before .before .before .before .before .before .pre)
 
 enum-told : tie.Need-enum-told Inv-loop μ-loop
 enum-told c = search needs
@@ -36,7 +36,7 @@ returns c =
     e ∙ sym (scan-found _ _ _ _ (c .before .before .before .if1 .taken) (l .loop .inv .1) (sym (c .before .before .judge .ensures) ∙ e))
 
 add-j : tie.Need-add-j Inv-loop μ-loop
-add-j c = omega (arith, c .before .before .before .before .before .before .before .before .pre .nodeLimit)
+add-j c = omega (arith, c .before .before .before .before .before .before .before .before .before .pre .nodeLimit)
 
 loop-less : tie.Need-loop-less Inv-loop μ-loop
 loop-less c = omega arith
@@ -50,7 +50,7 @@ loop-again c =
 returns-2 : tie.Need-returns-2 Inv-loop μ-loop
 unfolding finding
 returns-2 c =
-    let s = c .before .before .before .before .before in
+    let s = c .before .before .before .before .before .before in
     let l = c .before .before in
     let e : l .loop .j ≡ s .args .t .nodes = omega arith in
     sym (subst (λ (n : ℕ). scan (nodeRefusal (lent (s .args .schema .now) (s .args .proof .now) (s .args .nodes .now) (s .args .members .now) (s .args .t))) n ≡ none) e (l .loop .inv .1))

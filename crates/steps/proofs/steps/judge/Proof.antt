@@ -30,11 +30,11 @@ returns : tie.Need-returns
 unfolding finding
 returns c =
     let f = ap finding (c .enum-told2 .given .1) in
-    f ∙ step-found (Lent (c .before .before .before .before .before)) _ _ (sym (c .before .before .step .ensures) ∙ f)
+    f ∙ step-found (Lent (c .before .before .before .before .before .before)) _ _ (sym (c .before .before .step .ensures) ∙ f)
 
 -- where 11 to 16 found nothing
 abbrev Begin : tie.After-enum-told → tie.Start
-Begin c = c .before .before .before .before .before
+Begin c = c .before .before .before .before .before .before
 
 stepped : (c : tie.After-enum-told) → stepRefusal (Lent (Begin c)) (Begin c .args .j) ≡ none
 unfolding finding

@@ -32,8 +32,8 @@ unfolding ofRule
 all-lowered-requires c κs =
     let e = c .before .before in
     let p = e .before .before .before .pre in
-    let q = p .1 .1 .1 .1 (asked-true (e .before .is-of .ensures) (e .if1 .left)) in
-    rw (c .before .natural-of .ensures .0) ((p .0 .0, q .0, p .0 .1), (p .1 .0, (p .1 .1 .0, (p .1 .1 .1 .0, q .1))))
+    let q = p .1 .1 .1 (asked-true (e .before .is-of .ensures) (e .if1 .left)) in
+    rw (c .before .natural-of .ensures .0) ((p .0, q .0), (p .1 .0, (p .1 .1 .0, q .1)))
 
 returns-2 : tie.Need-returns-2
 unfolding loweredFits ofRule node nodeAt

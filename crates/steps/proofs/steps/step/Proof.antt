@@ -21,7 +21,7 @@ small s = omega (arith, s .pre .0, s .pre .1 .nodeLimit)
 
 -- the tests that are asked-true
 abbrev Start1 : tie.Else1 → tie.Start
-Start1 c = c .before .before .before .before
+Start1 c = c .before .before .before .before .before
 
 drawn-passed : (c : tie.Else1) → drawn (Lent (Start1 c)) (Start1 c .args .j) ≡ true
 drawn-passed c = asked-true (c .before .drawn-fits .ensures) (c .if1 .left)
@@ -58,17 +58,17 @@ partners-passed c = asked-true (c .before .partners-fit .ensures) (c .if5 .left)
 
 drawn-fits-requires : tie.Need-drawn-fits-requires
 drawn-fits-requires c κs =
-    let s = c .before .before in
-    (small s, λ q. child-known (Lent s) _ _ (s .pre .1) _ q (s .pre .0))
+    let s = c .before .before .before in
+    (small s, λ q. child-known (Lent s) _ _ _ (s .pre .1) _ q (s .pre .0))
 
 returns : tie.Need-returns
-returns c = drawn-found (Lent (c .before .before .before .before)) _ (asked-false (c .before .drawn-fits .ensures) (c .if1 .taken))
+returns c = drawn-found (Lent (c .before .before .before .before .before)) _ (asked-false (c .before .drawn-fits .ensures) (c .if1 .taken))
 
 fields-fit-requires : tie.Need-fields-fit-requires
 unfolding rowCount
 fields-fit-requires c κs =
     let s = Start1 c in
-    ((small s, s .pre .1 .rowLimit), set-held (Lent s) _ _ (s .pre .1) _ (s .pre .0))
+    ((small s, s .pre .1 .compared .few), set-held (Lent s) _ _ _ (s .pre .1) _ (s .pre .0))
 
 returns-2 : tie.Need-returns-2
 returns-2 c = fields-found (Lent (Start1 (c .before .before))) _ (drawn-passed (c .before .before)) (asked-false (c .before .fields-fit .ensures) (c .if2 .taken))
@@ -76,7 +76,7 @@ returns-2 c = fields-found (Lent (Start1 (c .before .before))) _ (drawn-passed (
 target-fits-requires : tie.Need-target-fits-requires
 target-fits-requires c κs =
     let s = Start2 c in
-    (small s, λ i q. ups (Lent s) _ _ (s .pre .1) i (omega (arith, s .pre .0)))
+    (small s, λ i q. ups (Lent s) _ _ _ (s .pre .1) i (omega (arith, s .pre .0)))
 
 returns-3 : tie.Need-returns-3
 unfolding targetFits node
@@ -88,7 +88,7 @@ bound-fits-requires : tie.Need-bound-fits-requires
 unfolding rows rowCount node
 bound-fits-requires c κs =
     let s = Start3 c in
-    ((s .pre .0, s .pre .1 .nodeLimit, s .pre .1 .rowLimit), (bare (c .before .before), (s .pre .1 .formed, (s .pre .1 .worked, target-less (Lent s) _ (target-passed c)))))
+    ((s .pre .0, s .pre .1 .nodeLimit, s .pre .1 .compared .few), (bare (c .before .before), (s .pre .1 .compared .formed, (s .pre .1 .worked, target-less (Lent s) _ (target-passed c)))))
 
 returns-4 : tie.Need-returns-4
 unfolding boundFits bound row rows node
@@ -100,7 +100,7 @@ partners-fit-requires : tie.Need-partners-fit-requires
 unfolding rows rowCount
 partners-fit-requires c κs =
     let s = Start4 c in
-    ((small s, s .pre .1 .rowLimit), (bare (c .before .before .before .before), s .pre .1 .formed))
+    (small s, (bare (c .before .before .before .before), (s .pre .1 .known, s .pre .1 .compared)))
 
 returns-5 : tie.Need-returns-5
 unfolding partnersFit isInstance formula row rows node
@@ -113,7 +113,7 @@ unfolding rows rowCount node
 lowered-fits-requires c κs =
     let s = Start5 c in
     let r = s .pre .1 in
-    ((small s, r .rowLimit), (r .known, (r .formed, (set-of-rows (Lent s) _ _ r _ (s .pre .0), λ e. (let l = target-less (Lent s) _ (target-passed (c .before .before .before .before)) e in (omega (arith, l, small s), set-of-rows (Lent s) _ _ r _ (omega (arith, l, s .pre .0))))))))
+    (small s, (r .compared, (set-of-rows (Lent s) _ _ _ r _ (s .pre .0), λ e. (let l = target-less (Lent s) _ (target-passed (c .before .before .before .before)) e in (omega (arith, l, small s), set-of-rows (Lent s) _ _ _ r _ (omega (arith, l, s .pre .0)))))))
 
 returns-6 : tie.Need-returns-6
 returns-6 c =

@@ -1,21 +1,23 @@
-use Prim.Native.Nat.{_+_, _*_}
+use Prim.Native.Nat.{_+_, _*_, _≤_}
 use native.Mathlib.Omega.{arith}
-use mathlib.Core.Path.{_≡_, sym, _∙_, ap, ap₂}
+use mathlib.Core.Path.{_≡_, sym, _∙_, ap₂}
 use mathlib.Core.Bool.{true}
 use mathlib.Core.Option.{Option}
 use lib.Dec.{leb}
 use lib.ListN.{length}
 use lib.IntN.{ℤ}
+use mir.Syntax.{w32}
+use mir.Val.{toZ, ofZ}
 use mir.Facts.{toZ-ofZ}
 use denote.Ref.{now}
 use borrow.Author.Tests.{leb-true}
 use Rattle.stab.specs.Basic.{_otherwise_, scan}
 use Rattle.stab.specs.Node.{Tableau, rowCount}
 use Rattle.stab.specs.declared.Verdict.{Verdict}
-use Rattle.stab.specs.Check.{refusal, finding, holds, tablesHold, withinLimits, nodeRefusal}
+use Rattle.stab.specs.Check.{refusal, holds, tablesHold, withinLimits, nodeRefusal}
 use Rattle.stab.specs.declared.Refusal.the-variants.{TableTooShort, TooMany}
 use Rattle.stab.proofs.Bools.{and-left, and-right, asked-false, asked-true}
-use Rattle.stab.proofs.Findings.{stays, nothing-found, later}
+use Rattle.stab.proofs.Findings.{later}
 use Rattle.branch.specs.Work.{tableau}
 use Rattle.tableau.specs.Passes.{rowsRefusal, nodesRefusal}
 use Rattle.tableau.proofs.CheckLaws.{whole-found, whole-passes, refusal-is}
@@ -71,72 +73,54 @@ after-limits c x e =
     (later _ _ _ (whole-passes (withinLimits T) TooMany (limited c)) e)
     ∙ sym (refusal-is T)
 
-slice-aggregate-ready : tie.Need-slice-aggregate-ready
-slice-aggregate-ready c = search needs
-
-slice-aggregate-ready-2 : tie.Need-slice-aggregate-ready-2
-slice-aggregate-ready-2 c = search needs
-
-ready-requires : tie.Need-ready-requires
+-- the sizes of the tables
+sizes : (c : tie.Else2) →
+    let a = c .before .before .before .before .args in
+    (a .s + a .p ≤ 1024) × (a .k ≤ 1024) × (a .m ≤ 8192) × (9 * a .k ≤ length (now (a .nodes))) × (a .m ≤ length (now (a .members)))
 unfolding tablesHold withinLimits rowCount tableau holds
-ready-requires c κs =
-    let a = c .before .before .before .before .before .before .args in
-    let h = held (c .before .before .before .before) in
-    let l = limited (c .before .before) in
+sizes c =
+    let a = c .before .before .before .before .args in
+    let h = held (c .before .before) in
+    let l = limited c in
     let tables = and-right (holds (now (a .proof)) 4 (a .p)) _ (and-right (holds (now (a .schema)) 4 (a .s)) _ h) in
     let nodes = leb-true (9 * a .k) (length (now (a .nodes))) (and-left _ _ tables) in
     let members = leb-true (1 * a .m) (length (now (a .members))) (and-right (holds (now (a .nodes)) 9 (a .k)) _ tables) in
-    let few = leb-true (a .s + a .p) 1024 (and-left _ _ l) in
     let more = and-right (leb (a .s + a .p) 1024) _ l in (
-      few,
-      omega arith,
+      leb-true (a .s + a .p) 1024 (and-left _ _ l),
       leb-true (a .k) 1024 (and-left _ _ more),
       leb-true (a .m) 8192 (and-right (leb (a .k) 1024) _ more),
       nodes,
       omega (arith, members),
-      omega arith,
     )
 
--- what `ready` found
-ready-found : (c : tie.After-ready) →
-    let T = lent (c .before .before .before .before .before .before .before) in
-    finding (c .ready .result) ≡ (rowsRefusal T otherwise nodesRefusal T)
-ready-found c =
-    let start = c .before .before .before .before .before .before .before in
-    c .ready .ensures .0
-    ∙ ap₂ (λ (r l : ℤ). rowsRefusal (lentAt start r l) otherwise nodesRefusal (lentAt start r l)) (toZ-ofZ (start .fits .root)) (toZ-ofZ (start .fits .least))
+-- the same of what is found with root and least as they are passed on
+after-limits-as : (c : tie.Else2) (x : Option Verdict) →
+    let start = c .before .before .before .before in
+    let T = lentAt start (toZ w32 (ofZ w32 (start .args .root))) (toZ w32 (ofZ w32 (start .args .least))) in
+    x ≡ ((rowsRefusal T otherwise nodesRefusal T) otherwise scan (nodeRefusal T) (start .args .k)) → x ≡ refusal (lent start)
+unfolding tableau
+after-limits-as c x e =
+    let start = c .before .before .before .before in
+    after-limits c x
+    (e
+    ∙ ap₂ (λ (r l : ℤ). (rowsRefusal (lentAt start r l) otherwise nodesRefusal (lentAt start r l)) otherwise scan (nodeRefusal (lentAt start r l)) (start .args .k)) (toZ-ofZ (start .fits .root)) (toZ-ofZ (start .fits .least)))
 
-enum-told : tie.Need-enum-told
-enum-told c = search needs
+add-if3 : tie.Need-add-if3
+add-if3 c = omega (arith, sizes c .0)
 
-enum-told-2 : tie.Need-enum-told-2
-enum-told-2 c = search needs
+small-record-requires : tie.Need-small-record-requires
+small-record-requires c κs =
+    let z = sizes (c .before .before) in
+    (omega (arith, c .before .if3 .taken), omega (arith, c .if4 .taken), z .2, z .3, z .4)
 
 returns-3 : tie.Need-returns-3
-returns-3 c =
-    after-limits (c .before .before .before .before .before .before .before) _
-    (stays _ _ _ _ _ (ready-found (c .before .before .before .before)) (c .enum-told2 .given .1))
+returns-3 c = after-limits-as (c .before .before .before) _ (c .small-record .ensures)
 
-slice-aggregate-each-node : tie.Need-slice-aggregate-each-node
-slice-aggregate-each-node c = search needs
-
-slice-aggregate-each-node-2 : tie.Need-slice-aggregate-each-node-2
-slice-aggregate-each-node-2 c = search needs
-
-each-node-requires : tie.Need-each-node-requires
-unfolding tableau finding
-each-node-requires c κs =
-    c .before .before .before .before .before .before .ready .ensures .1 (ap finding (c .before .before .enum-told .given .1))
+large-record-requires : tie.Need-large-record-requires
+large-record-requires c κs = sizes (c .before)
 
 returns-4 : tie.Need-returns-4
-unfolding tableau
-returns-4 c =
-    let told = c .before .before .before in
-    let start = told .before .before .before .before .before .before .before .before .before .before .before in
-    after-limits (told .before .before .before .before .before .before .before) _
-    (later _ _ _ (nothing-found _ _ (ready-found (told .before .before .before .before)) (told .enum-told .given .1))
-    (c .each-node .ensures
-    ∙ ap₂ (λ (r l : ℤ). scan (nodeRefusal (lentAt start r l)) (start .args .k)) (toZ-ofZ (start .fits .root)) (toZ-ofZ (start .fits .least))))
+returns-4 c = after-limits-as (c .before .before) _ (c .large-record .ensures)
 
 pub first-refusal-spec : {M : Type 1} → statement M
 first-refusal-spec =
@@ -146,13 +130,8 @@ first-refusal-spec =
     returns
     few-requires
     returns-2
-    slice-aggregate-ready
-    slice-aggregate-ready-2
-    ready-requires
-    enum-told
-    enum-told-2
+    add-if3
+    small-record-requires
     returns-3
-    slice-aggregate-each-node
-    slice-aggregate-each-node-2
-    each-node-requires
+    large-record-requires
     returns-4)

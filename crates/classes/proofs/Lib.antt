@@ -1,0 +1,9 @@
+mod Slides
+mod Least
+mod Shifts
+mod ByKind
+mod Keys
+mod Forms
+mod GoingBack
+mod Meets
+pub mod Twins

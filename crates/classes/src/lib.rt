@@ -1,0 +1,58 @@
+// Classes of formula rows that are alike up to one shift, worked out once for each row.
+mod chain;
+pub mod compare;
+mod form;
+
+use formula::KIND;
+use formula::natural_in;
+ghost use mathlib.Core.Path.{_≡_};
+ghost use Prim.Native.Nat.{ℕ, _+_, _*_, _<_, _≤_};
+ghost use lib.ListN.{length, getD};
+ghost use Rattle.stab.specs.Formula.{joined};
+ghost use Rattle.formula.specs.Facts.{AllFormed};
+ghost use Rattle.classes.specs.Class.{AllWorked};
+ghost use Rattle.classes.specs.Key.{Done};
+
+// One row more.
+fn step(
+    schema: &[i32],
+    s: usize,
+    proof: &[i32],
+    r: usize,
+    forms: &mut [u32],
+    sides: &mut [u32],
+    heads: &mut [u32],
+)
+    requires { ⌜ (r < 1024) × (4 * r + 3 < length (now forms)) × (2 * r + 1 < length (now sides)) × (1021 ≤ length (now heads)) ⌝ }
+    requires { ⌜ AllFormed (joined (now schema) s (now proof)) (r + 1) ⌝ }
+    requires { ⌜ Done (joined (now schema) s (now proof)) (now forms) (now sides) (now heads) r ⌝ }
+    ensures { λ _. ⌜ Done (joined (now (schema .entry)) s (now (proof .entry))) (now (forms .exit)) (now (sides .exit)) (now (heads .exit)) (r + 1) ⌝ }
+{
+    let f = form::of_row(schema, s, proof, r, forms);
+    let h = chain::hash(natural_in(schema, s, proof, r, KIND), f.low, f.high);
+    let class = chain::class_of(schema, s, proof, r, f, h, forms, sides, heads);
+    chain::keep(r, h, class, f, forms, sides, heads);
+}
+
+// The class, the shift and the leading part of each of n well-formed rows. What is lent: four numbers a row, which keep them;
+// two numbers a row and 1,021 numbers, of which the latter are 0.
+pub fn work_out(
+    schema: &[i32],
+    s: usize,
+    proof: &[i32],
+    n: usize,
+    forms: &mut [u32],
+    sides: &mut [u32],
+    heads: &mut [u32],
+)
+    requires { ⌜ (n ≤ 1024) × (4 * n ≤ length (now forms)) × (2 * n ≤ length (now sides)) × (1021 ≤ length (now heads)) ⌝ }
+    requires { ⌜ ((h : ℕ) → h < 1021 → getD (now heads) h 0 ≡ 0) ⌝ }
+    requires { ⌜ AllFormed (joined (now schema) s (now proof)) n ⌝ }
+    ensures { λ _. ⌜ AllWorked (joined (now (schema .entry)) s (now (proof .entry))) (now (forms .exit)) n ⌝ }
+{
+    let mut r: usize = 0;
+    while r < n {
+        step(schema, s, proof, r, forms, sides, heads);
+        r += 1;
+    }
+}
