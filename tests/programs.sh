@@ -142,6 +142,9 @@ for f in schema.txt proof.txt model.txt; do
   spoil "empty $f" $f </dev/null
   spoil "binary $f" $f < <(head -c 5000 target/bin/check_proof)
   spoil "65,536 bytes in $f" $f < <(head -c 65536 /dev/zero | tr '\0' '7')
+  long=$(head -c 65535 /dev/zero | tr '\0' '7')
+  spoil "one line of 65,536 bytes in $f" $f <<<"$long"
+  said "one line of 65,536 bytes in $f" "$f:1: $long"
   spoil "65,537 bytes in $f" $f < <(head -c 65537 /dev/zero | tr '\0' '7')
   said "65,537 bytes in $f" "refused: $f has over 65,536 bytes (1)"
   spoil "3,000,000 bytes in $f" $f < <(head -c 3000000 /dev/zero | tr '\0' '7')

@@ -2,30 +2,7 @@
 use libc::STDERR_FILENO;
 use libc::STDOUT_FILENO;
 
-// Writes a file's name, a line's number and the line to standard error.
-fn tell(name: &[u8], k: usize, line: &[u8]) {
-    io::write_all(STDERR_FILENO, name);
-    io::write_all(STDERR_FILENO, b":");
-    io::print_decimal(STDERR_FILENO, k as u64);
-    io::write_all(STDERR_FILENO, b": ");
-    io::write_all(STDERR_FILENO, line);
-    io::write_all(STDERR_FILENO, b"\n");
-}
-
-// The line that a refusal points to, where there is one.
-fn show<'a>(schema: &'a [u8], model: &'a [u8]) {
-    let fault = program::model_fault(schema, model);
-    if fault.line == 0 {
-        return;
-    }
-    let line = line::line(schema, model, fault.second, fault.line);
-    if fault.second {
-        tell(b"model.txt", fault.line, line);
-    } else {
-        tell(b"schema.txt", fault.line, line);
-    }
-}
-
+// The line at fault is told in the room of the other text, which is needed no more.
 fn main() {
     let mut schema = files::room();
     let mut model = files::room();
@@ -34,5 +11,12 @@ fn main() {
     let mut out = [0u8; 64];
     let n = program::model_texts(&schema[..s], &model[..m], &mut out);
     io::write_all(STDOUT_FILENO, &out[..n]);
-    show(&schema[..s], &model[..m]);
+    let fault = program::model_fault(&schema[..s], &model[..m]);
+    if fault.second {
+        let t = shown::tell(b"model.txt", &model[..m], fault.line, &mut schema);
+        io::write_all(STDERR_FILENO, &schema[..t]);
+    } else {
+        let t = shown::tell(b"schema.txt", &schema[..s], fault.line, &mut model);
+        io::write_all(STDERR_FILENO, &model[..t]);
+    }
 }

@@ -2,30 +2,7 @@
 use libc::STDERR_FILENO;
 use libc::STDOUT_FILENO;
 
-// Writes a file's name, a line's number and the line to standard error.
-fn tell(name: &[u8], k: usize, line: &[u8]) {
-    io::write_all(STDERR_FILENO, name);
-    io::write_all(STDERR_FILENO, b":");
-    io::print_decimal(STDERR_FILENO, k as u64);
-    io::write_all(STDERR_FILENO, b": ");
-    io::write_all(STDERR_FILENO, line);
-    io::write_all(STDERR_FILENO, b"\n");
-}
-
-// The line that a refusal points to, where there is one.
-fn show<'a>(schema: &'a [u8], proof: &'a [u8]) {
-    let fault = program::check_fault(schema, proof);
-    if fault.line == 0 {
-        return;
-    }
-    let line = line::line(schema, proof, fault.second, fault.line);
-    if fault.second {
-        tell(b"proof.txt", fault.line, line);
-    } else {
-        tell(b"schema.txt", fault.line, line);
-    }
-}
-
+// The line at fault is told in the room of the other text, which is needed no more.
 fn main() {
     let mut schema = files::room();
     let mut proof = files::room();
@@ -34,5 +11,12 @@ fn main() {
     let mut out = [0u8; 64];
     let n = program::check_texts(&schema[..s], &proof[..p], &mut out);
     io::write_all(STDOUT_FILENO, &out[..n]);
-    show(&schema[..s], &proof[..p]);
+    let fault = program::check_fault(&schema[..s], &proof[..p]);
+    if fault.second {
+        let t = shown::tell(b"proof.txt", &proof[..p], fault.line, &mut schema);
+        io::write_all(STDERR_FILENO, &schema[..t]);
+    } else {
+        let t = shown::tell(b"schema.txt", &schema[..s], fault.line, &mut proof);
+        io::write_all(STDERR_FILENO, &proof[..t]);
+    }
 }

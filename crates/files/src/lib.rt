@@ -4,11 +4,11 @@ ghost use lib.ListN.{length, replicate};
 ghost use Rattle.io.specs.Counts.{Counts};
 ghost use Rattle.files.specs.Loaded.{Loaded};
 
-// Room for a text and one byte more: what fills it is too long, and is refused as such.
-pub fn room() -> [u8; 65537]
-    ensures { λ r. ⌜ r ≡ replicate 65537 0 ⌝ }
+// Room for a text and 64 bytes more: for its longest line with a file's name and a number. A text that goes on past 65,536 bytes is refused as too long.
+pub fn room() -> [u8; 65600]
+    ensures { λ r. ⌜ r ≡ replicate 65600 0 ⌝ }
 {
-    [0; 65537]
+    [0; 65600]
 }
 
 // Reads a file to its end or to that of the buffer, and answers how many bytes stand in front of the buffer. A file that cannot be

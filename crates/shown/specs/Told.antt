@@ -1,0 +1,15 @@
+-- What the programs say of a line: the name of its file, its number, the line.
+use Prim.Native.Nat.{ℕ}
+use mathlib.Core.List.{List, [], _∷_, _++_}
+use lib.Dec.{leb}
+use lib.IntN.{pos}
+use lib.ListN.{length}
+use Rattle.stab.specs.Basic.{if_then_else_, _and_}
+use Rattle.stab.specs.Text.{bytes, newline, decimal}
+
+unfoldable pub told : List ℕ → ℕ → List ℕ → List ℕ
+told name k line = name ++ bytes ":" ++ decimal (pos k) ++ bytes ": " ++ line ++ newline ∷ []
+
+-- what n bytes hold of it: nothing of line 0, which is no line, of a number over five digits, and where it does not fit
+unfoldable pub toldIn : ℕ → List ℕ → ℕ → List ℕ → List ℕ
+toldIn n name k line = if leb 1 k and leb k 99999 and leb (length (told name k line)) n then told name k line else []
