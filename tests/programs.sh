@@ -68,9 +68,21 @@ $(cat "$r/expected")" "$out" "$status"
   fi
 done
 
+# What is said of a refused record.
+told() { # RECORD WORDS...
+  local record=$1 words
+  shift
+  ./zorambi check "records/refused/$record" >/dev/null 2>"$work/err"
+  for words in "$@"; do said "check $record" "$words"; done
+}
+told split_at_upper_bound "refused: a split's K (14) at node 9" "proof.txt:16: 7 2 -1 -1 -1 -1 8 1 2 3"
+told split_negative_by "refused: the fields of rule 2, split (12) at node 7" "proof.txt:14: 6 2 -1 -1 -1 -1 -8 1 2 3 7 9"
+told void_above_least "refused: a void's bound (14) at node 3" "proof.txt:8: 2 7 1 -1 -1 -1 0 1"
+
 # ---- 01's record and its neighbours
 
-# 01's record, changed in one point by sed: the numbers that 01 gives for it, and what is said of it.
+# 01's record, changed in one point by sed: the numbers that 01, or 02 for a split's K, gives for it, and what is said
+# of it.
 neighbour() { # NAME FILE SED NUMBERS [WORDS ...]
   local name=$1 out words
   record "$work/r"
@@ -86,6 +98,12 @@ neighbour "node 5 by 2" proof.txt 's/^4 8 -1 -1 -1 1 1 5 7$/4 8 -1 -1 -1 1 2 5 7
   "refused: a link's bound (14) at node 5" "proof.txt:12: 4 8 -1 -1 -1 1 2 5 7"
 neighbour "least 0" schema.txt 's/^4 1$/4 0/' "14 3 0 0" "refused: an unfolding's bound (14) at node 3"
 neighbour "least 2" schema.txt 's/^4 1$/4 2/' "14 2 0 0" "refused: a void's bound (14) at node 2"
+neighbour "node 1 by 1" proof.txt 's/^0 2 -1 -1 -1 -1 0 2 3$/0 2 -1 -1 -1 -1 1 2 3/' "0 0 7 1"
+neighbour "node 1 by 2" proof.txt 's/^0 2 -1 -1 -1 -1 0 2 3$/0 2 -1 -1 -1 -1 2 2 3/' "14 2 0 0" "refused: a void's bound (14) at node 2"
+neighbour "node 1 by 9999" proof.txt 's/^0 2 -1 -1 -1 -1 0 2 3$/0 2 -1 -1 -1 -1 9999 2 3/' "14 1 0 0" \
+  "refused: a split's K (14) at node 1" "proof.txt:8: 0 2 -1 -1 -1 -1 9999 2 3"
+neighbour "node 1 by -1" proof.txt 's/^0 2 -1 -1 -1 -1 0 2 3$/0 2 -1 -1 -1 -1 -1 2 3/' "12 1 0 0" \
+  "refused: the fields of rule 2, split (12) at node 1" "proof.txt:8: 0 2 -1 -1 -1 -1 -1 2 3"
 neighbour "node 6 on 8 with 6" proof.txt 's/^4 6 6 8 -1/4 6 8 6 -1/' "12 6 0 0" "refused: the fields of rule 6, clash (12) at node 6"
 neighbour "last row gone" proof.txt '$d' "17 4 0 0" "refused: the number of children of rule 4, unfold or (17) at node 4"
 

@@ -32,7 +32,7 @@
 //! record.proof.nodes[5][6] = 2;
 //! let verdict = check(&record);
 //! assert_eq!(verdict, Verdict::Refused { refusal: Refusal::Bound, place: Some(5) });
-//! assert_eq!(verdict.to_string(), "refused: 14 at node 5 (a bound, or the index of a clash)");
+//! assert_eq!(verdict.to_string(), "refused: 14 at node 5 (a bound, a split's K, or the index of a clash)");
 //! ```
 //!
 //! The same from texts:

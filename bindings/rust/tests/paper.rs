@@ -39,6 +39,11 @@ fn the_record_and_its_neighbours() {
     assert_eq!(with_proof("4 6 6 8 -1 -1 0 6 8\n", ""), refused(Refusal::Children, 4));
     assert_eq!(with_proof("0 6 8\n", "0 6 7 8\n"), ACCEPTED);
     assert_eq!(with_proof("0 6 8\n", "0 5 6 8\n"), refused(Refusal::Drawn, 6));
+    let split_by = |by: &str| with_proof("0 2 -1 -1 -1 -1 0 ", &format!("0 2 -1 -1 -1 -1 {by} "));
+    assert_eq!(split_by("1"), ACCEPTED);
+    assert_eq!(split_by("2"), refused(Refusal::Bound, 2));
+    assert_eq!(split_by("9999"), refused(Refusal::Bound, 1));
+    assert_eq!(split_by("-1"), refused(Refusal::Fields, 1));
 }
 
 #[test]

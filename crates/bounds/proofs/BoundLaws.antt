@@ -5,11 +5,12 @@ use native.Mathlib.Numerals.{add-one}
 use mathlib.Core.Path.{_≡_, refl, sym, _∙_, ap}
 use mathlib.Core.Bool.{Bool, true, false}
 use mathlib.Core.List.{List}
+use mathlib.Core.Option.{some}
 use lib.IntN.{ℤ, pos, negsuc, negℤ}
 use lib.Signed.{ltZ}
 use borrow.Author.Tests.{le-ltb}
 use Rattle.stab.specs.Basic.{if_then_else_, eqZ, nat, below, count}
-use Rattle.stab.specs.Node.{Bound, nodeAt, names, childCountOf, rank, splitBound, childBound, firstBound, boundIf, boundN, boundOf}
+use Rattle.stab.specs.Node.{Node, Bound, nodeAt, names, childCountOf, rank, splitAt, splitBound, childBound, firstBound, boundOf}
 use Rattle.stab.proofs.Bools.{and-first-false, and-second-false, if-true, if-false}
 use Rattle.stab.proofs.Whole.{eqZ-of, eqZ-not, nat-of}
 use Rattle.stab.proofs.Scans.{count-true, count-false, count-le}
@@ -30,62 +31,26 @@ pub bound-root : (nodes : List ℤ) (least : ℤ) → boundOf nodes least 0 ≡ 
 bound-root nodes least = bound-first nodes least 0 (below-none (nodeAt nodes 0 .up))
 
 -- what a child's bound is, by its parent's rule and its rank
-module _ (z : ℤ) (B : Bound) (k : ℕ) where
-  pub child-same : eqZ z (pos 2) ≡ false → childBound z B k ≡ B
+module _ (w : Node) (B : Bound) (k : ℕ) where
+  pub child-same : eqZ (w .rule) (pos 2) ≡ false → childBound w B k ≡ B
   unfolding childBound
-  child-same h = if-false (eqZ z (pos 2)) (splitBound B k) B h
+  child-same h = if-false (eqZ (w .rule) (pos 2)) (splitBound B (splitAt (B .L) (w .by)) k) B h
 
-  child-split : eqZ z (pos 2) ≡ true → childBound z B k ≡ splitBound B k
+  child-split : eqZ (w .rule) (pos 2) ≡ true → childBound w B k ≡ splitBound B (splitAt (B .L) (w .by)) k
   unfolding childBound
-  child-split h = if-true (eqZ z (pos 2)) (splitBound B k) B h
+  child-split h = if-true (eqZ (w .rule) (pos 2)) (splitBound B (splitAt (B .L) (w .by)) k) B h
 
-  pub child-first : eqZ z (pos 2) ≡ true → k ≡ 0 → childBound z B k ≡ record { exact = true; L = B .L }
+  pub child-first : eqZ (w .rule) (pos 2) ≡ true → k ≡ 0 → childBound w B k ≡ record { L = B .L; H = some (splitAt (B .L) (w .by)) }
   unfolding splitBound
-  child-first h e = child-split h ∙ ap (splitBound B) e
+  child-first h e = child-split h ∙ ap (splitBound B (splitAt (B .L) (w .by))) e
 
-split-second : (B : Bound) (k : ℕ) → (k ≡ 0 → ⊥) → splitBound B k ≡ record { exact = false; L = B .L + 1 }
+split-second : (B : Bound) (K k : ℕ) → (k ≡ 0 → ⊥) → splitBound B K k ≡ record { L = K + 1; H = B .H }
 unfolding splitBound
-split-second B zero f = absurd (f refl)
-split-second B (suc k) f = ap (λ (n : ℕ). record { exact = false; L = n }) (sym (add-one (B .L)))
+split-second B K zero f = absurd (f refl)
+split-second B K (suc k) f = ap (λ (n : ℕ). record { L = n; H = B .H }) (sym (add-one K))
 
-pub child-second : (z : ℤ) (B : Bound) (k : ℕ) → eqZ z (pos 2) ≡ true → (k ≡ 0 → ⊥) → childBound z B k ≡ record { exact = false; L = B .L + 1 }
-child-second z B k h f = child-split z B k h ∙ split-second B k f
-
--- a bound is at most one more than its parent's
-split-le : (B : Bound) (k : ℕ) → splitBound B k .L ≤ B .L + 1
-unfolding splitBound
-split-le B zero = omega arith
-split-le B (suc k) = omega arith
-
-child-le : (z : ℤ) (B : Bound) (k : ℕ) → childBound z B k .L ≤ B .L + 1
-unfolding childBound if_then_else_
-child-le z B k = go (eqZ z (pos 2))
-  where
-    go : (v : Bool) → (if v then splitBound B k else B) .L ≤ B .L + 1
-    go true = split-le B k
-    go false = omega arith
-
-boundN-le : (nodes : List ℤ) (least : ℤ) (k j : ℕ) → boundN nodes least k j .L ≤ nat least + j
-unfolding boundN boundIf firstBound
-boundN-le nodes least zero j = omega arith
-boundN-le nodes least (suc k) j = go (below j (nodeAt nodes j .up)) refl (boundN-le nodes least k (nat (nodeAt nodes j .up)))
-  where
-    go :
-        (v : Bool)
-        → below j (nodeAt nodes j .up) ≡ v
-        → boundN nodes least k (nat (nodeAt nodes j .up)) .L ≤ nat least + nat (nodeAt nodes j .up)
-        → boundIf v nodes least (boundN nodes least k) j .L ≤ nat least + j
-    go true e h =
-        omega (
-          arith,
-          below-nat j (nodeAt nodes j .up) e,
-          child-le (nodeAt nodes (nat (nodeAt nodes j .up)) .rule) (boundN nodes least k (nat (nodeAt nodes j .up))) (rank nodes j),
-        )
-    go false e h = omega arith
-
-pub bound-le : (nodes : List ℤ) (least : ℤ) (j : ℕ) → boundOf nodes least j .L ≤ nat least + j
-unfolding boundOf
-bound-le nodes least j = boundN-le nodes least (suc j) j
+pub child-second : (w : Node) (B : Bound) (k : ℕ) → eqZ (w .rule) (pos 2) ≡ true → (k ≡ 0 → ⊥) → childBound w B k ≡ record { L = splitAt (B .L) (w .by) + 1; H = B .H }
+child-second w B k h f = child-split w B k h ∙ split-second B (splitAt (B .L) (w .by)) k f
 
 -- ---- ranks and numbers of children
 

@@ -1,5 +1,5 @@
 -- The table of what is worked out for each node, one node more at a time.
-use Prim.Native.Nat.{ℕ, _+_, _*_, _<_, _≤_}
+use Prim.Native.Nat.{ℕ, _+_, _*_, _<_, _≤_, _^_}
 use native.Mathlib.Omega.{arith}
 use mathlib.Core.Path.{_≡_, refl, sym, _∙_, ap, subst}
 use mathlib.Core.Logic.{⊎-elim}
@@ -13,22 +13,21 @@ use Rattle.stab.specs.Basic.{nat}
 use Rattle.stab.specs.Node.{Bound, nodeAt, childCountOf, rank, childBound, firstBound, boundOf}
 use Rattle.stab.proofs.Bools.{decide}
 use Rattle.stab.proofs.Scans.{below-suc}
-use Rattle.formula.specs.Facts.{bit}
 use Rattle.formula.specs.Kept.{kept}
 use Rattle.formula.proofs.KeptLaws.{kept-other, kept-length, kept-first, kept-second, kept-third, kept-fourth}
 use Rattle.bounds.specs.Bounds.{Next, Stays}
 use Rattle.branch.specs.Parents.{AllUpFit}
-use Rattle.branch.specs.Work.{Worked, AllWorked}
+use Rattle.branch.specs.Work.{topOf, Worked, AllWorked}
 use Rattle.branch.proofs.ParentLaws.{later-up, parent-less, parent-pos}
-use Rattle.bounds.proofs.BoundLaws.{bound-le, children-le, bound-root, rank-is, rank-first, children-more, children-same, children-none}
+use Rattle.bounds.proofs.BoundLaws.{children-le, bound-root, rank-is, rank-first, children-more, children-same, children-none}
 use Rattle.stab.proofs.Whole.{nat-of}
 use Rattle.stab.proofs.Bounds.{bound-child}
 
 -- ---- the first node
 
-pub work-first : (nodes : List ℤ) (least : ℤ) (work : List ℕ) → 3 < length work → AllUpFit nodes 1 → AllWorked nodes least 1 (kept work 0 0 (nat least) 0 0) 1
-unfolding firstBound bit
-work-first nodes least work room fits j p = subst (Worked nodes least 1 (kept work 0 0 (nat least) 0 0)) (sym e) first
+pub work-first : (nodes : List ℤ) (least : ℤ) (work : List ℕ) → nat least ≤ 9999 → 3 < length work → AllUpFit nodes 1 → AllWorked nodes least 1 (kept work 0 0 (nat least) 0 0) 1
+unfolding firstBound topOf
+work-first nodes least work low room fits j p = subst (Worked nodes least 1 (kept work 0 0 (nat least) 0 0)) (sym e) first
   where
     e : j ≡ 0
     e = omega arith
@@ -38,8 +37,9 @@ work-first nodes least work room fits j p = subst (Worked nodes least 1 (kept wo
         record {
           rank = kept-first work 0 0 (nat least) 0 0 room ∙ sym (rank-first nodes 0 refl);
           L = kept-second work 0 0 (nat least) 0 0 room ∙ sym (ap (λ (B : Bound). B .L) (bound-root nodes least));
-          exact = kept-third work 0 0 (nat least) 0 0 room ∙ sym (ap (λ (B : Bound). bit (B .exact)) (bound-root nodes least));
+          H = kept-third work 0 0 (nat least) 0 0 room ∙ sym (ap (λ (B : Bound). topOf (B .H)) (bound-root nodes least));
           children = kept-fourth work 0 0 (nat least) 0 0 room ∙ sym (children-none nodes 0 fits);
+          small = omega (arith, low, ap (λ (B : Bound). B .L) (bound-root nodes least));
         }
 
 -- ---- one node more, a child of u
@@ -51,8 +51,8 @@ module _ {nodes : List ℤ} {least : ℤ} {work : List ℕ} {j u : ℕ} (next : 
   up-is : nodeAt nodes j .up ≡ pos u
   up-is = sym (parent-pos nodes j (next .fits j (omega arith)) (next .later)) ∙ ap pos (sym (next .parent))
 
-  pub l-small : getD work (4 * u + 1) 0 ≤ nat least + u
-  l-small = omega (arith, next .done u parent-before .L, bound-le nodes least u)
+  pub l-small : getD work (4 * u + 1) 0 ≤ 2 ^ 31 + u
+  l-small = omega (arith, next .done u parent-before .L, next .done u parent-before .small)
 
   pub rank-small : getD work (4 * u + 3) 0 ≤ j
   rank-small = omega (arith, next .done u parent-before .children, children-le nodes j u)
@@ -61,13 +61,13 @@ module _ {nodes : List ℤ} {least : ℤ} {work : List ℕ} {j u : ℕ} (next : 
   pub rank-at : getD work (4 * u + 3) 0 ≡ rank nodes j
   rank-at = next .done u parent-before .children ∙ sym (rank-is nodes j u up-is)
 
-  pub bound-at : (r : ℕ) → r ≡ getD work (4 * u + 3) 0 → boundOf nodes least j ≡ childBound (nodeAt nodes u .rule) (boundOf nodes least u) r
+  pub bound-at : (r : ℕ) → r ≡ getD work (4 * u + 3) 0 → boundOf nodes least j ≡ childBound (nodeAt nodes u) (boundOf nodes least u) r
   bound-at r e =
       bound-child nodes least j (later-up nodes j (next .fits j (omega arith)) (next .later))
-      ∙ ap (λ (v : ℕ). childBound (nodeAt nodes v .rule) (boundOf nodes least v) (rank nodes j)) (sym (next .parent))
-      ∙ ap (childBound (nodeAt nodes u .rule) (boundOf nodes least u)) (sym (e ∙ rank-at))
+      ∙ ap (λ (v : ℕ). childBound (nodeAt nodes v) (boundOf nodes least v) (rank nodes j)) (sym (next .parent))
+      ∙ ap (childBound (nodeAt nodes u) (boundOf nodes least u)) (sym (e ∙ rank-at))
 
-  module _ (r l e : ℕ) (r-is : r ≡ getD work (4 * u + 3) 0) (l-is : boundOf nodes least j .L ≡ l) (e-is : bit (boundOf nodes least j .exact) ≡ e) where
+  module _ (r l e : ℕ) (r-is : r ≡ getD work (4 * u + 3) 0) (l-is : boundOf nodes least j .L ≡ l) (e-is : topOf (boundOf nodes least j .H) ≡ e) (l-low : l ≤ 2 ^ 31 + (u + 1)) where
     -- what stands anywhere but at the parent's children
     elsewhere : (x : ℕ) → (x ≡ 4 * u + 3 → ⊥) → getD (set (kept work j r l e 0) (4 * u + 3) (r + 1)) x 0 ≡ getD (kept work j r l e 0) x 0
     elsewhere x f = getD-set-other (kept work j r l e 0) (4 * u + 3) x (r + 1) 0 f
@@ -96,8 +96,9 @@ module _ {nodes : List ℤ} {least : ℤ} {work : List ℕ} {j u : ℕ} (next : 
         record {
           rank = before (4 * i) (omega arith) (λ w. omega arith) ∙ next .done i p .rank;
           L = before (4 * i + 1) (omega arith) (λ w. omega arith) ∙ next .done i p .L;
-          exact = before (4 * i + 2) (omega arith) (λ w. omega arith) ∙ next .done i p .exact;
+          H = before (4 * i + 2) (omega arith) (λ w. omega arith) ∙ next .done i p .H;
           children = children-at i p;
+          small = next .done i p .small;
         }
 
     last : Worked nodes least (j + 1) (set (kept work j r l e 0) (4 * u + 3) (r + 1)) j
@@ -105,8 +106,9 @@ module _ {nodes : List ℤ} {least : ℤ} {work : List ℕ} {j u : ℕ} (next : 
         record {
           rank = elsewhere (4 * j) (λ w. omega arith) ∙ kept-first work j r l e 0 (next .room) ∙ r-is ∙ rank-at;
           L = elsewhere (4 * j + 1) (λ w. omega arith) ∙ kept-second work j r l e 0 (next .room) ∙ sym l-is;
-          exact = elsewhere (4 * j + 2) (λ w. omega arith) ∙ kept-third work j r l e 0 (next .room) ∙ sym e-is;
+          H = elsewhere (4 * j + 2) (λ w. omega arith) ∙ kept-third work j r l e 0 (next .room) ∙ sym e-is;
           children = elsewhere (4 * j + 3) (λ w. omega (arith, parent-before)) ∙ kept-fourth work j r l e 0 (next .room) ∙ sym (children-none nodes j (next .fits));
+          small = omega (arith, l-is, l-low, parent-before);
         }
 
     pub work-stays : Stays (4 * (j + 1)) work (set (kept work j r l e 0) (4 * u + 3) (r + 1))

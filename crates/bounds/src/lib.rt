@@ -1,5 +1,6 @@
 // What is worked out once for each node: its rank, its bound, its number of children.
 use branch::node;
+use branch::split;
 use branch::worked;
 use formula::kept;
 ghost use mathlib.Core.Path.{_≡_};
@@ -9,10 +10,9 @@ ghost use lib.IntN.{pos};
 ghost use lib.ListN.{getD, length};
 ghost use Rattle.stab.specs.Basic.{within};
 ghost use Rattle.stab.specs.Node.{Bound, nodeAt, childBound};
-ghost use Rattle.formula.specs.Facts.{bit};
 ghost use Rattle.bounds.specs.Bounds.{Next, Stays};
 ghost use Rattle.branch.specs.Parents.{AllUpFit};
-ghost use Rattle.branch.specs.Work.{AllWorked};
+ghost use Rattle.branch.specs.Work.{topOf, AllWorked};
 
 // Number k of the four of node j.
 fn number_of(work: &[u32], j: usize, k: usize) -> u32
@@ -24,8 +24,8 @@ fn number_of(work: &[u32], j: usize, k: usize) -> u32
 
 // The L of a child of u, by its rank.
 fn child_l(nodes: &[i32], u: usize, l: u32, rank: u32) -> u32
-    requires { ⌜ (u < 2 ^ 31) × (l < 2 ^ 31) ⌝ }
-    ensures { λ r. ⌜ ((B : Bound) → B .L ≡ l → childBound (nodeAt (now (nodes .entry)) u .rule) B rank .L ≡ r) ⌝ }
+    requires { ⌜ (u < 2 ^ 30) × (l ≤ 2 ^ 31 + u) ⌝ }
+    ensures { λ r. ⌜ ((B : Bound) → B .L ≡ l → childBound (nodeAt (now (nodes .entry)) u) B rank .L ≡ r) × (r ≤ 2 ^ 31 + (u + 1)) ⌝ }
 {
     if !node::is_of(nodes, u, node::RULE, 2) {
         return l;
@@ -33,21 +33,21 @@ fn child_l(nodes: &[i32], u: usize, l: u32, rank: u32) -> u32
     if rank == 0 {
         return l;
     }
-    l + 1
+    split::at(nodes, u, l as usize) as u32 + 1
 }
 
-// Whether it is exact.
-fn child_exact(nodes: &[i32], u: usize, exact: u32, rank: u32) -> u32
-    requires { ⌜ u < 2 ^ 31 ⌝ }
-    ensures { λ r. ⌜ ((B : Bound) → bit (B .exact) ≡ exact → bit (childBound (nodeAt (now (nodes .entry)) u .rule) B rank .exact) ≡ r) ⌝ }
+// Its H, as it is kept, by the L of u too.
+fn child_h(nodes: &[i32], u: usize, l: u32, h: u32, rank: u32) -> u32
+    requires { ⌜ (u < 2 ^ 30) × (l ≤ 2 ^ 31 + u) ⌝ }
+    ensures { λ r. ⌜ ((B : Bound) → B .L ≡ l → topOf (B .H) ≡ h → topOf (childBound (nodeAt (now (nodes .entry)) u) B rank .H) ≡ r) ⌝ }
 {
     if !node::is_of(nodes, u, node::RULE, 2) {
-        return exact;
+        return h;
     }
     if rank == 0 {
-        return 1;
+        return split::at(nodes, u, l as usize) as u32 + 1;
     }
-    0
+    h
 }
 
 // Works out node j, a child of u, and counts it there.
@@ -57,9 +57,10 @@ fn work_child(nodes: &[i32], least: usize, work: &mut [u32], j: usize, u: usize)
     ensures { λ _. ⌜ Stays (4 * (j + 1)) (now (work .entry)) (now (work .exit)) ⌝ }
 {
     let rank = number_of(work, u, worked::CHILDREN);
-    let l = child_l(nodes, u, number_of(work, u, worked::L), rank);
-    let exact = child_exact(nodes, u, number_of(work, u, worked::EXACT), rank);
-    kept::keep(work, j, rank, l, exact, 0);
+    let above = number_of(work, u, worked::L);
+    let l = child_l(nodes, u, above, rank);
+    let h = child_h(nodes, u, above, number_of(work, u, worked::H), rank);
+    kept::keep(work, j, rank, l, h, 0);
     work[4 * u + worked::CHILDREN] = rank + 1;
 }
 

@@ -1,9 +1,9 @@
 -- The lent tables with the numbers that go with them, and what a step's code reads of them.
-use Prim.Native.Nat.{ℕ, _+_, _*_, _<_, _≤_}
+use Prim.Native.Nat.{ℕ, zero, suc, _+_, _*_, _<_, _≤_}
 use mathlib.Core.Path.{_≡_}
 use mathlib.Core.Bool.{Bool, true, false}
 use mathlib.Core.List.{List}
-use lib.Dec.{eqb}
+use mathlib.Core.Option.{Option, none, some}
 use lib.IntN.{ℤ, pos}
 use lib.Signed.{leZ}
 use lib.ListN.{length, getD}
@@ -20,13 +20,18 @@ abbrev pub lent : List ℤ → List ℤ → List ℤ → List ℤ → Counts →
 lent schema proof nodes members t =
     record { schema = schema; schemaRows = t .schema; proof = proof; proofRows = t .proof; root = t .root; least = t .least; nodes = nodes; nodeRows = t .nodes; members = members; memberCount = t .members }
 
--- a bound by its two parts
-abbrev pub bounded : Bool → ℕ → Bound
-bounded exact l = record { exact = exact; L = l }
+-- the upper bound that a number stands for: 0 for none, else one less than it
+unfoldable pub upper : ℕ → Option ℕ
+upper zero = none
+upper (suc H) = some H
+
+-- a bound by its two numbers
+abbrev pub bounded : ℕ → ℕ → Bound
+bounded top l = record { L = l; H = upper top }
 
 -- the bound of node j as it is kept
 abbrev pub boundBy : List ℕ → ℕ → Bound
-boundBy work j = bounded (eqb (getD work (4 * j + 2) 0) 1) (getD work (4 * j + 1) 0)
+boundBy work j = bounded (getD work (4 * j + 2) 0) (getD work (4 * j + 1) 0)
 
 -- the set of node j lies within the members, in ascending order
 pub record SetHeld (nodes members : List ℤ) (j : ℕ) : Type 0 where
@@ -53,8 +58,12 @@ fitsKind rows n need z = if eqZ need unused then eqZ z unused else below n z and
 unfoldable pub otherFits : ℕ → Node → Bool → Bool
 otherFits n w used = if used then below n (w .other) else eqZ (w .other) unused
 
-unfoldable pub linkFits : Node → Bool → Bool
-linkFits w used = if used then leZ (pos 1) (w .by) else eqZ (w .to) unused and eqZ (w .by) (pos 0)
+-- by of a rule that is no loop: of a split, and of any other
+unfoldable pub byFits : Node → Bool → Bool
+byFits w split = if split then leZ (pos 0) (w .by) else eqZ (w .by) (pos 0)
+
+unfoldable pub linkFits : Node → Bool → Bool → Bool
+linkFits w link split = if link then leZ (pos 1) (w .by) else eqZ (w .to) unused and byFits w split
 
 -- the fields of node j against an entry R of the rule table: first on and with, then the rest
 unfoldable pub rowsFit : Tableau → ℕ → Rule → Bool
@@ -64,7 +73,7 @@ rowsFit T j R =
     kindFits T (R .with) (node T j .with)
 
 unfoldable pub restFits : ℕ → Node → Rule → Bool
-restFits n w R = otherFits n w (R .other) and linkFits w (R .link)
+restFits n w R = otherFits n w (R .other) and linkFits w (R .link) (R .split)
 
 -- what the rule table says of node j's fields, but for sets
 pub record FieldsKnown (T : Tableau) (j : ℕ) : Type 0 where

@@ -4,4 +4,5 @@ pub mod counts;
 pub mod links;
 pub mod member;
 pub mod node;
+pub mod split;
 pub mod worked;

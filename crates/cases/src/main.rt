@@ -67,6 +67,11 @@ fn accepted() {
         b"accepted/chain_531/proof.txt",
     );
     record(
+        b"accepted/chain_up_to_20",
+        b"accepted/chain_up_to_20/schema.txt",
+        b"accepted/chain_up_to_20/proof.txt",
+    );
+    record(
         b"accepted/cmp_transitive",
         b"accepted/cmp_transitive/schema.txt",
         b"accepted/cmp_transitive/proof.txt",
@@ -75,6 +80,11 @@ fn accepted() {
         b"accepted/period_two",
         b"accepted/period_two/schema.txt",
         b"accepted/period_two/proof.txt",
+    );
+    record(
+        b"accepted/ranges_of_widths",
+        b"accepted/ranges_of_widths/schema.txt",
+        b"accepted/ranges_of_widths/proof.txt",
     );
     record(
         b"accepted/rca_zero",
@@ -120,9 +130,24 @@ fn refused() {
         b"refused/size_4097/proof.txt",
     );
     record(
+        b"refused/split_at_upper_bound",
+        b"refused/split_at_upper_bound/schema.txt",
+        b"refused/split_at_upper_bound/proof.txt",
+    );
+    record(
+        b"refused/split_negative_by",
+        b"refused/split_negative_by/schema.txt",
+        b"refused/split_negative_by/proof.txt",
+    );
+    record(
         b"refused/unfold_empty_open",
         b"refused/unfold_empty_open/schema.txt",
         b"refused/unfold_empty_open/proof.txt",
+    );
+    record(
+        b"refused/void_above_least",
+        b"refused/void_above_least/schema.txt",
+        b"refused/void_above_least/proof.txt",
     );
 }
 
@@ -146,6 +171,11 @@ fn models() {
         b"refused/unfold_empty_open, its model",
         b"refused/unfold_empty_open/schema.txt",
         b"refused/unfold_empty_open/model.txt",
+    );
+    model(
+        b"refused/void_above_least, its model",
+        b"refused/void_above_least/schema.txt",
+        b"refused/void_above_least/model.txt",
     );
 }
 

@@ -1,10 +1,12 @@
 -- The tests on a node's fields, answer by answer as the code finds them.
-use Prim.Native.Nat.{ℕ}
+use Prim.Native.Nat.{ℕ, zero, suc}
+use native.Mathlib.Omega.{arith}
 use mathlib.Core.Path.{_≡_, refl, sym, _∙_}
 use mathlib.Core.Bool.{true, false}
-use lib.Dec.{ltb}
-use lib.IntN.{ℤ, pos, negsuc}
+use lib.Dec.{eqb, ltb}
+use lib.IntN.{ℤ, pos, negsuc, negℤ}
 use lib.Signed.{leZ}
+use borrow.Author.Tests.{le-leb, ne-eqb}
 use Rattle.stab.specs.Basic.{_and_, eqZ, nat, below}
 use Rattle.stab.specs.Formula.{Row}
 use Rattle.stab.specs.Rule.{unused}
@@ -34,6 +36,12 @@ pub at-least-1 : (z : ℤ) → ltb 0 (nat z) ≡ leZ (pos 1) z
 unfolding nat
 at-least-1 (pos n) = refl
 at-least-1 (negsuc n) = refl
+
+pub not-negative : (z : ℤ) → eqb (nat (negℤ z)) 0 ≡ leZ (pos 0) z
+unfolding nat
+not-negative (pos zero) = refl
+not-negative (pos (suc n)) = sym (le-leb 0 (suc n) (omega arith))
+not-negative (negsuc n) = ne-eqb (suc n) 0 (λ e. omega arith)
 
 -- ---- a field that fits a kind names a row
 

@@ -12,7 +12,7 @@ use Rattle.stab.specs.declared.Rule.{Rule}
 use Rattle.stab.proofs.Bools.{and-left, and-right}
 use Rattle.stab.proofs.Trees.{below-pos}
 use Rattle.stab.proofs.Whole.{eqZ-true}
-use Rattle.branch.specs.Lent.{lent, otherFits, linkFits, rowsFit, restFits, FieldsKnown}
+use Rattle.branch.specs.Lent.{lent, otherFits, byFits, linkFits, rowsFit, restFits, FieldsKnown}
 use Rattle.branch.specs.declared.counts.Counts.{Counts}
 use Rattle.fields.proofs.Answers.{first-fails, second-fails, second-decides, third-decides, implies-made, implies-spared}
 
@@ -30,7 +30,7 @@ module _ (T : Tableau) (j : ℕ) where
   fields-are :
       (below 9 (node T j .rule) and rowsFit T j (rule T j) and restFits (rowCount T) (node T j) (rule T j) and (ofRule 6 (node T j) implies symbolFits T j))
       ≡ fieldsFit T j
-  unfolding fieldsFit rowsFit restFits otherFits linkFits onStands R.otherFits R.linkFits isRow
+  unfolding fieldsFit rowsFit restFits otherFits byFits linkFits onStands R.otherFits R.linkFits isRow
   fields-are = sym (regroup _ _ _ _ _ _ _)
 
   pub no-rule : below 9 (node T j .rule) ≡ false → false ≡ fieldsFit T j

@@ -13,7 +13,7 @@ ghost use Rattle.stab.specs.Formula.{joined};
 ghost use Rattle.stab.specs.Node.{nodeAt, setOf};
 ghost use Rattle.stab.specs.Rule.{unused, symbolFits, fieldsFit};
 ghost use Rattle.branch.specs.NodeColumn.{nodeColumn};
-ghost use Rattle.branch.specs.Lent.{lent, SetHeld, fitsKind, otherFits, linkFits, rowsFit, restFits};
+ghost use Rattle.branch.specs.Lent.{lent, SetHeld, fitsKind, otherFits, byFits, linkFits, rowsFit, restFits};
 
 // Number k of node j is one of 0 .. n - 1.
 fn is_below(nodes: &[i32], j: usize, k: usize, n: usize) -> bool
@@ -85,18 +85,29 @@ fn other_fits(nodes: &[i32], t: Counts, j: usize, used: bool) -> bool
     node::is_of(nodes, j, node::OTHER, -1)
 }
 
-// `by` is at least 1 if the link's fields are used; unused, `to` is -1 and `by` 0.
-fn link_fits(nodes: &[i32], j: usize, used: bool) -> bool
+// `by` of a rule that is no loop: not negative if it names the K of a split, and else 0.
+fn by_fits(nodes: &[i32], j: usize, split: bool) -> bool
     requires { ⌜ j < 2 ^ 32 ⌝ }
-    ensures { λ r. ⌜ r ≡ linkFits (nodeAt (now (nodes .entry)) j) used ⌝ }
+    ensures { λ r. ⌜ r ≡ byFits (nodeAt (now (nodes .entry)) j) split ⌝ }
 {
-    if used {
+    if split {
+        return node::under_of(nodes, j, node::BY) == 0;
+    }
+    node::is_of(nodes, j, node::BY, 0)
+}
+
+// `by` is at least 1 if the link's fields are used; unused, `to` is -1.
+fn link_fits(nodes: &[i32], j: usize, link: bool, split: bool) -> bool
+    requires { ⌜ j < 2 ^ 32 ⌝ }
+    ensures { λ r. ⌜ r ≡ linkFits (nodeAt (now (nodes .entry)) j) link split ⌝ }
+{
+    if link {
         return 0 < node::natural_of(nodes, j, node::BY);
     }
     if !node::is_of(nodes, j, node::TO, -1) {
         return false;
     }
-    node::is_of(nodes, j, node::BY, 0)
+    by_fits(nodes, j, split)
 }
 
 // Of a clash: `with` stands in the node's set, and has the symbol of `on`.
@@ -152,7 +163,7 @@ fn rest_fits(nodes: &[i32], t: Counts, j: usize, rule: Rule) -> bool
     if !other_fits(nodes, t, j, rule.other) {
         return false;
     }
-    link_fits(nodes, j, rule.link)
+    link_fits(nodes, j, rule.link, rule.split)
 }
 
 // The fields of node j are as the table says of its rule.

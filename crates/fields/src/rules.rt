@@ -5,7 +5,7 @@ ghost use Prim.Native.Nat.{_<_};
 ghost use lib.IntN.{pos};
 ghost use Rattle.stab.specs.Rule.{ruleOf};
 
-// What each rule uses: kind of on, kind of with, other, to and by, children.
+// What each rule uses: kind of on, kind of with, other, to and by, by alone, children.
 const RULES: [Rule; 9] = [
     // 0 and, 1 or, 2 split
     Rule {
@@ -13,6 +13,7 @@ const RULES: [Rule; 9] = [
         with: -1,
         other: false,
         link: false,
+        split: false,
         children: 1,
     },
     Rule {
@@ -20,6 +21,7 @@ const RULES: [Rule; 9] = [
         with: -1,
         other: false,
         link: false,
+        split: false,
         children: 2,
     },
     Rule {
@@ -27,6 +29,7 @@ const RULES: [Rule; 9] = [
         with: -1,
         other: false,
         link: false,
+        split: true,
         children: 2,
     },
     // 3 unfold and, 4 unfold or
@@ -35,6 +38,7 @@ const RULES: [Rule; 9] = [
         with: 6,
         other: true,
         link: false,
+        split: false,
         children: 1,
     },
     Rule {
@@ -42,6 +46,7 @@ const RULES: [Rule; 9] = [
         with: 7,
         other: true,
         link: false,
+        split: false,
         children: 2,
     },
     // 5 false, 6 clash, 7 void, 8 loop
@@ -50,6 +55,7 @@ const RULES: [Rule; 9] = [
         with: -1,
         other: false,
         link: false,
+        split: false,
         children: 0,
     },
     Rule {
@@ -57,6 +63,7 @@ const RULES: [Rule; 9] = [
         with: 3,
         other: false,
         link: false,
+        split: false,
         children: 0,
     },
     Rule {
@@ -64,6 +71,7 @@ const RULES: [Rule; 9] = [
         with: -1,
         other: false,
         link: false,
+        split: false,
         children: 0,
     },
     Rule {
@@ -71,6 +79,7 @@ const RULES: [Rule; 9] = [
         with: -1,
         other: false,
         link: true,
+        split: false,
         children: 0,
     },
 ];

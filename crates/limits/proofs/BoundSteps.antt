@@ -1,17 +1,18 @@
 -- What a rule asks of its node's bound, rule by rule.
 use Prim.Native.Nat.{ℕ, _<_, _≤_}
 use native.Mathlib.Omega.{arith}
+use native.Mathlib.Numerals.{add-one}
 use mathlib.Core.Path.{_≡_, refl, sym, _∙_, ap, ap₂}
 use mathlib.Core.Logic.{⊎-elim}
 use mathlib.Core.Bool.{Bool, true, false}
 use mathlib.Core.List.{List}
-use lib.Dec.{eqb}
+use mathlib.Core.Option.{Option, none, some}
 use lib.IntN.{ℤ, pos}
 use lib.Signed.{leZ}
 use borrow.Author.Tests.{ne-eqb}
 use Rattle.stab.specs.Basic.{_and_, _or_, _implies_, eqZ, nat, within, below}
 use Rattle.stab.specs.Formula.{Op, conj, disj, kindOf, literal, iteration, offset, wellFormedAs}
-use Rattle.stab.specs.Node.{Tableau, node, row, rows, rowCount, isRow, bound, boundOf}
+use Rattle.stab.specs.Node.{Tableau, node, row, rows, rowCount, isRow, isExact, splitAt, bound, boundOf}
 use Rattle.stab.specs.Rule as R
 use Rattle.stab.specs.Rule.{entry, ruleTable, ruleOf, ofRule, splitFits, unfoldFits, clashFits, voidFits, loopFits, boundFits}
 use Rattle.stab.specs.declared.Rule.{Rule}
@@ -20,20 +21,22 @@ use Rattle.stab.proofs.Decoded.{kind-2, kind-3, kind-6, kind-7, formed-as}
 use Rattle.stab.proofs.Scans.{below-suc}
 use Rattle.stab.proofs.Trees.{below-nat}
 use Rattle.stab.proofs.Whole.{atom, num, le-of, of-le, nat-pos}
-use Rattle.formula.specs.Facts.{bit, AllFormed}
-use Rattle.branch.specs.Lent.{bounded, boundBy, FieldsKnown}
-use Rattle.branch.specs.Work.{Worked}
+use Rattle.formula.specs.Facts.{AllFormed}
+use Rattle.branch.specs.Lent.{upper, bounded, boundBy, FieldsKnown}
+use Rattle.branch.specs.Work.{topOf, Worked}
 use Rattle.fields.proofs.FieldParts.{named}
 
 -- ---- the bound that is kept
 
-bit-one : (b : Bool) → eqb (bit b) 1 ≡ b
-unfolding bit
-bit-one true = refl
-bit-one false = refl
+upper-top : (u : Option ℕ) → upper (topOf u) ≡ u
+unfolding upper topOf
+upper-top none = refl
+upper-top (some H) = ap upper (add-one H)
 
 pub bound-kept : (nodes : List ℤ) (least : ℤ) (k : ℕ) (work : List ℕ) (j : ℕ) → Worked nodes least k work j → boundBy work j ≡ boundOf nodes least j
-bound-kept nodes least k work j w = ap₂ bounded (ap (λ (n : ℕ). eqb n 1) (w .exact) ∙ bit-one _) (w .L)
+bound-kept nodes least k work j w =
+    ap₂ bounded (w .H) (w .L)
+    ∙ ap (λ (u : Option ℕ). record { L = boundOf nodes least j .L; H = u }) (upper-top (boundOf nodes least j .H))
 
 -- ---- which of the five tests a rule asks
 
@@ -84,22 +87,22 @@ module _ (T : Tableau) (j n : ℕ) (e : node T j .rule ≡ pos n) where
   tests : ℤ → Bool
   tests =
       asked
-      (splitFits (bound T j))
-      (unfoldFits (bound T j) (row T (node T j .on)))
-      (clashFits (bound T j) (row T (node T j .on)) (row T (node T j .with)))
-      (voidFits (bound T j) (row T (node T j .on)))
-      (loopFits (bound T j) (bound T (nat (node T j .to))) (node T j .by))
+      (splitFits (bound T j) (splitAt (bound T j .L) (node T j .by)))
+      (unfoldFits (bound T j .L) (row T (node T j .on)))
+      (clashFits (isExact (bound T j)) (bound T j .L) (row T (node T j .on)) (row T (node T j .with)))
+      (voidFits (bound T j .H) (row T (node T j .on)))
+      (loopFits (bound T j .L) (bound T (nat (node T j .to)) .L) (node T j .by))
 
   -- the rule's number is m
   by-number : (m : ℕ) → n ≡ m → tests (pos m) ≡ boundFits T j
   unfolding tests asked boundFits ofRule
   by-number m h = ap tests (ap pos (sym h) ∙ sym e)
 
-  pub split-asked : n ≡ 2 → splitFits (bound T j) ≡ boundFits T j
+  pub split-asked : n ≡ 2 → splitFits (bound T j) (splitAt (bound T j .L) (node T j .by)) ≡ boundFits T j
   unfolding tests
   split-asked h = asked-2 _ _ _ _ _ ∙ by-number 2 h
 
-  pub unfold-asked : 3 ≤ n → n < 5 → unfoldFits (bound T j) (row T (node T j .on)) ≡ boundFits T j
+  pub unfold-asked : 3 ≤ n → n < 5 → unfoldFits (bound T j .L) (row T (node T j .on)) ≡ boundFits T j
   unfolding tests
   unfold-asked l h =
       ⊎-elim
@@ -107,15 +110,15 @@ module _ (T : Tableau) (j n : ℕ) (e : node T j .rule ≡ pos n) where
       (λ p. asked-4 _ _ _ _ _ ∙ by-number 4 p)
       (below-suc n 4 (omega arith))
 
-  pub clash-asked : n ≡ 6 → clashFits (bound T j) (row T (node T j .on)) (row T (node T j .with)) ≡ boundFits T j
+  pub clash-asked : n ≡ 6 → clashFits (isExact (bound T j)) (bound T j .L) (row T (node T j .on)) (row T (node T j .with)) ≡ boundFits T j
   unfolding tests
   clash-asked h = asked-6 _ _ _ _ _ ∙ by-number 6 h
 
-  pub void-asked : n ≡ 7 → voidFits (bound T j) (row T (node T j .on)) ≡ boundFits T j
+  pub void-asked : n ≡ 7 → voidFits (bound T j .H) (row T (node T j .on)) ≡ boundFits T j
   unfolding tests
   void-asked h = asked-7 _ _ _ _ _ ∙ by-number 7 h
 
-  pub loop-asked : n ≡ 8 → loopFits (bound T j) (bound T (nat (node T j .to))) (node T j .by) ≡ boundFits T j
+  pub loop-asked : n ≡ 8 → loopFits (bound T j .L) (bound T (nat (node T j .to)) .L) (node T j .by) ≡ boundFits T j
   unfolding tests
   loop-asked h = asked-8 _ _ _ _ _ ∙ by-number 8 h
 

@@ -1,21 +1,23 @@
 -- The tests on bounds and indices, by natural parts.
-use Prim.Native.Nat.{ℕ, _+_}
+use Prim.Native.Nat.{ℕ, zero, suc, _+_, _-_, _<_, _≤_}
 use native.Mathlib.Omega.{arith}
 use mathlib.Core.Path.{_≡_, refl, sym, _∙_, ap, ap₂}
 use mathlib.Core.Logic.{⊎-elim}
 use mathlib.Core.Bool.{Bool, true, false, not, true≢false}
-use lib.Dec.{leb, eqb}
+use lib.Dec.{leb, ltb, eqb}
 use lib.IntN.{ℤ, pos, negℤ, _+ℤ_, _-ℤ_}
 use lib.Signed.{leZ, ltZ}
-use borrow.Author.Tests.{le-leb, leb-true}
+use borrow.Author.Tests.{le-leb, leb-true, lt-leb, lt-ltb, ltb-true, eq-eqb, eqb-true, ne-eqb}
 use Rattle.stab.specs.Basic.{if_then_else_, eqZ, nat}
 use Rattle.stab.specs.Formula.{Row, nothing, parameter, index, baseOf}
 use Rattle.stab.specs.Meaning.{base}
-use Rattle.stab.specs.Node.{Bound}
-use Rattle.stab.specs.Rule.{indexAt, loopFits}
+use Rattle.stab.specs.Node.{isUpper, isExact}
+use Rattle.stab.specs.Rule.{staysBelow, splitFits, voidFits, indexAt}
 use Rattle.stab.proofs.Bools.{decide, same-test}
 use Rattle.stab.proofs.Whole.{atom, num, _⊕_, _⊖_, le-of, of-le, lt-of, not-lt-of, of-not-le, eq-of, of-eq, eqZ-true, plus-nat, minus-nat}
 use Rattle.formula.proofs.RowLaws.{test-same}
+use Rattle.branch.specs.Lent.{upper, bounded}
+use Rattle.fields.proofs.Answers.{first-fails, second-decides}
 
 -- L ≥ b + c
 pub reach-test : (b c : ℤ) (l : ℕ) → leb (nat b + nat c) (l + (nat (negℤ b) + nat (negℤ c))) ≡ leZ (b +ℤ c) (pos l)
@@ -78,5 +80,45 @@ link-test l a k =
     (λ h. le-of (num a) (num l ⊖ num k) (omega (arith, leb-true (a + k) l h)))
     (λ h. le-leb (a + k) l (omega (arith, of-le (num a) (num l ⊖ num k) h)))
 
-pub loop-same : {B B′ A A′ : Bound} {k k′ : ℤ} → B ≡ B′ → A ≡ A′ → k ≡ k′ → loopFits B A k ≡ loopFits B′ A′ k′
-loop-same p q r = cc
+-- ---- a split's K, and the upper bound as it is kept
+
+module _ (h l k : ℕ) where
+  pub k-low : k < l → false ≡ splitFits (bounded h l) k
+  unfolding splitFits
+  k-low p = first-fails _ _ (lt-leb l k p)
+
+  k-from : l ≤ k → staysBelow (upper h) k ≡ splitFits (bounded h l) k
+  unfolding splitFits
+  k-from p = second-decides _ _ (le-leb l k p)
+
+  pub k-open : l ≤ k → h ≡ 0 → leb k 9998 ≡ splitFits (bounded h l) k
+  unfolding staysBelow upper
+  k-open p e = ap (λ (n : ℕ). staysBelow (upper n) k) (sym e) ∙ k-from p
+
+stays-test : (h k : ℕ) → (h ≡ 0 → ⊥) → ltb (k + 1) h ≡ staysBelow (upper h) k
+unfolding staysBelow upper
+stays-test zero k f = absurd (f refl)
+stays-test (suc H) k f =
+    same-test _ _
+    (λ e. le-of (num k) (num H ⊖ num 1) (omega (arith, ltb-true (k + 1) (suc H) e)))
+    (λ e. lt-ltb (k + 1) (suc H) (omega (arith, of-le (num k) (num H ⊖ num 1) e)))
+
+pub k-below : (h l k : ℕ) → l ≤ k → (h ≡ 0 → ⊥) → ltb (k + 1) h ≡ splitFits (bounded h l) k
+k-below h l k p f = stays-test h k f ∙ k-from h l k p
+
+pub exact-test : (h l : ℕ) → eqb (l + 1) h ≡ isExact (bounded h l)
+unfolding isExact isUpper upper
+exact-test zero l = ne-eqb (l + 1) 0 (λ e. omega arith)
+exact-test (suc H) l =
+    same-test _ _
+    (λ e. eq-eqb l H (omega (arith, eqb-true (l + 1) (suc H) e)))
+    (λ e. eq-eqb (l + 1) (suc H) (omega (arith, eqb-true l H e)))
+
+pub void-open : (h : ℕ) (w : Row) → h ≡ 0 → false ≡ voidFits (upper h) w
+unfolding voidFits upper
+void-open h w e = ap (λ (n : ℕ). voidFits (upper n) w) (sym e)
+
+pub void-upper : (h : ℕ) (w : Row) → (h ≡ 0 → ⊥) → ltZ (pos (h - 1)) (w .b +ℤ w .c) ≡ voidFits (upper h) w
+unfolding voidFits upper
+void-upper zero w f = absurd (f refl)
+void-upper (suc H) w f = ap (λ (n : ℕ). ltZ (pos n) (w .b +ℤ w .c)) (omega arith)

@@ -2,33 +2,38 @@
 // A sum of table numbers is compared by natural parts: what lies below 0 goes to the other side.
 use branch::counts::Counts;
 use branch::node;
+use branch::split;
 use branch::worked;
 use formula::kept;
 ghost use mathlib.Core.Path.{_≡_};
 ghost use mathlib.Core.Bool.{true};
 ghost use mathlib.Core.List.{[]};
 ghost use Prim.Native.Nat.{_+_, _*_, _<_, _≤_, _^_};
-ghost use lib.Dec.{eqb};
 ghost use lib.IntN.{pos, _+ℤ_, _-ℤ_};
 ghost use lib.ListN.{getD};
 ghost use lib.Signed.{leZ};
 ghost use Rattle.stab.specs.Basic.{_and_, eqZ, nat};
 ghost use Rattle.stab.specs.Formula.{joined, baseOf, offset};
 ghost use Rattle.stab.specs.Meaning.{base};
-ghost use Rattle.stab.specs.Node.{nodeAt};
+ghost use Rattle.stab.specs.Node.{nodeAt, isExact, splitAt};
 ghost use Rattle.stab.specs.Rule.{ofRule, splitFits, indexAt, clashFits, voidFits, boundFits};
 ghost use Rattle.formula.specs.Facts.{AllFormed};
 ghost use Rattle.branch.specs.Work.{AllWorked};
-ghost use Rattle.branch.specs.Lent.{lent, bounded, FieldsKnown};
+ghost use Rattle.branch.specs.Lent.{lent, upper, bounded, FieldsKnown};
 
-// Rule 2: open, L at most 9998.
-fn split_fits(exact: bool, l: usize) -> bool
-    ensures { λ r. ⌜ r ≡ splitFits (bounded exact l) ⌝ }
+// Rule 2: K is at least L, and below H, or at most 9998 where there is none.
+fn split_fits(nodes: &[i32], j: usize, l: usize, h: usize) -> bool
+    requires { ⌜ (j < 2 ^ 32) × (l < 2 ^ 32) ⌝ }
+    ensures { λ r. ⌜ r ≡ splitFits (bounded h l) (splitAt l (nodeAt (now (nodes .entry)) j .by)) ⌝ }
 {
-    if exact {
+    let k = split::at(nodes, j, l);
+    if k < l {
         return false;
     }
-    l <= 9998
+    if h == 0 {
+        return k <= 9998;
+    }
+    k + 1 < h
 }
 
 // L is at least b + c of row r.
@@ -45,17 +50,17 @@ fn reaches(schema: &[i32], s: usize, proof: &[i32], r: usize, l: usize) -> bool
     over <= l + under
 }
 
-// Rule 7: exact, L below b + c.
-fn void_fits(schema: &[i32], s: usize, proof: &[i32], r: usize, exact: bool, l: usize) -> bool
-    requires { ⌜ (r < 2 ^ 32) × (l < 2 ^ 32) ⌝ }
+// Rule 7: an upper bound, below b + c.
+fn void_fits(schema: &[i32], s: usize, proof: &[i32], r: usize, h: usize) -> bool
+    requires { ⌜ (r < 2 ^ 32) × (h < 2 ^ 32) ⌝ }
     requires { ⌜ offset (joined (now schema) s (now proof) r .b) ≡ true ⌝ }
     requires { ⌜ offset (joined (now schema) s (now proof) r .c) ≡ true ⌝ }
-    ensures { λ v. ⌜ v ≡ voidFits (bounded exact l) (joined (now (schema .entry)) s (now (proof .entry)) r) ⌝ }
+    ensures { λ v. ⌜ v ≡ voidFits (upper h) (joined (now (schema .entry)) s (now (proof .entry)) r) ⌝ }
 {
-    if !exact {
+    if h == 0 {
         return false;
     }
-    !reaches(schema, s, proof, r, l)
+    !reaches(schema, s, proof, r, h - 1)
 }
 
 // What c of the literal in row r is added to, at n = l.
@@ -108,7 +113,7 @@ fn clash_fits(
     requires { ⌜ (on < 2 ^ 32) × (with < 2 ^ 32) × (l < 2 ^ 32) ⌝ }
     requires { ⌜ offset (joined (now schema) s (now proof) on .c) ≡ true ⌝ }
     requires { ⌜ offset (joined (now schema) s (now proof) with .c) ≡ true ⌝ }
-    ensures { λ v. ⌜ v ≡ clashFits (bounded exact l) (joined (now (schema .entry)) s (now (proof .entry)) on) (joined (now (schema .entry)) s (now (proof .entry)) with) ⌝ }
+    ensures { λ v. ⌜ v ≡ clashFits exact l (joined (now (schema .entry)) s (now (proof .entry)) on) (joined (now (schema .entry)) s (now (proof .entry)) with) ⌝ }
 {
     if same_place(schema, s, proof, on, with) {
         return true;
@@ -119,12 +124,12 @@ fn clash_fits(
     same_index(schema, s, proof, on, with, l)
 }
 
-// Node j is exact.
-fn is_exact(work: &[u32], j: usize) -> bool
-    requires { ⌜ j < 2 ^ 32 ⌝ }
-    ensures { λ r. ⌜ r ≡ eqb (getD (now (work .entry)) (4 * j + 2) 0) 1 ⌝ }
+// L is H.
+fn is_exact(l: usize, h: usize) -> bool
+    requires { ⌜ l < 2 ^ 32 ⌝ }
+    ensures { λ r. ⌜ r ≡ isExact (bounded h l) ⌝ }
 {
-    kept::kept_at(work, 4 * j + worked::EXACT) == 1
+    l + 1 == h
 }
 
 // Rule 8: L - k is at least the target's, where L is the node's own.
@@ -155,14 +160,14 @@ pub fn bound_fits(
     ensures { λ r. ⌜ r ≡ boundFits (lent (now (schema .entry)) (now (proof .entry)) (now (nodes .entry)) [] t) j ⌝ }
 {
     let l = kept::kept_at(work, 4 * j + worked::L);
-    let exact = is_exact(work, j);
+    let h = kept::kept_at(work, 4 * j + worked::H);
     let on = node::natural_of(nodes, j, node::ON);
     let with = node::natural_of(nodes, j, node::WITH);
     match node::natural_of(nodes, j, node::RULE) {
-        2 => split_fits(exact, l),
+        2 => split_fits(nodes, j, l, h),
         3 | 4 => reaches(schema, t.schema, proof, on, l),
-        6 => clash_fits(schema, t.schema, proof, on, with, exact, l),
-        7 => void_fits(schema, t.schema, proof, on, exact, l),
+        6 => clash_fits(schema, t.schema, proof, on, with, is_exact(l, h), l),
+        7 => void_fits(schema, t.schema, proof, on, h),
         8 => target_allows(nodes, work, j, l),
         _ => true,
     }

@@ -60,8 +60,8 @@ unfolding nat
 nat-mirrored (pos n) h = absurd (omega (arith, ltb-true n 0 h))
 nat-mirrored (negsuc n) h = rw (mirrored-negsuc n) (add-one n)
 
--- a number of 32 bits has a natural part of 32 bits
-pub nat-small : (z : ℤ) → SFits w32 z → nat z < 2 ^ 32
+-- a number of 32 bits has a natural part of 31 bits
+pub nat-small : (z : ℤ) → SFits w32 z → nat z < 2 ^ 31
 unfolding nat
 nat-small (pos n) f = omega (arith, f .sfits)
 nat-small (negsuc n) f = omega arith

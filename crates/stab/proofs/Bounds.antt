@@ -7,40 +7,50 @@ use mathlib.Core.Bool.{Bool, true, false}
 use mathlib.Core.List.{List}
 use lib.IntN.{ℤ}
 use Rattle.stab.specs.Basic.{if_then_else_, nat, below, count}
-use Rattle.stab.specs.Node.{nodeAt, Bound, childBound, firstBound, boundIf, boundN, boundOf, rank}
+use Rattle.stab.specs.Node.{Node, nodeAt, childBound, firstBound, inheritIf, inheritN, inherited, boundOf, rank}
 use Rattle.stab.proofs.Trees.{below-nat}
+
+-- ---- what a node has from its parent
+
+module _ {A : Type 0} (first : A) (child : Node → A → ℕ → A) (nodes : List ℤ) where
+  inherit-same : (v : Bool) (B C : ℕ → A) (j : ℕ) → (v ≡ true → B (nat (nodeAt nodes j .up)) ≡ C (nat (nodeAt nodes j .up))) → inheritIf first child nodes v B j ≡ inheritIf first child nodes v C j
+  unfolding inheritIf
+  inherit-same true B C j h = ap (λ (x : A). child (nodeAt nodes (nat (nodeAt nodes j .up))) x (rank nodes j)) (h refl)
+  inherit-same false B C j h = refl
+
+  inheritN-same : (k l j : ℕ) → j < k → j < l → inheritN first child nodes k j ≡ inheritN first child nodes l j
+  unfolding inheritN
+  inheritN-same zero l j p q = absurd (omega arith)
+  inheritN-same (suc k) zero j p q = absurd (omega arith)
+  inheritN-same (suc k) (suc l) j p q =
+      inherit-same (below j (nodeAt nodes j .up)) (inheritN first child nodes k) (inheritN first child nodes l) j
+      (λ b. inheritN-same k l (nat (nodeAt nodes j .up)) (omega (arith, below-nat j (nodeAt nodes j .up) b)) (omega (arith, below-nat j (nodeAt nodes j .up) b)))
+
+  inherit-is : (j : ℕ) → inherited first child nodes j ≡ inheritIf first child nodes (below j (nodeAt nodes j .up)) (inherited first child nodes) j
+  unfolding inherited inheritN
+  inherit-is j =
+      inherit-same (below j (nodeAt nodes j .up)) (inheritN first child nodes j) (inherited first child nodes) j
+      (λ b. inheritN-same j (suc (nat (nodeAt nodes j .up))) (nat (nodeAt nodes j .up)) (below-nat j (nodeAt nodes j .up) b) (omega arith))
+
+  -- a node with no smaller parent has what is first
+  pub inherit-first : (j : ℕ) → below j (nodeAt nodes j .up) ≡ false → inherited first child nodes j ≡ first
+  unfolding inheritIf
+  inherit-first j h = inherit-is j ∙ ap (λ (v : Bool). inheritIf first child nodes v (inherited first child nodes) j) h
+
+  -- any other has it from its parent's
+  pub inherit-child : (j : ℕ) → below j (nodeAt nodes j .up) ≡ true → inherited first child nodes j ≡ child (nodeAt nodes (nat (nodeAt nodes j .up))) (inherited first child nodes (nat (nodeAt nodes j .up))) (rank nodes j)
+  unfolding inheritIf
+  inherit-child j h = inherit-is j ∙ ap (λ (v : Bool). inheritIf first child nodes v (inherited first child nodes) j) h
 
 -- ---- bounds
 
-module _ (nodes : List ℤ) (least : ℤ) where
-  boundIf-same : (v : Bool) (B C : ℕ → Bound) (j : ℕ) → (v ≡ true → B (nat (nodeAt nodes j .up)) ≡ C (nat (nodeAt nodes j .up))) → boundIf v nodes least B j ≡ boundIf v nodes least C j
-  unfolding boundIf
-  boundIf-same true B C j h = ap (λ (A : Bound). childBound (nodeAt nodes (nat (nodeAt nodes j .up)) .rule) A (rank nodes j)) (h refl)
-  boundIf-same false B C j h = refl
+pub bound-first : (nodes : List ℤ) (least : ℤ) (j : ℕ) → below j (nodeAt nodes j .up) ≡ false → boundOf nodes least j ≡ firstBound least
+unfolding boundOf
+bound-first nodes least j h = inherit-first (firstBound least) childBound nodes j h
 
-  boundN-same : (k l j : ℕ) → j < k → j < l → boundN nodes least k j ≡ boundN nodes least l j
-  unfolding boundN
-  boundN-same zero l j p q = absurd (omega arith)
-  boundN-same (suc k) zero j p q = absurd (omega arith)
-  boundN-same (suc k) (suc l) j p q =
-      boundIf-same (below j (nodeAt nodes j .up)) (boundN nodes least k) (boundN nodes least l) j
-      (λ b. boundN-same k l (nat (nodeAt nodes j .up)) (omega (arith, below-nat j (nodeAt nodes j .up) b)) (omega (arith, below-nat j (nodeAt nodes j .up) b)))
-
-  pub bound-is : (j : ℕ) → boundOf nodes least j ≡ boundIf (below j (nodeAt nodes j .up)) nodes least (boundOf nodes least) j
-  unfolding boundOf boundN
-  bound-is j =
-      boundIf-same (below j (nodeAt nodes j .up)) (boundN nodes least j) (boundOf nodes least) j
-      (λ b. boundN-same j (suc (nat (nodeAt nodes j .up))) (nat (nodeAt nodes j .up)) (below-nat j (nodeAt nodes j .up) b) (omega arith))
-
-  -- a node with no smaller parent has the first bound
-  pub bound-first : (j : ℕ) → below j (nodeAt nodes j .up) ≡ false → boundOf nodes least j ≡ firstBound least
-  unfolding boundIf
-  bound-first j h = bound-is j ∙ ap (λ (v : Bool). boundIf v nodes least (boundOf nodes least) j) h
-
-  -- any other has its bound from its parent's
-  pub bound-child : (j : ℕ) → below j (nodeAt nodes j .up) ≡ true → boundOf nodes least j ≡ childBound (nodeAt nodes (nat (nodeAt nodes j .up)) .rule) (boundOf nodes least (nat (nodeAt nodes j .up))) (rank nodes j)
-  unfolding boundIf
-  bound-child j h = bound-is j ∙ ap (λ (v : Bool). boundIf v nodes least (boundOf nodes least) j) h
+pub bound-child : (nodes : List ℤ) (least : ℤ) (j : ℕ) → below j (nodeAt nodes j .up) ≡ true → boundOf nodes least j ≡ childBound (nodeAt nodes (nat (nodeAt nodes j .up))) (boundOf nodes least (nat (nodeAt nodes j .up))) (rank nodes j)
+unfolding boundOf
+bound-child nodes least j h = inherit-child (firstBound least) childBound nodes j h
 
 -- ---- the m-th of those that are counted
 

@@ -2,7 +2,7 @@
 mod Formulas
 pub mod Nodes
 pub mod Steps
-mod Checked
+pub mod Checked
 mod Models
 pub mod Refusals
 use Prim.Native.Nat.{ℕ}

@@ -18,6 +18,7 @@ pub mod Soundness
 pub mod Exactness
 pub mod OpenTargets
 pub mod InOrders
+pub mod OneValues
 pub mod Texts
 pub mod Audit
 pub mod Packed

@@ -1,16 +1,16 @@
--- That the target of a link is open need not be looked at: the check with that test gives the same verdict, whatever the tableau.
+-- That the target of a link is not exact need not be looked at: the check with that test gives the same verdict, whatever the tableau.
 use Prim.Native.Nat.{ℕ, _<_}
 use native.Mathlib.Omega.{arith}
 use mathlib.Core.Path.{_≡_, sym, _∙_, ap, subst}
 use mathlib.Core.Logic.{⊎-elim}
 use mathlib.Core.Bool.{Bool, true, false}
-use mathlib.Core.Option.{Option, none}
+use mathlib.Core.Option.{Option, none, some}
 use lib.IntN.{ℤ, pos, _-ℤ_}
 use lib.Signed.{leZ, _≤ℤ_}
 use Rattle.stab.specs.Basic.{_and_, nat}
-use Rattle.stab.specs.Node.{Tableau, Bound, node, bound}
+use Rattle.stab.specs.Node.{Tableau, Bound, node, isExact, bound}
 use Rattle.stab.specs.Rule.{entry, ruleTable, ruleOf, rule, loopFits, fieldsFit, targetFits, boundFits}
-use Rattle.stab.specs.Check.{atUnless, parentRefusal, stepRefusal, nodeRefusal, refusalBy, checkBy, verdict, check, linkCount}
+use Rattle.stab.specs.Check.{atUnless, stepRefusal, nodeRefusal, checkBy, verdict, check, linkCount}
 use Rattle.stab.specs.OpenTarget.{targetOpen, stepRefusalOpen, nodeRefusalOpen, checkOpen}
 use Rattle.stab.specs.Keeps.{KeepsParent, Ancestor, KeepsStep, Loops, Keeps}
 use Rattle.stab.specs.declared.Refusal.the-variants.{Bound as BoundWrong, Fields, Target}
@@ -18,11 +18,10 @@ use Rattle.stab.specs.declared.Verdict.{Verdict}
 use Rattle.stab.specs.declared.Verdict.the-variants.{Accepted}
 use Rattle.stab.proofs.Bools.{decide, and-first-true, and-first-false, otherwise-same, otherwise-first-same}
 use Rattle.stab.proofs.Whole.{atom, num, _⊖_, of-le, leZ-of, of-leZ}
-use Rattle.stab.proofs.Scans.{scan-same, none-scan}
-use Rattle.stab.proofs.Tests.{_⇒_, not-tests, at-clears, scan-clears, itself}
-use Rattle.stab.proofs.Ranges.{OpenSplits, exact-ancestor}
-use Rattle.stab.proofs.Exactness.Nodes.{parent-clears}
-use Rattle.stab.proofs.Exactness.Steps.{rule-tests, fields-tests, target-tests, bound-tests, step-clears}
+use Rattle.stab.proofs.Tests.{_⇒_, not-tests, at-clears, itself}
+use Rattle.stab.proofs.Ranges.{RightSplits, exact-ancestor}
+use Rattle.stab.proofs.Exactness.Checked.{refusal-by-same}
+use Rattle.stab.proofs.Exactness.Steps.{rule-tests, exact-tests, fields-tests, target-tests, bound-tests, step-clears}
 
 -- a loop uses to and by
 link-used : (T : Tableau) (j : ℕ) → node T j .rule ≡ pos 8 → rule T j .link ≡ true
@@ -36,11 +35,11 @@ apart B A k e h l =
 
 module _ (T : Tableau) (parents : (k : ℕ) → k < T .nodeRows → KeepsParent T k) where
   -- "An exact ancestor makes all below it exact with its own L", where the nodes before j keep their rules
-  pub exact-below : (j i : ℕ) → j < T .nodeRows → ((k : ℕ) → k < j → KeepsStep T k) → Ancestor (T .nodes) i j → bound T i .exact ≡ true → bound T j ≡ bound T i
-  exact-below j i l before a x = exact-ancestor T parents j l (λ k p r. before k p .split r .0) a x
+  pub exact-below : (j i : ℕ) → j < T .nodeRows → ((k : ℕ) → k < j → KeepsStep T k) → Ancestor (T .nodes) i j → bound T i .H ≡ some (bound T i .L) → bound T j ≡ bound T i
+  exact-below j i l before a x = exact-ancestor T parents j l (λ k p r. before k p .split r) a x
 
   -- "so L - k is under its bound and 14 is given anyhow"
-  pub given-anyhow : (j i : ℕ) → j < T .nodeRows → ((k : ℕ) → k < j → KeepsStep T k) → Ancestor (T .nodes) i j → bound T i .exact ≡ true → (k : ℤ) → pos 1 ≤ℤ k → loopFits (bound T j) (bound T i) k ≡ false
+  pub given-anyhow : (j i : ℕ) → j < T .nodeRows → ((k : ℕ) → k < j → KeepsStep T k) → Ancestor (T .nodes) i j → bound T i .H ≡ some (bound T i .L) → (k : ℤ) → pos 1 ≤ℤ k → loopFits (bound T j .L) (bound T i .L) k ≡ false
   unfolding loopFits
   given-anyhow j i l before a x k h =
       ⊎-elim
@@ -48,23 +47,23 @@ module _ (T : Tableau) (parents : (k : ℕ) → k < T .nodeRows → KeepsParent 
       (λ f. f)
       (decide (leZ (pos (bound T i .L)) (pos (bound T j .L) -ℤ k)))
 
-  not-exact : (j i : ℕ) → j < T .nodeRows → OpenSplits T parents j → Ancestor (T .nodes) i j → pos 1 ≤ℤ node T j .by → pos (bound T i .L) ≤ℤ (pos (bound T j .L) -ℤ node T j .by) → bound T i .exact ≡ false
+  not-exact : (j i : ℕ) → j < T .nodeRows → RightSplits T parents j → Ancestor (T .nodes) i j → pos 1 ≤ℤ node T j .by → pos (bound T i .L) ≤ℤ (pos (bound T j .L) -ℤ node T j .by) → isExact (bound T i) ≡ false
   not-exact j i l splits a k above =
       ⊎-elim
-      (λ x. absurd (apart (bound T j) (bound T i) (node T j .by) (exact-ancestor T parents j l splits a x) k above))
+      (λ x. absurd (apart (bound T j) (bound T i) (node T j .by) (exact-ancestor T parents j l splits a (exact-tests (bound T i) .0 x)) k above))
       (λ x. x)
-      (decide (bound T i .exact))
+      (decide (isExact (bound T i)))
 
   module _ (j : ℕ) (l : j < T .nodeRows) (before : (k : ℕ) → k < j → nodeRefusal T k ≡ none) where
-    splits : OpenSplits T parents j
-    splits k p r = step-clears T parents k (omega arith) .0 (before k p) .1 .split r .0
+    splits : RightSplits T parents j
+    splits k p r = step-clears T parents k (omega arith) .0 (before k p) .1 .split r
 
-    is-open : fieldsFit T j ≡ true → targetFits T j ≡ true → boundFits T j ≡ true → node T j .rule ≡ pos 8 → bound T (nat (node T j .to)) .exact ≡ false
+    is-open : fieldsFit T j ≡ true → targetFits T j ≡ true → boundFits T j ≡ true → node T j .rule ≡ pos 8 → isExact (bound T (nat (node T j .to))) ≡ false
     unfolding nat
     is-open f t b r =
         let w = target-tests T parents j l .0 t r in
         let e : nat (node T j .to) ≡ w .0 = ap nat (w .1) in
-        subst (λ (m : ℕ). bound T m .exact ≡ false) (sym e)
+        subst (λ (m : ℕ). isExact (bound T m) ≡ false) (sym e)
         (not-exact j (w .0) l splits (w .2)
         (fields-tests T j .0 f .link .0 (link-used T j r))
         (subst (λ (m : ℕ). pos (bound T m .L) ≤ℤ (pos (bound T j .L) -ℤ node T j .by)) e (bound-tests T j .0 b .loop r)))
@@ -76,7 +75,7 @@ module _ (T : Tableau) (parents : (k : ℕ) → k < T .nodeRows → KeepsParent 
         ⊎-elim
         (λ b.
         and-first-true (boundFits T j) _ b
-        ∙ (rule-tests 8 (node T j) ⇒ not-tests (bound T (nat (node T j .to)) .exact)) .1 (is-open f t b)
+        ∙ (rule-tests 8 (node T j) ⇒ not-tests (isExact (bound T (nat (node T j .to))))) .1 (is-open f t b)
         ∙ sym b)
         (λ b. and-first-false (boundFits T j) _ b ∙ sym b)
         (decide (boundFits T j))
@@ -97,28 +96,16 @@ module _ (T : Tableau) (parents : (k : ℕ) → k < T .nodeRows → KeepsParent 
 
 -- ---- the theorems
 
-same-refusal : (T : Tableau) → refusalBy nodeRefusalOpen T ≡ refusalBy nodeRefusal T
-unfolding refusalBy
-same-refusal T =
-    otherwise-same _ _ _ (λ a.
-    otherwise-same _ _ _ (λ b.
-    otherwise-same _ _ _ (λ c.
-    otherwise-same _ _ _ (λ d.
-    otherwise-same _ _ _ (λ e.
-    otherwise-same _ _ _ (λ p.
-    scan-same (nodeRefusalOpen T) (nodeRefusal T) (T .nodeRows) (λ j l h.
-    same-node T (scan-clears (parentRefusal T) (T .nodeRows) (λ i m. parent-clears T i) .0 p) j l (none-scan (nodeRefusal T) j h))))))))
-
 -- 02, No. 3: "Every verdict and place is the same.", for every tableau, whatever its numbers
 pub open-needless : (T : Tableau) → checkOpen T ≡ check T
 unfolding checkOpen check checkBy
-open-needless T = ap (λ (x : Option Verdict). verdict x (Accepted (T .nodeRows) (linkCount T))) (same-refusal T)
+open-needless T = ap (λ (x : Option Verdict). verdict x (Accepted (T .nodeRows) (linkCount T))) (refusal-by-same nodeRefusalOpen T (same-node T))
 
--- in a tableau that keeps the rules every link's target is open
-pub target-open : (T : Tableau) → Keeps T → (j i : ℕ) → j < T .nodeRows → node T j .rule ≡ pos 8 → Loops T j i → bound T i .exact ≡ false
+-- in a tableau that keeps the rules no link's target is exact
+pub target-open : (T : Tableau) → Keeps T → (j i : ℕ) → j < T .nodeRows → node T j .rule ≡ pos 8 → Loops T j i → isExact (bound T i) ≡ false
 target-open T K j i l r u =
     not-exact T (λ x y. K .nodes x y .parent) j i l
-    (λ k p s. K .nodes k (omega arith) .step .split s .0)
+    (λ k p s. K .nodes k (omega arith) .step .split s)
     (u .ancestor)
     (K .nodes j l .step .linkUsed (link-used T j r))
     (u .above)

@@ -1,95 +1,164 @@
--- The values of n that a node allows are allowed by its ancestors too; an exact ancestor makes all below it exact with its own L.
+-- A node's range of values lies within its ancestors', and is never empty; an exact ancestor makes all below it exact with its own L.
 use Prim.Native.Nat.{ℕ, zero, suc, _<_, _≤_}
 use native.Mathlib.Omega.{arith}
-use mathlib.Core.Path.{_≡_, sym, _∙_, ap, subst}
+use mathlib.Core.Path.{_≡_, refl, sym, _∙_, ap, ap₂, subst}
 use mathlib.Core.Logic.{⊎-elim}
-use mathlib.Core.Bool.{Bool, true, false, true≢false}
+use mathlib.Core.Bool.{true}
+use mathlib.Core.Option.{Option, none, some, Option·none-ne-some, Option·some-injective}
 use lib.IntN.{ℤ, pos}
 use Rattle.stab.specs.Basic.{eqZ, nat, below}
-use Rattle.stab.specs.Node.{Tableau, Bound, node, nodeAt, rank, SatisfiesIf, Satisfies, splitBound, childBound, boundOf, bound}
-use Rattle.stab.specs.Keeps.{KeepsParent, Ancestor, parent, further}
+use Rattle.stab.specs.Node.{Tableau, Node, Bound, node, nodeAt, rank, AtMost, Satisfies, splitAt, splitBound, childBound, firstBound, boundOf, bound}
+use Rattle.stab.specs.Keeps.{KeepsParent, Ancestor, parent, further, Splits, Keeps}
 use Rattle.stab.proofs.Bools.{decide, if-true, if-false}
 use Rattle.stab.proofs.Whole.{eqZ-true}
-use Rattle.stab.proofs.Trees.{below-of}
-use Rattle.stab.proofs.Bounds.{bound-child}
+use Rattle.stab.proofs.Trees.{below-nat, below-pos, below-of}
+use Rattle.stab.proofs.Bounds.{bound-first, bound-child}
 use Rattle.stab.proofs.Ancestors.{parent-below}
 
--- n satisfies a bound only from its L on
-least-if : (v : Bool) (L n : ℕ) → SatisfiesIf v L n → L ≤ n
-unfolding SatisfiesIf
-least-if true L n h = omega arith
-least-if false L n h = h
-
+-- n satisfies a bound only from its L on, and up to its H
 pub from-least : (B : Bound) (n : ℕ) → Satisfies B n → B .L ≤ n
 unfolding Satisfies
-from-least B n h = least-if (B .exact) (B .L) n h
+from-least B n h = h .0
 
-pub exactly : (B : Bound) (n : ℕ) → B .exact ≡ true → Satisfies B n → n ≡ B .L
-unfolding Satisfies SatisfiesIf
-exactly B n e h = subst (λ (v : Bool). SatisfiesIf v (B .L) n) e h
+pub up-to : (B : Bound) (n H : ℕ) → B .H ≡ some H → Satisfies B n → n ≤ H
+unfolding Satisfies AtMost
+up-to B n H e h = subst (λ (u : Option ℕ). AtMost u n) e (h .1)
 
-openly : (B : Bound) (n : ℕ) → B .exact ≡ false → B .L ≤ n → Satisfies B n
-unfolding Satisfies SatisfiesIf
-openly B n e h = subst (λ (v : Bool). SatisfiesIf v (B .L) n) (sym e) h
+pub exactly : (B : Bound) (n : ℕ) → B .H ≡ some (B .L) → Satisfies B n → n ≡ B .L
+exactly B n e h = omega (arith, from-least B n h, up-to B n (B .L) e h)
+
+at-most : (u : Option ℕ) (n : ℕ) → ((H : ℕ) → u ≡ some H → n ≤ H) → AtMost u n
+unfolding AtMost
+at-most none n h = tt
+at-most (some H) n h = h H refl
 
 -- where n satisfies a bound, so does every smaller m that is not below its L
 pub lowered-satisfies : (B : Bound) (n m : ℕ) → Satisfies B n → B .L ≤ m → m < n → Satisfies B m
-lowered-satisfies B n m s l h =
+unfolding Satisfies
+lowered-satisfies B n m s l h = (l, at-most (B .H) m (λ H e. omega (arith, up-to B n H e s)))
+
+-- ---- ranges
+
+-- the range of the first lies within that of the second
+pub record Inside (B A : Bound) : Type 0 where
+  pub lower : A .L ≤ B .L
+  pub upper : (H : ℕ) → A .H ≡ some H → (G : ℕ) × (B .H ≡ some G) × (G ≤ H)
+
+-- L ≤ H, if there is an upper bound
+abbrev pub Nonempty : Bound → Type 0
+Nonempty B = (H : ℕ) → B .H ≡ some H → B .L ≤ H
+
+inside-itself : (B : Bound) → Inside B B
+inside-itself B = record { lower = omega arith; upper = λ H e. (H, e, omega arith) }
+
+inside-trans : {C B A : Bound} → Inside C B → Inside B A → Inside C A
+inside-trans {C} {B} {A} i k = record {
+  lower = omega (arith, i .lower, k .lower);
+  upper = λ H e.
+      let g = k .upper H e in
+      let f = i .upper (g .0) (g .1) in
+      (f .0, f .1, omega (arith, f .2, g .2));
+}
+
+pub inside-satisfies : (B A : Bound) (n : ℕ) → Inside B A → Satisfies B n → Satisfies A n
+unfolding Satisfies
+inside-satisfies B A n i s =
+    (omega (arith, i .lower, from-least B n s), at-most (A .H) n (λ H e. let g = i .upper H e in omega (arith, up-to B n (g .0) (g .1) s, g .2)))
+
+-- ---- the children of a split, and of any node
+
+split-inside : (B : Bound) (K r : ℕ) → Splits B K → Inside (splitBound B K r) B
+unfolding splitBound
+split-inside B K zero s = record { lower = omega arith; upper = λ H e. (K, refl, omega (arith, s .belowH H e)) }
+split-inside B K (suc r) s = record { lower = omega (arith, s .fromL); upper = λ H e. (H, e, omega arith) }
+
+split-nonempty : (B : Bound) (K r : ℕ) → Splits B K → Nonempty (splitBound B K r)
+unfolding splitBound
+split-nonempty B K zero s H e = omega (arith, s .fromL, Option·some-injective K H e)
+split-nonempty B K (suc r) s H e = omega (arith, s .belowH H e)
+
+-- K of a split at node w with bound B is right
+abbrev pub SplitsIf : Node → Bound → Type 0
+SplitsIf w B = w .rule ≡ pos 2 → Splits B (splitAt (B .L) (w .by))
+
+by-rule : (P : Bound → Type 0) (w : Node) (B : Bound) (r : ℕ) → (w .rule ≡ pos 2 → P (splitBound B (splitAt (B .L) (w .by)) r)) → P B → P (childBound w B r)
+unfolding childBound
+by-rule P w B r f g =
     ⊎-elim
-    (λ e. absurd (omega (arith, exactly B n e s)))
-    (λ e. openly B m e l)
-    (decide (B .exact))
+    (λ q. subst P (sym (if-true (eqZ (w .rule) (pos 2)) _ _ q)) (f (eqZ-true (w .rule) (pos 2) q)))
+    (λ q. subst P (sym (if-false (eqZ (w .rule) (pos 2)) _ _ q)) g)
+    (decide (eqZ (w .rule) (pos 2)))
+
+child-inside : (w : Node) (B : Bound) (r : ℕ) → SplitsIf w B → Inside (childBound w B r) B
+child-inside w B r s = by-rule (λ (C : Bound). Inside C B) w B r (λ e. split-inside B _ r (s e)) (inside-itself B)
+
+child-nonempty : (w : Node) (B : Bound) (r : ℕ) → SplitsIf w B → Nonempty B → Nonempty (childBound w B r)
+child-nonempty w B r s h = by-rule Nonempty w B r (λ e. split-nonempty B _ r (s e)) h
 
 module _ (T : Tableau) (parents : (k : ℕ) → k < T .nodeRows → KeepsParent T k) where
   -- a node's bound, by its parent's
-  bound-of-child : (j k : ℕ) → j < T .nodeRows → nodeAt (T .nodes) j .up ≡ pos k → bound T j ≡ childBound (node T k .rule) (bound T k) (rank (T .nodes) j)
+  pub bound-of-child : (j k : ℕ) → j < T .nodeRows → nodeAt (T .nodes) j .up ≡ pos k → bound T j ≡ childBound (node T k) (bound T k) (rank (T .nodes) j)
   unfolding bound node nat
   bound-of-child j k l e =
       bound-child (T .nodes) (T .least) j (subst (λ (z : ℤ). below j z ≡ true) (sym e) (below-of j k (parent-below T j k (parents j l) e)))
-      ∙ ap (λ (z : ℤ). childBound (nodeAt (T .nodes) (nat z) .rule) (boundOf (T .nodes) (T .least) (nat z)) (rank (T .nodes) j)) e
+      ∙ ap (λ (z : ℤ). childBound (nodeAt (T .nodes) (nat z)) (boundOf (T .nodes) (T .least) (nat z)) (rank (T .nodes) j)) e
 
-  -- what is asked of the nodes before j: a split is at an open node
-  abbrev pub OpenSplits : ℕ → Type 0
-  OpenSplits j = (k : ℕ) → k < j → node T k .rule ≡ pos 2 → bound T k .exact ≡ false
+  -- what is asked of the nodes before j: the K of a split is right
+  abbrev pub RightSplits : ℕ → Type 0
+  RightSplits j = (k : ℕ) → k < j → SplitsIf (node T k) (bound T k)
 
-  below-exact : (j k : ℕ) → j < T .nodeRows → OpenSplits j → nodeAt (T .nodes) j .up ≡ pos k → bound T k .exact ≡ true → bound T j ≡ bound T k
-  unfolding childBound
-  below-exact j k l splits e x =
-      bound-of-child j k l e
-      ∙ ⊎-elim
-      (λ q. absurd (true≢false (sym x ∙ splits k (parent-below T j k (parents j l) e) (eqZ-true (node T k .rule) (pos 2) q))))
-      (λ q. if-false (eqZ (node T k .rule) (pos 2)) _ _ q)
-      (decide (eqZ (node T k .rule) (pos 2)))
+  -- a node's range lies within its parent's
+  pub parent-inside : (j k : ℕ) → j < T .nodeRows → RightSplits j → nodeAt (T .nodes) j .up ≡ pos k → Inside (bound T j) (bound T k)
+  parent-inside j k l splits e =
+      subst (λ (B : Bound). Inside B (bound T k)) (sym (bound-of-child j k l e))
+      (child-inside (node T k) (bound T k) (rank (T .nodes) j) (splits k (parent-below T j k (parents j l) e)))
+
+  -- and so within its ancestors'
+  pub ancestor-inside : (j : ℕ) → j < T .nodeRows → RightSplits j → {i : ℕ} → Ancestor (T .nodes) i j → Inside (bound T j) (bound T i)
+  ancestor-inside j l splits {i} (parent e) = parent-inside j i l splits e
+  ancestor-inside j l splits {i} (further {k = k} e a) =
+      let m : k < j = parent-below T j k (parents j l) e in
+      inside-trans (parent-inside j k l splits e) (ancestor-inside k (omega arith) (λ h p. splits h (omega arith)) a)
+
+  nonempty-below : (n j : ℕ) → j < n → j < T .nodeRows → RightSplits j → Nonempty (bound T j)
+  unfolding bound firstBound node
+  nonempty-below zero j p l splits = absurd (omega arith)
+  nonempty-below (suc n) j p l splits =
+      ⊎-elim
+      (λ b.
+      let k : ℕ = nat (nodeAt (T .nodes) j .up) in
+      let m : k < j = below-nat j (nodeAt (T .nodes) j .up) b in
+      subst Nonempty (sym (bound-of-child j k l (sym (below-pos j (nodeAt (T .nodes) j .up) b))))
+      (child-nonempty (node T k) (bound T k) (rank (T .nodes) j) (splits k m)
+      (nonempty-below n k (omega arith) (omega arith) (λ h q. splits h (omega arith)))))
+      (λ b. subst Nonempty (sym (bound-first (T .nodes) (T .least) j b)) (λ H e. absurd (Option·none-ne-some H e)))
+      (decide (below j (nodeAt (T .nodes) j .up)))
+
+  -- L ≤ H at every bounded node
+  pub nonempty : (j : ℕ) → j < T .nodeRows → RightSplits j → Nonempty (bound T j)
+  nonempty j l splits = nonempty-below (suc j) j (omega arith) l splits
 
   -- "An exact ancestor makes all below it exact with its own L"
-  pub exact-ancestor : (j : ℕ) → j < T .nodeRows → OpenSplits j → {i : ℕ} → Ancestor (T .nodes) i j → bound T i .exact ≡ true → bound T j ≡ bound T i
-  exact-ancestor j l splits {i} (parent e) x = below-exact j i l splits e x
-  exact-ancestor j l splits {i} (further {k = k} e a) x =
-      let m : k < j = parent-below T j k (parents j l) e in
-      let s : bound T k ≡ bound T i = exact-ancestor k (omega arith) (λ h p. splits h (omega arith)) a x in
-      below-exact j k l splits e (ap (λ (B : Bound). B .exact) s ∙ x) ∙ s
-
-  split-satisfies : (B : Bound) (r n : ℕ) → B .exact ≡ false → Satisfies (splitBound B r) n → Satisfies B n
-  unfolding splitBound Satisfies SatisfiesIf
-  split-satisfies B zero n o s = openly B n o (omega arith)
-  split-satisfies B (suc r) n o s = openly B n o (omega arith)
-
-  parent-satisfies : (j k : ℕ) → j < T .nodeRows → OpenSplits j → nodeAt (T .nodes) j .up ≡ pos k → (n : ℕ) → Satisfies (bound T j) n → Satisfies (bound T k) n
-  unfolding childBound
-  parent-satisfies j k l splits e n s =
-      let c : Satisfies (childBound (node T k .rule) (bound T k) (rank (T .nodes) j)) n =
-      subst (λ (B : Bound). Satisfies B n) (bound-of-child j k l e) s in
-      ⊎-elim
-      (λ q.
-      split-satisfies (bound T k) (rank (T .nodes) j) n
-      (splits k (parent-below T j k (parents j l) e) (eqZ-true (node T k .rule) (pos 2) q))
-      (subst (λ (B : Bound). Satisfies B n) (if-true (eqZ (node T k .rule) (pos 2)) _ _ q) c))
-      (λ q. subst (λ (B : Bound). Satisfies B n) (if-false (eqZ (node T k .rule) (pos 2)) _ _ q) c)
-      (decide (eqZ (node T k .rule) (pos 2)))
+  pub exact-ancestor : (j : ℕ) → j < T .nodeRows → RightSplits j → {i : ℕ} → Ancestor (T .nodes) i j → bound T i .H ≡ some (bound T i .L) → bound T j ≡ bound T i
+  exact-ancestor j l splits {i} a x =
+      let within = ancestor-inside j l splits a in
+      let g = within .upper (bound T i .L) x in
+      let some-is : (g .0) ≡ bound T i .L = omega (arith, within .lower, g .2, nonempty j l splits (g .0) (g .1)) in
+      let least-is : bound T j .L ≡ bound T i .L = omega (arith, within .lower, g .2, nonempty j l splits (g .0) (g .1)) in
+      ap₂ (λ (n : ℕ) (u : Option ℕ). record { L = n; H = u }) least-is (g .1 ∙ ap some some-is ∙ sym x)
 
   -- what satisfies a node's bound satisfies its ancestors'
-  pub ancestor-satisfies : (j : ℕ) → j < T .nodeRows → OpenSplits j → {i : ℕ} → Ancestor (T .nodes) i j → (n : ℕ) → Satisfies (bound T j) n → Satisfies (bound T i) n
-  ancestor-satisfies j l splits {i} (parent e) n s = parent-satisfies j i l splits e n s
-  ancestor-satisfies j l splits {i} (further {k = k} e a) n s =
-      let m : k < j = parent-below T j k (parents j l) e in
-      ancestor-satisfies k (omega arith) (λ h p. splits h (omega arith)) a n (parent-satisfies j k l splits e n s)
+  pub ancestor-satisfies : (j : ℕ) → j < T .nodeRows → RightSplits j → {i : ℕ} → Ancestor (T .nodes) i j → (n : ℕ) → Satisfies (bound T j) n → Satisfies (bound T i) n
+  ancestor-satisfies j l splits {i} a n s = inside-satisfies (bound T j) (bound T i) n (ancestor-inside j l splits a) s
+
+-- ---- 02, No. 5: in a tableau that keeps the rules
+
+module _ (T : Tableau) (K : Keeps T) where
+  right-splits : (j : ℕ) → j < T .nodeRows → RightSplits T (λ x y. K .nodes x y .parent) j
+  right-splits j l k p r = K .nodes k (omega arith) .step .split r
+
+  pub range-nonempty : (j : ℕ) → j < T .nodeRows → Nonempty (bound T j)
+  range-nonempty j l = nonempty T (λ x y. K .nodes x y .parent) j l (right-splits j l)
+
+  pub range-inside : (j k : ℕ) → j < T .nodeRows → nodeAt (T .nodes) j .up ≡ pos k → Inside (bound T j) (bound T k)
+  range-inside j k l e = parent-inside T (λ x y. K .nodes x y .parent) j k l (right-splits j l) e

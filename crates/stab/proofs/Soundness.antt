@@ -12,7 +12,7 @@ use borrow.Author.Tests.{lt-ltb}
 use Rattle.stab.specs.Basic.{_and_, nat, below}
 use Rattle.stab.specs.Formula.{rowAt, joined, tree}
 use Rattle.stab.specs.Meaning.{Assignment, truth}
-use Rattle.stab.specs.Node.{Tableau, Bound, rows, formula, node, bound, firstBound, Satisfies, SatisfiesIf}
+use Rattle.stab.specs.Node.{Tableau, Bound, rows, formula, node, bound, firstBound, AtMost, Satisfies}
 use Rattle.stab.specs.Check.{check}
 use Rattle.stab.specs.Model.{Model, schemaRow, assignment, satisfied, checkModel}
 use Rattle.stab.specs.Keeps.{Keeps}
@@ -45,14 +45,14 @@ module _ (T : Tableau) (K : Keeps T) (σ : Assignment) where
 
   -- the root is true at no n from the least value up
   root-false : (n : ℕ) → T .least ≤ℤ pos n → truth σ n (formula T (T .root)) ≡ true → ⊥
-  unfolding Satisfies SatisfiesIf firstBound bound node below _and_
+  unfolding Satisfies AtMost firstBound bound node below _and_
   root-false n h t =
       let k = K .nodes 0 (K .hasNode) in
       let first : bound T 0 ≡ firstBound (T .least) =
       bound-first (T .nodes) (T .least) 0 (ap (below 0) (k .parent .0)) in
       below-n (suc n) n 0 (omega arith) (K .hasNode)
       (subst (λ (B : Bound). Satisfies B n) (sym first)
-      (omega (arith, of-le (atom (T .least)) (num n) (leZ-of h), nonneg-minus (T .least) (leZ-of (K .formulas .leastRange .0)), plus-nat (T .least))))
+      (omega (arith, of-le (atom (T .least)) (num n) (leZ-of h), nonneg-minus (T .least) (leZ-of (K .formulas .leastRange .0)), plus-nat (T .least)), tt))
       (λ z m. ap (λ (x : ℤ). truth σ n (formula T x)) (mem-one (subst (λ (l : List ℤ). mathlib.Core.List.List·Memᴰ z l) (k .parent .1) m)) ∙ t)
 
 -- the root's formula is made of schema rows

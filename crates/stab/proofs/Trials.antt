@@ -101,6 +101,39 @@ inOrderProgram : List ℕ → List ℕ → List ℕ
 inOrderProgram schema proof =
     printed (afterReading (λ s p. verdictNumbers (checkInOrder (tableauOf s p))) (readSchema 4096 schema) (readProof 4096 9216 8192 proof))
 
+-- ---- bounds from both sides
+
+-- 0..9 within n ≥ 0, 5..9 within that, and a split of 5..9
+ranges : String → List ℕ
+ranges by = checkProgram schemaFalse
+    (nodes "-1 2 -1 -1 -1 -1 9 0\n0 2 -1 -1 -1 -1 4 0\n0 5 0 -1 -1 -1 0 0\n1 5 0 -1 -1 -1 0 0\n1 2 -1 -1 -1 -1 " ++
+    bytes by ++
+    bytes " 0\n4 5 0 -1 -1 -1 0 0\n4 5 0 -1 -1 -1 0 0\n")
+
+-- a split at an open node
+openSplit : String → List ℕ
+openSplit by = checkProgram schemaFalse
+    (nodes "-1 2 -1 -1 -1 -1 " ++ bytes by ++ bytes " 0\n0 5 0 -1 -1 -1 0 0\n0 5 0 -1 -1 -1 0 0\n")
+
+-- n + 2 and index 5, where n is 3 or 4
+rangeClash : List ℕ
+rangeClash = checkProgram
+    (bytes "root least\n2 3\nkind a b c\n2 0 1 2\n3 0 0 5\n4 0 1 0\n")
+    (nodes "-1 0 2 -1 -1 -1 0 2\n0 2 -1 -1 -1 -1 4 0 1\n1 6 0 1 -1 -1 0 0 1\n1 6 0 1 -1 -1 0 0 1\n")
+
+-- an iteration from 5, void up to K
+rangeVoid : String → List ℕ
+rangeVoid by = checkProgram
+    (bytes "root least\n1 0\nkind a b c\n2 0 2 0\n7 0 5 0\n")
+    (nodes "-1 2 -1 -1 -1 -1 " ++ bytes by ++ bytes " 1\n0 7 1 -1 -1 -1 0 1\n0 7 1 -1 -1 -1 0 1\n")
+
+-- a link from 1..5 to the ancestor that knows 0..5
+rangeLink : String → List ℕ
+rangeLink by = checkProgram schemaFalse
+    (nodes "-1 2 -1 -1 -1 -1 5 0\n0 2 -1 -1 -1 -1 0 0\n0 5 0 -1 -1 -1 0 0\n1 5 0 -1 -1 -1 0 0\n1 8 -1 -1 -1 1 " ++
+    bytes by ++
+    bytes " 0\n")
+
 -- ---- the trials
 
 pub computed : List (List ℕ)
@@ -160,6 +193,22 @@ computed =
     -- regrouped bodies: the instance (p and q) and r is wrong, and with p and (q and r) the link
     sided checkProgram regrouped "4 15 16 0\n4 18 17 0\n" "18 20" ∷
     sided checkProgram regrouped "4 16 17 0\n4 15 18 0\n" "15 18 20" ∷
+    -- K = H - 1, K = L by 0; K = L - 1, K = H, and a negative by
+    ranges "8" ∷
+    ranges "0" ∷
+    ranges "4" ∷
+    ranges "9" ∷
+    ranges "-1" ∷
+    -- at an open node 9998 and not 9999
+    openSplit "9998" ∷
+    openSplit "9999" ∷
+    -- a clash by value where n = L is not known; void where H < b + c, and where it is not
+    rangeClash ∷
+    rangeVoid "4" ∷
+    rangeVoid "5" ∷
+    -- L - k at the ancestor's L, and below it
+    rangeLink "1" ∷
+    rangeLink "2" ∷
     -- the one number
     (packed (Accepted 7 1) ∷ packed (Refused Bound (At 5)) ∷ packed (Refused False Whole) ∷ []) ∷
     -- line 2 of a text; line 3, which is unfinished; line 0
@@ -213,6 +262,18 @@ stated =
     answer "15 5 0 0" ∷
     answer "15 5 0 0" ∷
     answer "16 6 0 0" ∷
+    answer "0 0 7 0" ∷
+    answer "0 0 7 0" ∷
+    answer "14 4 0 0" ∷
+    answer "14 4 0 0" ∷
+    answer "12 4 0 0" ∷
+    answer "0 0 3 0" ∷
+    answer "14 0 0 0" ∷
+    answer "14 2 0 0" ∷
+    answer "14 2 0 0" ∷
+    answer "14 1 0 0" ∷
+    answer "0 0 5 1" ∷
+    answer "14 4 0 0" ∷
     -- 1 * 8192 * 8192 + 7 * 8192 + 1; (14 * 8192 + 6) * 8192 * 8192; 20 * 8192 * 8192 * 8192
     (67166209 ∷ 7696984047616 ∷ 10995116277760 ∷ []) ∷
     bytes "cd" ∷
@@ -222,5 +283,5 @@ stated =
     replicate 26 0 ∷ []
 
 pub trials : computed ≡ stated
-unfolding evaluated schema₂₅₅ schemaTrue model schemaFalse nodes byZero openClash openClashAtLeast emptyUnfolded leafBound agree partnersInOrder hasLoweredInOrder loweredInOrder stepRefusalInOrder nodeRefusalInOrder checkInOrder sided swapped oneBody regrouped inOrderProgram answer computed stated
+unfolding evaluated ranges openSplit rangeClash rangeVoid rangeLink schema₂₅₅ schemaTrue model schemaFalse nodes byZero openClash openClashAtLeast emptyUnfolded leafBound agree partnersInOrder hasLoweredInOrder loweredInOrder stepRefusalInOrder nodeRefusalInOrder checkInOrder sided swapped oneBody regrouped inOrderProgram answer computed stated
 trials = refl

@@ -1,5 +1,5 @@
--- The check after 02, No. 3 and before No. 4: formulas are compared with sides in order, by document 01's "agree in shape and in all
--- numbers". What it accepts the check accepts, with the same counts (`in-order-accepted`).
+-- The check with formulas compared as before 02, No. 4: with sides in order, by document 01's "agree in shape and in all numbers"; all
+-- else is the check's. What it accepts the check accepts, with the same counts (`in-order-accepted`).
 use Prim.Native.Nat.{ℕ}
 use mathlib.Core.Bool.{Bool, true, false}
 use mathlib.Core.List.{List, [], _∷_}

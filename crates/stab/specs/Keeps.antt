@@ -4,13 +4,14 @@ use mathlib.Core.Path.{_≡_}
 use mathlib.Core.Logic.{_≢_, _⊎_}
 use mathlib.Core.Bool.{true, false}
 use mathlib.Core.List.{List, [], _∷_, List·Memᴰ}
+use mathlib.Core.Option.{none, some}
 use lib.IntN.{ℤ, pos, negℤ, _+ℤ_, _-ℤ_}
 use lib.Signed.{_≤ℤ_, _<ℤ_}
 use lib.ListN.{length}
 use Rattle.stab.specs.Basic.{nat}
 use Rattle.stab.specs.Formula.{Row, Op, Kind, constant, literal, junction, iteration, unknown, kindOf, index, Formula, const, lit, join, iter, tree, size, depth}
 use Rattle.stab.specs.Alike.{lower, instance}
-use Rattle.stab.specs.Node.{Tableau, Bound, rows, rowCount, row, formula, node, nodeAt, set, setStart, setEnd, bound, rank, childCount}
+use Rattle.stab.specs.Node.{Tableau, Bound, rows, rowCount, row, formula, node, nodeAt, set, setStart, setEnd, splitAt, bound, rank, childCount}
 use Rattle.stab.specs.Rule.{unused, rule, given, indexAt}
 use Rattle.stab.specs.Model.{Model, schemaRow, pairSymbol, pairIndex, satisfied}
 
@@ -124,6 +125,12 @@ pub record KeepsKind (T : Tableau) (need z : ℤ) : Type 0 where
   pub isRow : need ≢ unused → Below (rowCount T) z
   pub ofKind : need ≢ unused → row T z .kind ≡ need
 
+-- rule 2, at a node with bound B: "K lies between L and H - 1, or between L and 9998 at an open node"
+pub record Splits (B : Bound) (K : ℕ) : Type 0 where
+  pub fromL : B .L ≤ K
+  pub atOpen : B .H ≡ none → K ≤ 9998
+  pub belowH : (H : ℕ) → B .H ≡ some H → K < H
+
 -- rules 3 and 4
 pub record Unfolds (T : Tableau) (j : ℕ) : Type 0 where
   pub nonempty : (row T (node T j .on) .b +ℤ row T (node T j .on) .c) ≤ℤ pos (bound T j .L)
@@ -134,7 +141,7 @@ pub record Unfolds (T : Tableau) (j : ℕ) : Type 0 where
 
 -- two literals name the same index
 abbrev pub SameIndex : Bound → Row → Row → Type 0
-SameIndex B v w = ((v .b ≡ w .b) × (v .c ≡ w .c)) ⊎ ((B .exact ≡ true) × (indexAt (B .L) v ≡ indexAt (B .L) w))
+SameIndex B v w = ((v .b ≡ w .b) × (v .c ≡ w .c)) ⊎ ((B .H ≡ some (B .L)) × (indexAt (B .L) v ≡ indexAt (B .L) w))
 
 -- rule 6
 pub record Clashes (T : Tableau) (j : ℕ) : Type 0 where
@@ -142,7 +149,7 @@ pub record Clashes (T : Tableau) (j : ℕ) : Type 0 where
   pub sameSymbol : row T (node T j .on) .a ≡ row T (node T j .with) .a
   pub sameIndex : SameIndex (bound T j) (row T (node T j .on)) (row T (node T j .with))
 
--- rule 8, with a link to node i. In a tableau that keeps the rules node i is open (`target-open`).
+-- rule 8, with a link to node i. In a tableau that keeps the rules node i is not exact (`target-open`).
 pub record Loops (T : Tableau) (j i : ℕ) : Type 0 where
   pub target : node T j .to ≡ pos i
   pub ancestor : Ancestor (T .nodes) i j
@@ -157,11 +164,13 @@ pub record KeepsStep (T : Tableau) (j : ℕ) : Type 0 where
   pub otherUsed : rule T j .other ≡ true → Below (rowCount T) (node T j .other)
   pub otherUnused : rule T j .other ≡ false → node T j .other ≡ unused
   pub linkUsed : rule T j .link ≡ true → pos 1 ≤ℤ node T j .by
-  pub linkUnused : rule T j .link ≡ false → (node T j .to ≡ unused) × (node T j .by ≡ pos 0)
-  pub split : node T j .rule ≡ pos 2 → (bound T j .exact ≡ false) × (bound T j .L ≤ 9998)
+  pub linkUnused : rule T j .link ≡ false → node T j .to ≡ unused
+  pub splitUsed : rule T j .split ≡ true → pos 0 ≤ℤ node T j .by
+  pub byUnused : rule T j .link ≡ false → rule T j .split ≡ false → node T j .by ≡ pos 0
+  pub split : node T j .rule ≡ pos 2 → Splits (bound T j) (splitAt (bound T j .L) (node T j .by))
   pub unfolds : (node T j .rule ≡ pos 3) ⊎ (node T j .rule ≡ pos 4) → Unfolds T j
   pub clash : node T j .rule ≡ pos 6 → Clashes T j
-  pub void : node T j .rule ≡ pos 7 → (bound T j .exact ≡ true) × (pos (bound T j .L) <ℤ (row T (node T j .on) .b +ℤ row T (node T j .on) .c))
+  pub void : node T j .rule ≡ pos 7 → (H : ℕ) × (bound T j .H ≡ some H) × (pos H <ℤ (row T (node T j .on) .b +ℤ row T (node T j .on) .c))
   pub loop : node T j .rule ≡ pos 8 → (i : ℕ) × Loops T j i
   pub children : childCount T j ≡ rule T j .children
 

@@ -9,6 +9,7 @@ pub mod Check
 pub mod Search
 pub mod OpenTarget
 pub mod InOrder
+pub mod OneValue
 pub mod Model
 pub mod Keeps
 pub mod Refuted

@@ -1,8 +1,9 @@
--- 01, "Nodes and their bounds".
+-- 01, "Nodes and their bounds"; 02, No. 5.
 use Prim.Native.Nat.{ℕ, zero, suc, _+_, _*_, _≤_}
-use mathlib.Core.Path.{_≡_}
 use mathlib.Core.Bool.{Bool, true, false}
 use mathlib.Core.List.{List, [], _∷_}
+use mathlib.Core.Option.{Option, none, some}
+use lib.Dec.{eqb}
 use lib.IntN.{ℤ, pos, negℤ, _+ℤ_}
 use lib.Signed.{leZ}
 use lib.ListN.{getD, take, drop}
@@ -126,43 +127,62 @@ rank nodes j = count (names nodes (nodeAt nodes j .up)) j
 
 -- ---- bounds
 
--- "Each node knows n ≥ L (open) or n = L (exact)."
+-- 02, No. 5: "A node now knows L and either no upper bound or H."
 pub record Bound : Type 0 where
-  pub exact : Bool
   pub L : ℕ
+  pub H : Option ℕ
+
+-- n is at most H, if there is an upper bound
+unfoldable pub AtMost : Option ℕ → ℕ → Type 0
+AtMost none n = Unit {0}
+AtMost (some H) n = n ≤ H
 
 -- n satisfies a bound
-unfoldable pub SatisfiesIf : Bool → ℕ → ℕ → Type 0
-SatisfiesIf true L n = n ≡ L
-SatisfiesIf false L n = L ≤ n
-
 unfoldable pub Satisfies : Bound → ℕ → Type 0
-Satisfies B n = SatisfiesIf (B .exact) (B .L) n
+Satisfies B n = (B .L ≤ n) × AtMost (B .H) n
 
--- under rule 2 "the first child is exact with L, the second open with L + 1"
-unfoldable pub splitBound : Bound → ℕ → Bound
-splitBound B zero = record { exact = true; L = B .L }
-splitBound B (suc k) = record { exact = false; L = suc (B .L) }
+-- there is an upper bound, and it is n
+unfoldable pub isUpper : Option ℕ → ℕ → Bool
+isUpper none n = false
+isUpper (some H) n = eqb n H
 
--- "A child has its parent's bound, except under rule 2."
-unfoldable pub childBound : ℤ → Bound → ℕ → Bound
-childBound rule B k = if eqZ rule (pos 2) then splitBound B k else B
+-- "An exact node is L = H."
+unfoldable pub isExact : Bound → Bool
+isExact B = isUpper (B .H) (B .L)
+
+-- "A split names K in by": K, at a node with lower bound L; "by 0 stands for K = L". A negative by is refused before K is used.
+unfoldable pub splitAt : ℕ → ℤ → ℕ
+splitAt L by = if eqZ by (pos 0) then L else nat by
+
+-- "the first child has n ≤ K, the second n ≥ K + 1": the bound of the child of rank k; its other end is the parent's
+unfoldable pub splitBound : Bound → ℕ → ℕ → Bound
+splitBound B K zero = record { L = B .L; H = some K }
+splitBound B K (suc k) = record { L = suc K; H = B .H }
+
+-- "A child has its parent's bound, except under rule 2.": the bound of the child of rank k, of a parent w with bound B
+unfoldable pub childBound : Node → Bound → ℕ → Bound
+childBound w B k = if eqZ (w .rule) (pos 2) then splitBound B (splitAt (B .L) (w .by)) k else B
 
 -- "Node 0 is open with the least value."
 unfoldable pub firstBound : ℤ → Bound
-firstBound least = record { exact = false; L = nat least }
+firstBound least = record { L = nat least; H = none }
 
-unfoldable pub boundIf : Bool → List ℤ → ℤ → (ℕ → Bound) → ℕ → Bound
-boundIf true nodes least bound j = childBound (nodeAt nodes (nat (nodeAt nodes j .up)) .rule) (bound (nat (nodeAt nodes j .up))) (rank nodes j)
-boundIf false nodes least bound j = firstBound least
+-- what a node has from its parent, or first where it has none: a parent w gives child w x k, from its own x, to its child of rank k
+unfoldable pub inheritIf : {A : Type 0} → A → (Node → A → ℕ → A) → List ℤ → Bool → (ℕ → A) → ℕ → A
+inheritIf first child nodes true above j = child (nodeAt nodes (nat (nodeAt nodes j .up))) (above (nat (nodeAt nodes j .up))) (rank nodes j)
+inheritIf first child nodes false above j = first
 
--- the bound of node j, for k > j: parents have smaller numbers, so k steps are enough
-unfoldable pub boundN : List ℤ → ℤ → ℕ → ℕ → Bound
-boundN nodes least zero j = firstBound least
-boundN nodes least (suc k) j = boundIf (below j (nodeAt nodes j .up)) nodes least (boundN nodes least k) j
+-- what node j has, for k > j: parents have smaller numbers, so k steps are enough
+unfoldable pub inheritN : {A : Type 0} → A → (Node → A → ℕ → A) → List ℤ → ℕ → ℕ → A
+inheritN first child nodes zero j = first
+inheritN first child nodes (suc k) j = inheritIf first child nodes (below j (nodeAt nodes j .up)) (inheritN first child nodes k) j
 
+unfoldable pub inherited : {A : Type 0} → A → (Node → A → ℕ → A) → List ℤ → ℕ → A
+inherited first child nodes j = inheritN first child nodes (suc j) j
+
+-- the bound of node j
 unfoldable pub boundOf : List ℤ → ℤ → ℕ → Bound
-boundOf nodes least j = boundN nodes least (suc j) j
+boundOf nodes least j = inherited (firstBound least) childBound nodes j
 
 unfoldable pub bound : Tableau → ℕ → Bound
 bound T j = boundOf (T .nodes) (T .least) j

@@ -1,18 +1,19 @@
--- The check with the test put back that 02, No. 3 takes out of document 01's rule 8: "to is a proper ancestor, open". It gives the
--- same verdict as the check, whatever the tableau (`open-needless`).
+-- The check with the test put back that 02, No. 3 takes out of document 01's rule 8: "to is a proper ancestor, open". In 01 a node
+-- that is not open is exact, and so it is read here: since No. 5 an ancestor may have an upper bound, if only L = H is not. It gives
+-- the same verdict as the check, whatever the tableau (`open-needless`).
 use Prim.Native.Nat.{ℕ}
 use mathlib.Core.Bool.{Bool, not}
 use mathlib.Core.Option.{Option}
 use Rattle.stab.specs.Basic.{_and_, _implies_, nat, _otherwise_}
-use Rattle.stab.specs.Node.{Tableau, node, bound}
+use Rattle.stab.specs.Node.{Tableau, node, isExact, bound}
 use Rattle.stab.specs.Rule.{ofRule, drawn, fieldsFit, targetFits, boundFits, partnersFit, loweredFits, childrenFit}
 use Rattle.stab.specs.Check.{atUnless, checkBy}
 use Rattle.stab.specs.declared.Refusal.the-variants.{Drawn, Fields, Target, Bound, Partner, Lowered, Children}
 use Rattle.stab.specs.declared.Verdict.{Verdict}
 
--- the target of a link is open
+-- the target of a link is not exact
 unfoldable pub targetOpen : Tableau → ℕ → Bool
-targetOpen T j = ofRule 8 (node T j) implies not (bound T (nat (node T j .to)) .exact)
+targetOpen T j = ofRule 8 (node T j) implies not (isExact (bound T (nat (node T j .to))))
 
 -- 11 to 16, with that test among those of 14
 unfoldable pub stepRefusalOpen : Tableau → ℕ → Option Verdict

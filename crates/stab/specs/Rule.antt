@@ -1,7 +1,8 @@
--- 01, "The rules".
+-- 01, "The rules"; 02, Nos. 3 to 5.
 use Prim.Native.Nat.{ℕ, zero, suc}
-use mathlib.Core.Bool.{Bool, true, false, not}
+use mathlib.Core.Bool.{Bool, true, false}
 use mathlib.Core.List.{List, [], _∷_}
+use mathlib.Core.Option.{Option, none, some}
 use lib.Dec.{leb, eqb}
 use lib.IntN.{ℤ, pos, negℤ, _+ℤ_, _-ℤ_}
 use lib.Signed.{leZ, ltZ}
@@ -10,7 +11,7 @@ use Rattle.stab.specs.Basic.{if_then_else_, _and_, _or_, _implies_, eqZ,
 use Rattle.stab.specs.Formula.{Row, baseOf}
 use Rattle.stab.specs.Meaning.{base}
 use Rattle.stab.specs.Alike.{lower, instance, alike}
-use Rattle.stab.specs.Node.{Tableau, Node, Bound, row, formula, isRow, node, set, bound, rank, childCount, isAncestor}
+use Rattle.stab.specs.Node.{Tableau, Node, Bound, row, formula, isRow, node, set, isExact, splitAt, bound, rank, childCount, isAncestor}
 use Rattle.stab.specs.declared.Rule.{Rule}
 
 -- ---- the table
@@ -19,28 +20,28 @@ use Rattle.stab.specs.declared.Rule.{Rule}
 unfoldable pub unused : ℤ
 unused = negℤ (pos 1)
 
-unfoldable pub entry : ℤ → ℤ → Bool → Bool → ℕ → Rule
-entry on with other link children = record { on = on; with = with; other = other; link = link; children = children }
+unfoldable pub entry : ℤ → ℤ → Bool → Bool → Bool → ℕ → Rule
+entry on with other link split children = record { on = on; with = with; other = other; link = link; split = split; children = children }
 
--- "The table below says what each rule uses.": kind of on, kind of with, other, to and by, children
+-- "The table below says what each rule uses.": kind of on, kind of with, other, to and by, by alone ("A split names K in by"), children
 unfoldable pub ruleTable : List Rule
 ruleTable =
     -- 0 and, 1 or, 2 split
-    entry (pos 4) unused false false 1 ∷
-    entry (pos 5) unused false false 2 ∷
-    entry unused unused false false 2 ∷
+    entry (pos 4) unused false false false 1 ∷
+    entry (pos 5) unused false false false 2 ∷
+    entry unused unused false false true 2 ∷
     -- 3 unfold and, 4 unfold or
-    entry (pos 6) (pos 6) true false 1 ∷
-    entry (pos 7) (pos 7) true false 2 ∷
+    entry (pos 6) (pos 6) true false false 1 ∷
+    entry (pos 7) (pos 7) true false false 2 ∷
     -- 5 false, 6 clash, 7 void, 8 loop
-    entry (pos 1) unused false false 0 ∷
-    entry (pos 2) (pos 3) false false 0 ∷
-    entry (pos 7) unused false false 0 ∷
-    entry unused unused false true 0 ∷ []
+    entry (pos 1) unused false false false 0 ∷
+    entry (pos 2) (pos 3) false false false 0 ∷
+    entry (pos 7) unused false false false 0 ∷
+    entry unused unused false true false 0 ∷ []
 
 -- the table's entry for a rule's number
 unfoldable pub ruleOf : ℤ → Rule
-ruleOf z = getD ruleTable (nat z) (entry unused unused false false 0)
+ruleOf z = getD ruleTable (nat z) (entry unused unused false false false 0)
 
 -- node j's entry
 unfoldable pub rule : Tableau → ℕ → Rule
@@ -91,9 +92,12 @@ onStands T j = eqZ (rule T j .on) unused or has (node T j .on) (set T j)
 unfoldable pub otherFits : Tableau → ℕ → Bool
 otherFits T j = if rule T j .other then isRow T (node T j .other) else eqZ (node T j .other) unused
 
--- "Unused fields are -1, and by is 0."; of a loop "by = k ≥ 1"
+-- "Unused fields are -1, and by is 0."; of a loop "by = k ≥ 1"; "A split's negative by gives 12."
 unfoldable pub linkFits : Tableau → ℕ → Bool
-linkFits T j = if rule T j .link then leZ (pos 1) (node T j .by) else eqZ (node T j .to) unused and eqZ (node T j .by) (pos 0)
+linkFits T j =
+    if rule T j .link then leZ (pos 1) (node T j .by) else
+    eqZ (node T j .to) unused and
+    (if rule T j .split then leZ (pos 0) (node T j .by) else eqZ (node T j .by) (pos 0))
 
 -- of a clash "with is in the set; same symbol"
 unfoldable pub symbolFits : Tableau → ℕ → Bool
@@ -118,37 +122,43 @@ targetFits T j = ofRule 8 (node T j) implies isAncestor (T .nodes) (node T j .to
 
 -- ---- bounds and the index of a clash: refusal 14
 
--- "The node is open, L ≤ 9998"
-unfoldable pub splitFits : Bound → Bool
-splitFits B = not (B .exact) and leb (B .L) 9998
+-- "K lies between L and H - 1, or between L and 9998 at an open node": the upper end of it
+unfoldable pub staysBelow : Option ℕ → ℕ → Bool
+staysBelow none K = leb K 9998
+staysBelow (some H) K = leZ (pos K) (pos H -ℤ pos 1)
+
+unfoldable pub splitFits : Bound → ℕ → Bool
+splitFits B K = leb (B .L) K and staysBelow (B .H) K
 
 -- "L ≥ b + c"
-unfoldable pub unfoldFits : Bound → Row → Bool
-unfoldFits B w = leZ (w .b +ℤ w .c) (pos (B .L))
+unfoldable pub unfoldFits : ℕ → Row → Bool
+unfoldFits L w = leZ (w .b +ℤ w .c) (pos L)
 
 -- the index that an outer literal names at n
 unfoldable pub indexAt : ℕ → Row → ℤ
 indexAt n w = base n (pos 0) (baseOf (w .b)) +ℤ w .c
 
--- "same index: b and c equal, or the node exact and the values equal"
-unfoldable pub clashFits : Bound → Row → Row → Bool
-clashFits B v w = eqZ (v .b) (w .b) and eqZ (v .c) (w .c) or B .exact and eqZ (indexAt (B .L) v) (indexAt (B .L) w)
+-- "same index: b and c equal, or the node exact and the values equal"; "a clash by value needs L = H"
+unfoldable pub clashFits : Bool → ℕ → Row → Row → Bool
+clashFits exact L v w = eqZ (v .b) (w .b) and eqZ (v .c) (w .c) or exact and eqZ (indexAt L v) (indexAt L w)
 
--- "exact, L < b + c"
-unfoldable pub voidFits : Bound → Row → Bool
-voidFits B w = B .exact and ltZ (pos (B .L)) (w .b +ℤ w .c)
+-- "Void needs H < b + c"
+unfoldable pub voidFits : Option ℕ → Row → Bool
+voidFits none w = false
+voidFits (some H) w = ltZ (pos H) (w .b +ℤ w .c)
 
--- "L - k ≥ the ancestor's bound", for an ancestor with bound A. That it is "open" is not looked at (02, No. 3: "take the test out").
-unfoldable pub loopFits : Bound → Bound → ℤ → Bool
-loopFits B A k = leZ (pos (A .L)) (pos (B .L) -ℤ k)
+-- "L - k ≥ the ancestor's bound", which is A: "A link to a bounded ancestor needs L - k at or above that ancestor's L." That it is
+-- "open" is not looked at (02, No. 3: "take the test out").
+unfoldable pub loopFits : ℕ → ℕ → ℤ → Bool
+loopFits L A k = leZ (pos A) (pos L -ℤ k)
 
 unfoldable pub boundFits : Tableau → ℕ → Bool
 boundFits T j =
-    (ofRule 2 (node T j) implies splitFits (bound T j)) and
-    (ofRule 3 (node T j) or ofRule 4 (node T j) implies unfoldFits (bound T j) (row T (node T j .on))) and
-    (ofRule 6 (node T j) implies clashFits (bound T j) (row T (node T j .on)) (row T (node T j .with))) and
-    (ofRule 7 (node T j) implies voidFits (bound T j) (row T (node T j .on))) and
-    (ofRule 8 (node T j) implies loopFits (bound T j) (bound T (nat (node T j .to))) (node T j .by))
+    (ofRule 2 (node T j) implies splitFits (bound T j) (splitAt (bound T j .L) (node T j .by))) and
+    (ofRule 3 (node T j) or ofRule 4 (node T j) implies unfoldFits (bound T j .L) (row T (node T j .on))) and
+    (ofRule 6 (node T j) implies clashFits (isExact (bound T j)) (bound T j .L) (row T (node T j .on)) (row T (node T j .with))) and
+    (ofRule 7 (node T j) implies voidFits (bound T j .H) (row T (node T j .on))) and
+    (ofRule 8 (node T j) implies loopFits (bound T j .L) (bound T (nat (node T j .to)) .L) (node T j .by))
 
 -- ---- with and other of an unfolding: refusal 15
 

@@ -78,12 +78,13 @@ pub enum Written {
 }
 
 // A row of the rule table: the kinds that `on` and `with` need (-1: the field is unused),
-// whether `other` is used, whether `to` and `by` are, and the number of children.
+// whether `other` is used, whether `to` and `by` are, whether `by` alone is, and the number of children.
 pub struct Rule {
     pub on: i32,
     pub with: i32,
     pub other: bool,
     pub link: bool,
+    pub split: bool,
     pub children: usize,
 }
 

@@ -26,6 +26,7 @@ pub fn test(tally: &mut Tally) {
         ("unfoldings with instances in either order", swapped_unfoldings(40)),
         ("1,024 rows of one class", one_class()),
         ("1,024 rows, 970 ors of one shape, no two alike", no_two_alike()),
+        ("511 ranges in one another", nested_ranges()),
     ];
     let models = [
         ("29,998 values, body of size 4,095", long_range(LITERALS_APART)),
@@ -514,6 +515,18 @@ pub fn splits(count: usize, held: usize) -> Tables {
         }
     }
     b.tables(root, schema_count)
+}
+
+/// 511 splits, each the first child of the one before, at 9998, 9997, ...
+fn nested_ranges() -> Tables {
+    let mut b = Builder::default();
+    let no = b.row([FALSE, 0, 0, 0]);
+    let splits: Vec<i32> = (0..511).map(|at| b.node([at - 1, 2, -1, -1, -1, -1, 9998 - at], &[no])).collect();
+    b.node([510, 5, no, -1, -1, -1, 0], &[no]);
+    for split in splits {
+        b.node([split, 5, no, -1, -1, -1, 0], &[no]);
+    }
+    b.tables(no, 1)
 }
 
 /// `count` formula rows, and false as the root's first part.

@@ -4,7 +4,7 @@ use std::path::Path;
 use std::process::exit;
 use zorambi_compare::tally::Tally;
 use zorambi_compare::{edges, heavy, paper, records, sides};
-use zorambi_reference::generate::case;
+use zorambi_reference::generate::{case, ranges};
 
 const USE: &str = "\
 use: zorambi-compare SEED COUNT RECORDS        the paper's cases, the records below RECORDS, texts and tables at the
@@ -20,6 +20,13 @@ fn generated(tally: &mut Tally, seed: u64, count: u64) {
         let what = format!("seed {seed} case {number} ({})", case.sort);
         compared += u64::from(tally.compare_generated(&what, &case));
         number += 1;
+    }
+}
+
+/// Splits at every edge of K.
+fn edges_of_k(tally: &mut Tally) {
+    for (number, case) in ranges::edges().iter().enumerate() {
+        tally.compare_generated(&format!("edge {number} of K"), case);
     }
 }
 
@@ -47,6 +54,7 @@ fn main() {
             edges::test(&mut tally);
             println!("{} cases chosen by hand", tally.passed + tally.failed);
             sides::test(&mut tally, Path::new(folder), 20);
+            edges_of_k(&mut tally);
             generated(&mut tally, number(seed), number(count));
             tally.test_cover();
         }

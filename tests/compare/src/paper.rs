@@ -47,6 +47,14 @@ pub fn test(tally: &mut Tally) {
         // A file that cannot be opened counts as empty, and the schema's text is refused first.
         ("no files", String::new(), String::new(), "3 1 0 0"),
         ("no proof file", SCHEMA.into(), String::new(), "3 1 0 0"),
+        // Document 02, No. 5: what node 1's split names as K.
+        ("node 1 by 1", SCHEMA.into(), proof("0 2 -1 -1 -1 -1 0 ", "0 2 -1 -1 -1 -1 1 "), "0 0 7 1"),
+        ("node 1 by 2", SCHEMA.into(), proof("0 2 -1 -1 -1 -1 0 ", "0 2 -1 -1 -1 -1 2 "), "14 2 0 0"),
+        ("node 1 by 9998", SCHEMA.into(), proof("0 2 -1 -1 -1 -1 0 ", "0 2 -1 -1 -1 -1 9998 "), "14 2 0 0"),
+        ("node 1 by 9999", SCHEMA.into(), proof("0 2 -1 -1 -1 -1 0 ", "0 2 -1 -1 -1 -1 9999 "), "14 1 0 0"),
+        ("node 1 by -1", SCHEMA.into(), proof("0 2 -1 -1 -1 -1 0 ", "0 2 -1 -1 -1 -1 -1 "), "12 1 0 0"),
+        ("node 1 to 0", SCHEMA.into(), proof("0 2 -1 -1 -1 -1 0 ", "0 2 -1 -1 -1 0 0 "), "12 1 0 0"),
+        ("node 2 by 1", SCHEMA.into(), proof("1 7 2 -1 -1 -1 0 ", "1 7 2 -1 -1 -1 1 "), "12 2 0 0"),
         // Plausible, and false.
         ("a link by 0", SCHEMA.into(), proof("-1 1 1 5 7\n", "-1 1 0 5 7\n"), "12 5 0 0"),
     ];

@@ -12,30 +12,35 @@ const RULE_CLASH: usize = 6;
 const RULE_VOID: usize = 7;
 const RULE_LOOP: usize = 8;
 
+/// The least `by` that a rule which uses it may have: a link lowers n, a split's 0 stands for L.
+const LINK_BY: Option<i32> = Some(1);
+const SPLIT_BY: Option<i32> = Some(0);
+
 /// One line of the paper's table of rules: the kinds named for `on` and `with`, whether `other` is
-/// used, whether `to` and `by` are used, and the number of children.
+/// used, whether `to` is, the least `by` if it is used, and the number of children.
 struct Rule {
     on: Option<i32>,
     with: Option<i32>,
     other: bool,
-    link: bool,
+    to: bool,
+    by: Option<i32>,
     children: usize,
 }
 
-const fn rule(on: Option<i32>, with: Option<i32>, other: bool, link: bool, children: usize) -> Rule {
-    Rule { on, with, other, link, children }
+const fn rule(on: Option<i32>, with: Option<i32>, other: bool, to: bool, by: Option<i32>, children: usize) -> Rule {
+    Rule { on, with, other, to, by, children }
 }
 
 const RULES: [Rule; 9] = [
-    rule(Some(AND), None, false, false, 1),
-    rule(Some(OR), None, false, false, 2),
-    rule(None, None, false, false, 2),
-    rule(Some(BIG_AND), Some(BIG_AND), true, false, 1),
-    rule(Some(BIG_OR), Some(BIG_OR), true, false, 2),
-    rule(Some(FALSE), None, false, false, 0),
-    rule(Some(LITERAL), Some(NEGATED), false, false, 0),
-    rule(Some(BIG_OR), None, false, false, 0),
-    rule(None, None, false, true, 0),
+    rule(Some(AND), None, false, false, None, 1),
+    rule(Some(OR), None, false, false, None, 2),
+    rule(None, None, false, false, SPLIT_BY, 2),
+    rule(Some(BIG_AND), Some(BIG_AND), true, false, None, 1),
+    rule(Some(BIG_OR), Some(BIG_OR), true, false, None, 2),
+    rule(Some(FALSE), None, false, false, None, 0),
+    rule(Some(LITERAL), Some(NEGATED), false, false, None, 0),
+    rule(Some(BIG_OR), None, false, false, None, 0),
+    rule(None, None, false, true, LINK_BY, 0),
 ];
 
 /// A node row, with its set found among the members.
@@ -51,11 +56,27 @@ struct Node<'a> {
     set: &'a [i32],
 }
 
-/// n ≥ `least` (open) or n = `least` (exact).
+/// n ≥ `least`, and n ≤ `most` if there is an upper bound.
 #[derive(Clone, Copy)]
 struct Bound {
     least: i64,
-    open: bool,
+    most: Option<i64>,
+}
+
+impl Bound {
+    /// K of a split with this `by`.
+    fn named(self, by: i32) -> i64 {
+        if by == 0 {
+            self.least
+        } else {
+            i64::from(by)
+        }
+    }
+
+    /// The largest K of a split.
+    fn last_split(self) -> i64 {
+        self.most.unwrap_or(i64::from(MAX_N)) - 1
+    }
 }
 
 /// The check: `root` and `least`, then the four tables, each with its count of rows or members.
@@ -161,7 +182,7 @@ fn check_rules(formulas: &Formulas, nodes: &[Node], least: i64) -> Result<(), Re
     let mut bounds: Vec<Bound> = Vec::with_capacity(nodes.len());
     for (number, node) in nodes.iter().enumerate() {
         if number == 0 {
-            bounds.push(Bound { least, open: true });
+            bounds.push(Bound { least, most: None });
         } else {
             let up = node.up as usize;
             bounds.push(bound_of_child(bounds[up], &nodes[up], position[number]));
@@ -180,9 +201,9 @@ fn bound_of_child(bound: Bound, parent: &Node, position: usize) -> Bound {
     if parent.rule != RULE_SPLIT as i32 {
         bound
     } else if position == 0 {
-        Bound { least: bound.least, open: false }
+        Bound { most: Some(bound.named(parent.by)), ..bound }
     } else {
-        Bound { least: bound.least + 1, open: true }
+        Bound { least: bound.named(parent.by) + 1, ..bound }
     }
 }
 
@@ -228,8 +249,9 @@ fn check_node(formulas: &Formulas, nodes: &[Node], bounds: &[Bound], number: usi
         None => node.with == -1,
     };
     let other_fits = if rule.other { kind(node.other).is_some() } else { node.other == -1 };
-    let link_fits = if rule.link { node.by >= 1 } else { node.to == -1 && node.by == 0 };
-    if !(on_fits && with_fits && other_fits && link_fits) {
+    let to_fits = rule.to || node.to == -1;
+    let by_fits = rule.by.map_or(node.by == 0, |least| node.by >= least);
+    if !(on_fits && with_fits && other_fits && to_fits && by_fits) {
         return Err(12);
     }
     // From here on a used `on` or `with` is a row; an unused one is not looked at.
@@ -240,7 +262,7 @@ fn check_node(formulas: &Formulas, nodes: &[Node], bounds: &[Bound], number: usi
     }
 
     // 13: a link goes to a proper ancestor.
-    let target = if rule.link {
+    let target = if rule.to {
         match proper_ancestor(nodes, number, node.to) {
             Some(ancestor) => ancestor,
             None => return Err(13),
@@ -249,17 +271,18 @@ fn check_node(formulas: &Formulas, nodes: &[Node], bounds: &[Bound], number: usi
         number
     };
 
-    // 14: the bound, or the index of a clash.
+    // 14: the bound, a split's K, or the index of a clash.
     let first_limit = i64::from(on_b) + i64::from(on_c);
     let bound_fits = match rule_number {
-        RULE_SPLIT => bound.open && bound.least < i64::from(MAX_N),
+        RULE_SPLIT => (bound.least..=bound.last_split()).contains(&bound.named(node.by)),
         RULE_UNFOLD_AND | RULE_UNFOLD_OR => bound.least >= first_limit,
         RULE_CLASH => {
             (on_b, on_c) == (with_b, with_c)
-                || (!bound.open && value(on_b, on_c, bound.least) == value(with_b, with_c, bound.least))
+                || (bound.most == Some(bound.least)
+                    && value(on_b, on_c, bound.least) == value(with_b, with_c, bound.least))
         }
-        RULE_VOID => !bound.open && bound.least < first_limit,
-        RULE_LOOP => bounds[target].open && bound.least - i64::from(node.by) >= bounds[target].least,
+        RULE_VOID => bound.most.is_some_and(|most| most < first_limit),
+        RULE_LOOP => bound.least - i64::from(node.by) >= bounds[target].least,
         _ => true,
     };
     if !bound_fits {
@@ -275,7 +298,7 @@ fn check_node(formulas: &Formulas, nodes: &[Node], bounds: &[Bound], number: usi
     }
 
     // 16: each row of the ancestor's set stands in this set, lowered.
-    if rule.link && !formulas.all_lowered(nodes[target].set, node.set, node.by) {
+    if rule.to && !formulas.all_lowered(nodes[target].set, node.set, node.by) {
         return Err(16);
     }
 

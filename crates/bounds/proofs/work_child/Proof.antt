@@ -7,9 +7,8 @@ use lib.IntN.{pos}
 use lib.ListN.{length, set}
 use Rattle.stab.specs.Basic.{nat}
 use Rattle.stab.specs.Node.{Bound, boundOf}
-use Rattle.formula.specs.Facts.{bit}
 use Rattle.formula.proofs.KeptLaws.{kept-length}
-use Rattle.branch.specs.Work.{AllWorked}
+use Rattle.branch.specs.Work.{topOf, AllWorked}
 use Rattle.bounds.specs.Bounds.{Stays}
 use Rattle.bounds.proofs.WorkLaws.{parent-before, l-small, rank-small, bound-at, work-more, work-stays}
 use Rattle.bounds.proofs.work_child.Statement.{statement}
@@ -22,17 +21,17 @@ number-of-requires-2 : tie.Need-number-of-requires-2
 number-of-requires-2 c κs = omega (arith, parent-before (c .before .before .before .before .pre .2), c .before .before .before .before .pre .2 .room)
 
 child-l-requires : tie.Need-child-l-requires
-unfolding nat
 child-l-requires c κs =
     let s = c .before .before .before .before .before in
-    (omega (arith, parent-before (s .pre .2)), omega (arith, c .number-of2 .ensures, l-small (s .pre .2), parent-before (s .pre .2)))
+    (omega (arith, parent-before (s .pre .2)), omega (arith, c .number-of2 .ensures, l-small (s .pre .2)))
 
 number-of-requires-3 : tie.Need-number-of-requires-3
 number-of-requires-3 c κs = omega (arith, parent-before (c .before .before .before .before .before .before .before .pre .2), c .before .before .before .before .before .before .before .pre .2 .room)
 
-child-exact-requires : tie.Need-child-exact-requires
-child-exact-requires c κs =
-    omega (arith, parent-before (c .before .before .before .before .before .before .before .before .pre .2))
+child-h-requires : tie.Need-child-h-requires
+child-h-requires c κs =
+    let s = c .before .before .before .before .before .before .before .before in
+    (omega (arith, parent-before (s .pre .2)), omega (arith, c .before .before .before .number-of2 .ensures, l-small (s .pre .2)))
 
 keep-requires : tie.Need-keep-requires
 keep-requires c κs = search needs
@@ -58,7 +57,7 @@ slice-write-work : tie.Need-slice-write-work
 slice-write-work c =
     let s = c .before .before .before .before .before .before .before .before .before .before .before .before .before in
     let a = s .args in
-    omega (arith, parent-before (s .pre .2), ap length (c .before .before .keep .ensures), kept-length (a .work .now) (a .j) (c .before .before .before .before .before .before .before .before .before .before .number-of .result) (c .before .before .before .before .before .before .before .child-l .result) (c .before .before .before .before .child-exact .result) 0)
+    omega (arith, parent-before (s .pre .2), ap length (c .before .before .keep .ensures), kept-length (a .work .now) (a .j) (c .before .before .before .before .before .before .before .before .before .before .number-of .result) (c .before .before .before .before .before .before .before .child-l .result) (c .before .before .before .before .child-h .result) 0)
 
 same-length : tie.Need-same-length
 same-length c = search needs
@@ -69,20 +68,21 @@ returns c =
     let a = s .args in
     let r = c .before .before .before .before .before .before .before .before .before .before .number-of in
     let l = c .before .before .before .before .before .before .before .child-l in
-    let e = c .before .before .before .before .child-exact in
+    let e = c .before .before .before .before .child-h in
     let parent = boundOf (a .nodes .now) (pos (a .least)) (a .u) in
     let done = s .pre .2 .done (a .u) (parent-before (s .pre .2)) in
     let bound = bound-at (s .pre .2) (r .result) (r .ensures) in
-    let l-is = ap (λ (B : Bound). B .L) bound ∙ l .ensures parent (sym (done .L) ∙ sym (c .before .before .before .before .before .before .before .before .number-of2 .ensures)) in
-    let e-is = ap (λ (B : Bound). bit (B .exact)) bound ∙ e .ensures parent (sym (done .exact) ∙ sym (c .before .before .before .before .before .number-of3 .ensures)) in (
+    let above = sym (done .L) ∙ sym (c .before .before .before .before .before .before .before .before .number-of2 .ensures) in
+    let l-is = ap (λ (B : Bound). B .L) bound ∙ l .ensures .0 parent above in
+    let e-is = ap (λ (B : Bound). topOf (B .H)) bound ∙ e .ensures parent above (sym (done .H) ∙ sym (c .before .before .before .before .before .number-of3 .ensures)) in (
       subst
           (λ (w : List ℕ). AllWorked (a .nodes .now) (pos (a .least)) (a .j + 1) (set w (4 * a .u + 3) (r .result + 1)) (a .j + 1))
           (sym (c .before .before .keep .ensures))
-          (work-more (s .pre .2) (r .result) (l .result) (e .result) (r .ensures) l-is e-is),
+          (work-more (s .pre .2) (r .result) (l .result) (e .result) (r .ensures) l-is e-is (l .ensures .1)),
       subst
           (λ (w : List ℕ). Stays (4 * (a .j + 1)) (a .work .now) (set w (4 * a .u + 3) (r .result + 1)))
           (sym (c .before .before .keep .ensures))
-          (work-stays (s .pre .2) (r .result) (l .result) (e .result) (r .ensures) l-is e-is),
+          (work-stays (s .pre .2) (r .result) (l .result) (e .result) (r .ensures) l-is e-is (l .ensures .1)),
     )
 
 pub work-child-spec : {M : Type 1} → statement M
@@ -93,7 +93,7 @@ work-child-spec =
     number-of-requires-2
     child-l-requires
     number-of-requires-3
-    child-exact-requires
+    child-h-requires
     keep-requires
     add-work
     mul-work

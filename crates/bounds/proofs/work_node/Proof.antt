@@ -38,7 +38,7 @@ returns c =
     let k = c .before .before .keep in (
       subst (λ (n : ℕ). AllWorked (a .nodes .now) (pos (a .least)) (n + 1) (k .last .0) (n + 1)) (sym e)
           (subst (λ (w : List ℕ). AllWorked (a .nodes .now) (pos (a .least)) 1 w 1) (sym (k .ensures))
-          (work-first (a .nodes .now) (pos (a .least)) (a .work .now) (omega (arith, s .pre .2, e)) (λ i p. s .pre .3 i (omega arith)))),
+          (work-first (a .nodes .now) (pos (a .least)) (a .work .now) (s .pre .0) (omega (arith, s .pre .2, e)) (λ i p. s .pre .3 i (omega arith)))),
       λ x p. ap (λ (w : List ℕ). getD w x 0) (k .ensures) ∙ kept-other (a .work .now) 0 0 _ 0 0 x (λ i k q. omega arith),
     )
 

@@ -23,17 +23,17 @@ returns-2 : tie.Need-returns-2
 unfolding linkFits unused
 returns-2 c = first-fails _ _ (asked-false (c .before .is-of .ensures) (c .if2 .taken)) ∙ sym (if-false _ _ _ (c .before .before .if1 .left))
 
-is-of-requires-2 : tie.Need-is-of-requires-2
-is-of-requires-2 c κs = search needs
+by-fits-requires : tie.Need-by-fits-requires
+by-fits-requires c κs = search needs
 
 returns-3 : tie.Need-returns-3
 unfolding linkFits unused
 returns-3 c =
-    c .is-of2 .ensures
+    c .by-fits .ensures
     ∙ second-decides _ _ (asked-true (c .before .before .is-of .ensures) (c .before .if2 .left))
     ∙ sym (if-false _ _ _ (c .before .before .before .if1 .left))
 
 pub link-fits-spec : {M : Type 1} → statement M
 link-fits-spec =
     tie.close
-    (tie.spec natural-of-requires returns is-of-requires returns-2 is-of-requires-2 returns-3)
+    (tie.spec natural-of-requires returns is-of-requires returns-2 by-fits-requires returns-3)

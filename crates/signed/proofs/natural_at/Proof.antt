@@ -1,6 +1,7 @@
 use borrow.Author.Needs.{needs}
-use Prim.Native.Nat.{ℕ, _<_, _^_}
-use mathlib.Core.Path.{sym, _∙_, ap, subst}
+use Prim.Native.Nat.{_<_, _^_}
+use native.Mathlib.Omega.{arith}
+use mathlib.Core.Path.{_≡_, _∙_, ap}
 use Rattle.stab.specs.Basic.{nat}
 use Rattle.signed.proofs.Signs.{read-back, nat-small}
 use Rattle.signed.proofs.natural_at.Statement.{statement}
@@ -15,7 +16,9 @@ natural-requires c κs = search needs
 returns : tie.Need-returns
 returns c =
     let e = read-back _ (c .before .at .ok) in
-    (c .natural .ensures ∙ ap nat (e ∙ c .before .at .ensures), subst (λ (n : ℕ). n < 2 ^ 32) (sym (c .natural .ensures ∙ ap nat e)) (nat-small _ (record { sfits = c .before .at .ok })))
+    let small : nat (c .before .at .result) < 2 ^ 31 = nat-small _ (record { sfits = c .before .at .ok }) in
+    let is : c .natural .result ≡ nat (c .before .at .result) = c .natural .ensures ∙ ap nat e in
+    (c .natural .ensures ∙ ap nat (e ∙ c .before .at .ensures), omega (arith, is, small))
 
 pub natural-at-spec : {M : Type 1} → statement M
 natural-at-spec = tie.close (tie.spec at-requires natural-requires returns)

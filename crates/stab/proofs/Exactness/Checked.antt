@@ -1,12 +1,17 @@
 -- Nothing is found in a tableau exactly if all its rows keep the rules.
-use Prim.Native.Nat.{_*_}
+use Prim.Native.Nat.{ℕ, _*_, _<_}
 use native.Mathlib.Omega.{arith}
+use mathlib.Core.Path.{_≡_}
 use mathlib.Core.Logic.{Iff·trans}
+use mathlib.Core.Option.{Option, none}
 use lib.ListN.{length}
 use Rattle.stab.specs.Node.{Tableau, rows, rowCount}
 use Rattle.stab.specs.Check.{holds, setRefusal, parentRefusal, nodeRefusal, tablesHold, withinLimits, refusalBy, refusal}
-use Rattle.stab.specs.Keeps.{Keeps}
+use Rattle.stab.specs.Keeps.{KeepsParent, Keeps}
 use Rattle.stab.specs.declared.Refusal.the-variants.{TableTooShort, TooMany, Parent}
+use Rattle.stab.specs.declared.Verdict.{Verdict}
+use Rattle.stab.proofs.Bools.{otherwise-same}
+use Rattle.stab.proofs.Scans.{scan-same, none-scan}
 use Rattle.stab.proofs.Tests.{_&_, le-tests, lt-tests, _clears_, whole-clears, once-clears, _then_, scan-clears}
 use Rattle.stab.proofs.Exactness.Formulas.{formulas-clears}
 use Rattle.stab.proofs.Exactness.Nodes.{set-clears, parent-clears}
@@ -66,3 +71,16 @@ tableau-clears T =
             ),
           ),
     )
+
+-- two judges of nodes find the same in a tableau if they find the same at each node before which nothing is found
+pub refusal-by-same : (judge : Tableau → ℕ → Option Verdict) (T : Tableau) → (((k : ℕ) → k < T .nodeRows → KeepsParent T k) → (j : ℕ) → j < T .nodeRows → ((k : ℕ) → k < j → nodeRefusal T k ≡ none) → judge T j ≡ nodeRefusal T j) → refusalBy judge T ≡ refusalBy nodeRefusal T
+unfolding refusalBy
+refusal-by-same judge T same =
+    otherwise-same _ _ _ (λ a.
+    otherwise-same _ _ _ (λ b.
+    otherwise-same _ _ _ (λ c.
+    otherwise-same _ _ _ (λ d.
+    otherwise-same _ _ _ (λ e.
+    otherwise-same _ _ _ (λ p.
+    scan-same (judge T) (nodeRefusal T) (T .nodeRows) (λ j l h.
+    same (scan-clears (parentRefusal T) (T .nodeRows) (λ i m. parent-clears T i) .0 p) j l (none-scan (nodeRefusal T) j h))))))))

@@ -1,23 +1,25 @@
 -- A node's step is passed exactly if it keeps its rule, where all parents have smaller numbers.
 -- What the rules ask is first grouped by refusal, 12 to 17, as the tests are; at the end it is regrouped by rule.
 use Prim.Native.Nat.{ℕ, _≤_, _<_}
+use native.Mathlib.Omega.{arith}
 use mathlib.Core.Path.{_≡_, refl, sym, ap, subst}
 use mathlib.Core.Logic.{Iff·trans, _≢_, _⊎_, inl, inr, ⊎-elim}
 use mathlib.Core.Bool.{true, false, false≢true}
 use mathlib.Core.List.{List, [], _∷_, List·Memᴰ, List·Memᴰ·head, List·Memᴰ·tail, List·Memᴰ·cases-cons, List·Memᴰ·not-nil}
+use mathlib.Core.Option.{Option, none, some, Option·none-ne-some, Option·some-ne-none, Option·some-injective}
 use lib.IntN.{ℤ, pos, _+ℤ_, _-ℤ_}
 use lib.Signed.{_≤ℤ_, _<ℤ_}
 use Rattle.stab.specs.Basic.{_or_, eqZ, nat}
 use Rattle.stab.specs.Formula.{Row}
 use Rattle.stab.specs.Alike.{lower, instance}
-use Rattle.stab.specs.Node.{Tableau, Node, Bound, rowCount, isRow, row, formula, node, set, bound, childCount}
-use Rattle.stab.specs.Rule.{unused, rule, ofRule, kindFits, onStands, otherFits, linkFits, symbolFits, fieldsFit, targetFits, splitFits, unfoldFits, indexAt, clashFits, voidFits, loopFits, boundFits, shortened, isInstance, partnersFit, isLowered, hasLowered, loweredFits, childrenFit}
+use Rattle.stab.specs.Node.{Tableau, Node, Bound, rowCount, isRow, row, formula, node, set, isUpper, isExact, splitAt, bound, childCount}
+use Rattle.stab.specs.Rule.{unused, rule, ofRule, kindFits, onStands, otherFits, linkFits, symbolFits, fieldsFit, targetFits, staysBelow, splitFits, unfoldFits, indexAt, clashFits, voidFits, loopFits, boundFits, shortened, isInstance, partnersFit, isLowered, hasLowered, loweredFits, childrenFit}
 use Rattle.stab.specs.Check.{stepRefusal, nodeRefusal}
-use Rattle.stab.specs.Keeps.{Below, Alike, KeepsParent, Ancestor, KeepsDrawn, KeepsKind, SameIndex, Loops, KeepsStep}
+use Rattle.stab.specs.Keeps.{Below, Alike, KeepsParent, Ancestor, KeepsDrawn, KeepsKind, Splits, SameIndex, Loops, KeepsStep}
 use Rattle.stab.specs.declared.Refusal.the-variants.{Drawn, Fields as FieldsWrong, Target, Bound as BoundWrong, Partner, Lowered, Children}
-use Rattle.stab.proofs.Whole.{eqZ-of, eqZ-true, eqZ-not, not-eqZ}
+use Rattle.stab.proofs.Whole.{atom, num, _⊖_, of-le, le-of, eqZ-of, eqZ-true, eqZ-not, not-eqZ}
 use Rattle.stab.proofs.Bools.{decide}
-use Rattle.stab.proofs.Tests.{_tests_, itself, _&_, or-tests, _⇒_, not-tests, if-tests, le-tests, eq-tests, leZ-tests, ltZ-tests, eqZ-tests, below-tests, has-tests, all-tests, _clears_, at-clears, _then_}
+use Rattle.stab.proofs.Tests.{_tests_, _&_, or-tests, _⇒_, if-tests, le-tests, eq-tests, leZ-tests, ltZ-tests, eqZ-tests, below-tests, has-tests, all-tests, _clears_, at-clears, _then_}
 use Rattle.stab.proofs.Alikes.{alike-tests}
 use Rattle.stab.proofs.Ancestors.{ancestor-tests}
 use Rattle.stab.proofs.Exactness.Nodes.{drawn-tests}
@@ -54,7 +56,7 @@ pub record Fields (T : Tableau) (j : ℕ) : Type 0 where
   onStands : rule T j .on ≢ unused → List·Memᴰ (node T j .on) (set T j)
   with : KeepsKind T (rule T j .with) (node T j .with)
   other : (rule T j .other ≡ true → Below (rowCount T) (node T j .other)) × (rule T j .other ≡ false → node T j .other ≡ unused)
-  pub link : (rule T j .link ≡ true → pos 1 ≤ℤ node T j .by) × (rule T j .link ≡ false → (node T j .to ≡ unused) × (node T j .by ≡ pos 0))
+  pub link : (rule T j .link ≡ true → pos 1 ≤ℤ node T j .by) × (rule T j .link ≡ false → (node T j .to ≡ unused) × ((rule T j .split ≡ true → pos 0 ≤ℤ node T j .by) × (rule T j .split ≡ false → node T j .by ≡ pos 0)))
   clash : node T j .rule ≡ pos 6 → List·Memᴰ (node T j .with) (set T j) × (row T (node T j .on) .a ≡ row T (node T j .with) .a)
 
 pub fields-tests : (T : Tableau) (j : ℕ) → fieldsFit T j tests Fields T j
@@ -66,7 +68,7 @@ fields-tests T j =
     on-tests T j &
     kind-tests T (rule T j .with) (node T j .with) &
     if-tests (rule T j .other) (below-tests (rowCount T) (node T j .other)) (eqZ-tests (node T j .other) unused) &
-    if-tests (rule T j .link) (leZ-tests (pos 1) (node T j .by)) (eqZ-tests (node T j .to) unused & eqZ-tests (node T j .by) (pos 0)) &
+    if-tests (rule T j .link) (leZ-tests (pos 1) (node T j .by)) (eqZ-tests (node T j .to) unused & if-tests (rule T j .split) (leZ-tests (pos 0) (node T j .by)) (eqZ-tests (node T j .by) (pos 0))) &
     (rule-tests 6 (node T j) ⇒
     has-tests (node T j .with) (set T j) & eqZ-tests (row T (node T j .on) .a) (row T (node T j .with) .a))) (
       λ p. record {
@@ -92,29 +94,67 @@ target-tests T keeps j l = rule-tests 8 (node T j) ⇒ ancestor-tests T keeps (n
 unfold-tests : (w : Node) → (ofRule 3 w or ofRule 4 w) tests ((w .rule ≡ pos 3) ⊎ (w .rule ≡ pos 4))
 unfold-tests w = or-tests (rule-tests 3 w) (rule-tests 4 w)
 
-index-tests : (B : Bound) (v w : Row) → clashFits B v w tests SameIndex B v w
+-- "K lies between L and H - 1, or between L and 9998 at an open node"
+stays-tests : (u : Option ℕ) (K : ℕ) → staysBelow u K tests ((u ≡ none → K ≤ 9998) × ((H : ℕ) → u ≡ some H → K < H))
+unfolding staysBelow
+stays-tests none K = (
+  λ h. (λ e. le-tests K 9998 .0 h, λ H e. absurd (Option·none-ne-some H e)),
+  λ p. le-tests K 9998 .1 (p .0 refl),
+)
+stays-tests (some G) K = (
+  λ h. (
+    λ e. absurd (Option·some-ne-none G e),
+    λ H e. omega (arith, Option·some-injective G H e, of-le (num K) (num G ⊖ num 1) h),
+  ),
+  λ p. le-of (num K) (num G ⊖ num 1) (omega (arith, p .1 G refl)),
+)
+
+split-tests : (B : Bound) (K : ℕ) → splitFits B K tests Splits B K
+unfolding splitFits
+split-tests B K =
+    Iff·trans (le-tests (B .L) K & stays-tests (B .H) K)
+    (λ p. record { fromL = p .0; atOpen = p .1 .0; belowH = p .1 .1 }, λ k. (k .fromL, (k .atOpen, k .belowH)))
+
+upper-tests : (u : Option ℕ) (n : ℕ) → isUpper u n tests (u ≡ some n)
+unfolding isUpper
+upper-tests none n = (λ h. absurd (false≢true h), λ e. absurd (Option·none-ne-some n e))
+upper-tests (some H) n =
+    Iff·trans (eq-tests n H) (λ e. ap some (sym e), λ e. sym (Option·some-injective H n e))
+
+pub exact-tests : (B : Bound) → isExact B tests (B .H ≡ some (B .L))
+unfolding isExact
+exact-tests B = upper-tests (B .H) (B .L)
+
+index-tests : (B : Bound) (v w : Row) → clashFits (isExact B) (B .L) v w tests SameIndex B v w
 unfolding clashFits
 index-tests B v w =
     or-tests
     (eqZ-tests (v .b) (w .b) & eqZ-tests (v .c) (w .c))
-    (itself (B .exact) & eqZ-tests (indexAt (B .L) v) (indexAt (B .L) w))
+    (exact-tests B & eqZ-tests (indexAt (B .L) v) (indexAt (B .L) w))
+
+-- an upper bound H with H < z
+void-tests : (u : Option ℕ) (w : Row) → voidFits u w tests ((H : ℕ) × (u ≡ some H) × (pos H <ℤ (w .b +ℤ w .c)))
+unfolding voidFits
+void-tests none w = (λ h. absurd (false≢true h), λ p. absurd (Option·none-ne-some (p .0) (p .1)))
+void-tests (some H) w =
+    Iff·trans (ltZ-tests (pos H) (w .b +ℤ w .c))
+    (λ l. (H, refl, l), λ p. subst (λ (n : ℕ). pos n <ℤ (w .b +ℤ w .c)) (sym (Option·some-injective H (p .0) (p .1))) (p .2))
 
 pub record Bounds (T : Tableau) (j : ℕ) : Type 0 where
-  split : node T j .rule ≡ pos 2 → (bound T j .exact ≡ false) × (bound T j .L ≤ 9998)
+  pub split : node T j .rule ≡ pos 2 → Splits (bound T j) (splitAt (bound T j .L) (node T j .by))
   unfolds : (node T j .rule ≡ pos 3) ⊎ (node T j .rule ≡ pos 4) → (row T (node T j .on) .b +ℤ row T (node T j .on) .c) ≤ℤ pos (bound T j .L)
   clash : node T j .rule ≡ pos 6 → SameIndex (bound T j) (row T (node T j .on)) (row T (node T j .with))
-  void : node T j .rule ≡ pos 7 → (bound T j .exact ≡ true) × (pos (bound T j .L) <ℤ (row T (node T j .on) .b +ℤ row T (node T j .on) .c))
+  void : node T j .rule ≡ pos 7 → (H : ℕ) × (bound T j .H ≡ some H) × (pos H <ℤ (row T (node T j .on) .b +ℤ row T (node T j .on) .c))
   pub loop : node T j .rule ≡ pos 8 → pos (bound T (nat (node T j .to)) .L) ≤ℤ (pos (bound T j .L) -ℤ node T j .by)
 
 pub bound-tests : (T : Tableau) (j : ℕ) → boundFits T j tests Bounds T j
-unfolding boundFits splitFits unfoldFits voidFits loopFits
+unfolding boundFits unfoldFits loopFits
 bound-tests T j =
     Iff·trans
-    ((rule-tests 2 (node T j) ⇒ not-tests (bound T j .exact) & le-tests (bound T j .L) 9998) &
+    ((rule-tests 2 (node T j) ⇒ split-tests (bound T j) (splitAt (bound T j .L) (node T j .by))) &
     (unfold-tests (node T j) ⇒ leZ-tests (row T (node T j .on) .b +ℤ row T (node T j .on) .c) (pos (bound T j .L))) &
     (rule-tests 6 (node T j) ⇒ index-tests (bound T j) (row T (node T j .on)) (row T (node T j .with))) &
-    (rule-tests 7 (node T j) ⇒
-    itself (bound T j .exact) & ltZ-tests (pos (bound T j .L)) (row T (node T j .on) .b +ℤ row T (node T j .on) .c)) &
+    (rule-tests 7 (node T j) ⇒ void-tests (bound T j .H) (row T (node T j .on))) &
     (rule-tests 8 (node T j) ⇒ leZ-tests (pos (bound T (nat (node T j .to)) .L)) (pos (bound T j .L) -ℤ node T j .by)))
     (λ p. record { split = p .0; unfolds = p .1 .0; clash = p .1 .1 .0; void = p .1 .1 .1 .0; loop = p .1 .1 .1 .1 }, λ k. (k .split, (k .unfolds, (k .clash, (k .void, k .loop)))))
 
@@ -211,6 +251,14 @@ loops T j k r =
       },
     )
 
+-- of a loop "by = k ≥ 1", so that a split's by is not negative whether or not the rule is a loop too
+split-used : (T : Tableau) (j : ℕ) → Judged T j → rule T j .split ≡ true → pos 0 ≤ℤ node T j .by
+split-used T j k e =
+    ⊎-elim
+    (λ l. leZ-tests (pos 0) (node T j .by) .0 (le-of (num 0) (atom (node T j .by)) (omega (arith, of-le (num 1) (atom (node T j .by)) (leZ-tests (pos 1) (node T j .by) .1 (k .fields .link .0 l))))))
+    (λ l. k .fields .link .1 l .1 .0 e)
+    (decide (rule T j .link))
+
 keeps-judged : (T : Tableau) (j : ℕ) → Judged T j → KeepsStep T j
 keeps-judged T j k = record {
   known = k .fields .known;
@@ -220,7 +268,9 @@ keeps-judged T j k = record {
   otherUsed = k .fields .other .0;
   otherUnused = k .fields .other .1;
   linkUsed = k .fields .link .0;
-  linkUnused = k .fields .link .1;
+  linkUnused = λ e. k .fields .link .1 e .0;
+  splitUsed = split-used T j k;
+  byUnused = λ e f. k .fields .link .1 e .1 .1 f;
   split = k .bounds .split;
   unfolds = λ r. record {
     nonempty = k .bounds .unfolds r;
@@ -245,7 +295,7 @@ judged-keeps T j d k = record {
     onStands = k .onStands;
     with = k .with;
     other = (k .otherUsed, k .otherUnused);
-    link = (k .linkUsed, k .linkUnused);
+    link = (k .linkUsed, λ e. (k .linkUnused e, (k .splitUsed, k .byUnused e)));
     clash = λ r. (k .clash r .withStands, k .clash r .sameSymbol);
   };
   target = λ r. (k .loop r .0, k .loop r .1 .target, k .loop r .1 .ancestor);

@@ -9,14 +9,16 @@ use mathlib.Core.Bool.{Bool, true, false, not, false≢true}
 use mathlib.Core.List.{List, [], _∷_, List·Memᴰ, List·Memᴰ·cases-cons, List·Memᴰ·not-nil}
 use lib.IntN.{ℤ, pos, _+ℤ_, _-ℤ_, pos-ne-negsuc}
 use lib.Signed.{leZ}
+use lib.Dec.{leb}
+use borrow.Author.Tests.{leb-true, leb-false}
 use Rattle.stab.specs.Basic.{if_then_else_, eqZ, _and_, _or_, nat, below, count}
 use Rattle.stab.specs.Formula.{Row, Op, conj, disj, Formula, const, lit, join, iter, baseOf, kindOf, literal, junction, iteration, wellFormed, isBody}
 use Rattle.stab.specs.Meaning.{Assignment, base, signed, op, empty, value, truth}
-use Rattle.stab.specs.Node.{Tableau, Node, Bound, rows, rowCount, row, formula, nodeAt, node, set, names, childCountOf, childCount, rank, SatisfiesIf, Satisfies, splitBound, childBound, boundOf, bound}
+use Rattle.stab.specs.Node.{Tableau, Node, Bound, rows, rowCount, row, formula, nodeAt, node, set, names, childCountOf, childCount, rank, AtMost, Satisfies, splitAt, splitBound, childBound, boundOf, bound}
 use Rattle.stab.specs.Rule.{unused, entry, ruleTable, ruleOf, rule, ofRule, oneOf, given, indexAt}
 use Rattle.stab.specs.Keeps.{Below, KeepsParent, KeepsDrawn, DrawnFrom, KeepsKind, Unfolds, Clashes, Loops, KeepsStep, Keeps}
 use Rattle.stab.specs.declared.Rule.{Rule}
-use Rattle.stab.proofs.Bools.{and-left, and-right, or-cases, if-false}
+use Rattle.stab.proofs.Bools.{decide, and-left, and-right, or-cases, if-true, if-false}
 use Rattle.stab.proofs.Whole.{atom, num, _⊕_, _⊖_, of-le, le-of, of-lt, of-eq, lt-of, leZ-of, ltZ-of, eqZ-true, nat-pos}
 use Rattle.stab.proofs.Trees.{below-nat, below-pos, below-of}
 use Rattle.stab.proofs.Meanings.{Proper, unfolds, void-value, instance-value, lower-value}
@@ -26,11 +28,11 @@ use Rattle.stab.proofs.Bounds.{bound-child, counted}
 use Rattle.stab.proofs.Tests.{below-tests}
 use Rattle.stab.proofs.Formed.{formed-tests}
 use Rattle.stab.proofs.Ancestors.{parent-below}
-use Rattle.stab.proofs.Ranges.{from-least, exactly, lowered-satisfies, ancestor-satisfies}
+use Rattle.stab.proofs.Ranges.{from-least, up-to, exactly, lowered-satisfies, ancestor-satisfies}
 
 -- ---- the table's entries
 
-entries : (ruleOf (pos 0) ≡ entry (pos 4) unused false false 1) × (ruleOf (pos 1) ≡ entry (pos 5) unused false false 2) × (ruleOf (pos 2) ≡ entry unused unused false false 2) × (ruleOf (pos 3) ≡ entry (pos 6) (pos 6) true false 1) × (ruleOf (pos 4) ≡ entry (pos 7) (pos 7) true false 2) × (ruleOf (pos 5) ≡ entry (pos 1) unused false false 0) × (ruleOf (pos 6) ≡ entry (pos 2) (pos 3) false false 0) × (ruleOf (pos 7) ≡ entry (pos 7) unused false false 0) × (ruleOf (pos 8) ≡ entry unused unused false true 0)
+entries : (ruleOf (pos 0) ≡ entry (pos 4) unused false false false 1) × (ruleOf (pos 1) ≡ entry (pos 5) unused false false false 2) × (ruleOf (pos 2) ≡ entry unused unused false false true 2) × (ruleOf (pos 3) ≡ entry (pos 6) (pos 6) true false false 1) × (ruleOf (pos 4) ≡ entry (pos 7) (pos 7) true false false 2) × (ruleOf (pos 5) ≡ entry (pos 1) unused false false false 0) × (ruleOf (pos 6) ≡ entry (pos 2) (pos 3) false false false 0) × (ruleOf (pos 7) ≡ entry (pos 7) unused false false false 0) × (ruleOf (pos 8) ≡ entry unused unused false true false 0)
 unfolding ruleOf ruleTable nat
 entries = (refl, refl, refl, refl, refl, refl, refl, refl, refl)
 
@@ -119,20 +121,20 @@ module _ (T : Tableau) (K : Keeps T) (σ : Assignment) where
   drawn-from zero j p d e z m = absurd (pos-ne-negsuc j 0 (sym e ∙ p .0))
   drawn-from (suc i) j p d e z m = subst (λ (x : ℤ). DrawnFrom T (nat x) (rank (T .nodes) (suc i)) z) e (d z m)
 
-  child-bound : (j m i : ℕ) → Child j m i → bound T i ≡ childBound (node T j .rule) (bound T j) m
+  child-bound : (j m i : ℕ) → Child j m i → bound T i ≡ childBound (node T j) (bound T j) m
   unfolding bound node nat
   child-bound j m i c =
       let e : nodeAt (T .nodes) i .up ≡ pos j = c .up in
       bound-child (T .nodes) (T .least) i (subst (λ (z : ℤ). below i z ≡ true) (sym e) (below-of i j (c .later)))
-      ∙ ap (λ (z : ℤ). childBound (nodeAt (T .nodes) (nat z) .rule) (boundOf (T .nodes) (T .least) (nat z)) (rank (T .nodes) i)) e
-      ∙ ap (childBound (nodeAt (T .nodes) j .rule) (boundOf (T .nodes) (T .least) j)) (c .ranked)
+      ∙ ap (λ (z : ℤ). childBound (nodeAt (T .nodes) (nat z)) (boundOf (T .nodes) (T .least) (nat z)) (rank (T .nodes) i)) e
+      ∙ ap (childBound (nodeAt (T .nodes) j) (boundOf (T .nodes) (T .least) j)) (c .ranked)
 
   -- what a node's refutation may use: every later node is refuted at n
   abbrev pub Later : ℕ → ℕ → Type 0
   Later n j = (i : ℕ) → i < T .nodeRows → j < i → Satisfies (bound T i) n → Holds n i → ⊥
 
   -- the child of rank m is refuted, if all that the rule gives it is true
-  descend : (n j m : ℕ) → m < childCount T j → Later n j → Holds n j → ((z : ℤ) → List·Memᴰ z (given T (node T j) m) → True n z) → Satisfies (childBound (node T j .rule) (bound T j) m) n → ⊥
+  descend : (n j m : ℕ) → m < childCount T j → Later n j → Holds n j → ((z : ℤ) → List·Memᴰ z (given T (node T j) m) → True n z) → Satisfies (childBound (node T j) (bound T j) m) n → ⊥
   descend n j m h later holds gives sat =
       let w = child j m h in
       let i : ℕ = w .0 in
@@ -173,11 +175,11 @@ module _ (T : Tableau) (K : Keeps T) (σ : Assignment) where
     has-child m c e l = omega (arith, keeps .children, e)
 
     -- a rule other than 2 keeps the bound
-    same-bound : (k m : ℕ) → eqZ (pos k) (pos 2) ≡ false → node T j .rule ≡ pos k → Satisfies (childBound (node T j .rule) (bound T j) m) n
+    same-bound : (k m : ℕ) → eqZ (pos k) (pos 2) ≡ false → node T j .rule ≡ pos k → Satisfies (childBound (node T j) (bound T j) m) n
     unfolding childBound
     same-bound k m f e =
         subst (λ (B : Bound). Satisfies B n)
-        (sym (if-false (eqZ (node T j .rule) (pos 2)) (splitBound (bound T j) m) (bound T j) (ap (λ (z : ℤ). eqZ z (pos 2)) e ∙ f))) sat
+        (sym (if-false (eqZ (node T j .rule) (pos 2)) (splitBound (bound T j) (splitAt (bound T j .L) (node T j .by)) m) (bound T j) (ap (λ (z : ℤ). eqZ z (pos 2)) e ∙ f))) sat
 
     true-of : (f : Formula) → formula T on ≡ f → List·Memᴰ on (set T j) → truth σ n f ≡ true
     true-of f e m = ap (truth σ n) (sym e) ∙ holds on m
@@ -232,18 +234,19 @@ module _ (T : Tableau) (K : Keeps T) (σ : Assignment) where
     -- ---- rule 2
 
     split-step : node T j .rule ≡ pos 2 → ⊥
-    unfolding entry givenBy if_then_else_ eqZ childBound splitBound Satisfies SatisfiesIf
+    unfolding entry givenBy if_then_else_ eqZ childBound splitBound Satisfies AtMost
     split-step e =
         let R = entry-is 2 _ (entries .2) e in
-        let side : (m : ℕ) → m < 2 → Satisfies (splitBound (bound T j) m) n → ⊥ =
+        let K : ℕ = splitAt (bound T j .L) (node T j .by) in
+        let side : (m : ℕ) → m < 2 → Satisfies (splitBound (bound T j) K m) n → ⊥ =
         λ m l h.
         descend n j m (has-child m 2 (ap (λ (r : Rule). r .children) R) l) later holds
         (λ z k. absurd (List·Memᴰ·not-nil (subst (λ (q : List ℤ). List·Memᴰ z q) (given-is T (node T j) m ∙ ap (givenBy T (node T j) m) e) k)))
-        (subst (λ (z : ℤ). Satisfies (childBound z (bound T j) m) n) (sym e) h) in
+        (subst (λ (B : Bound). Satisfies B n) (sym (if-true (eqZ (node T j .rule) (pos 2)) (splitBound (bound T j) K m) (bound T j) (ap (λ (z : ℤ). eqZ z (pos 2)) e))) h) in
         ⊎-elim
-        (λ l. side 1 (omega arith) l)
-        (λ q. side 0 (omega arith) (sym q))
-        (Rattle.stab.proofs.Scans.below-suc (bound T j .L) n (omega (arith, from-least (bound T j) n sat)))
+        (λ q. side 0 (omega arith) (from-least (bound T j) n sat, leb-true n K q))
+        (λ q. side 1 (omega arith) (leb-false n K q, sat .1))
+        (decide (leb n K))
 
     -- ---- rules 3 and 4
 
@@ -338,17 +341,17 @@ module _ (T : Tableau) (K : Keeps T) (σ : Assignment) where
         let v = keeps .void e in
         let b = row T on .b in
         let c = row T on .c in
-        let q : n ≡ bound T j .L = exactly (bound T j) n (v .0) sat in
+        let q : n ≤ v .0 = up-to (bound T j) n (v .0) (v .1) sat in
         let t = true-of _ (iteration-is disj on (D.kind-7 (f .1)) (f .0)) (on-stands 7 (ap (λ (r : Rule). r .on) R)) in
         false≢true
-        (sym (void-value σ n disj (formula T (row T on .a)) b c (pos 0) (lt-of (num n) (atom b ⊕ atom c) (omega (arith, q, of-lt (num (bound T j .L)) (atom b ⊕ atom c) (ltZ-of (v .1))))))
+        (sym (void-value σ n disj (formula T (row T on .a)) b c (pos 0) (lt-of (num n) (atom b ⊕ atom c) (omega (arith, q, of-lt (num (v .0)) (atom b ⊕ atom c) (ltZ-of (v .2))))))
         ∙ t)
 
     -- ---- rule 8
 
     -- what a link may use: every node is refuted at every smaller n
     loop-step : node T j .rule ≡ pos 8 → ((m i : ℕ) → m < n → i < T .nodeRows → Satisfies (bound T i) m → Holds m i → ⊥) → ⊥
-    unfolding entry truth Satisfies SatisfiesIf
+    unfolding entry truth
     loop-step e smaller =
         let R = entry-is 8 _ (entries .8) e in
         let l = keeps .loop e in
@@ -367,7 +370,7 @@ module _ (T : Tableau) (K : Keeps T) (σ : Assignment) where
         (omega (arith, of-eq (num m) (num n ⊖ atom k) q, of-le (num 1) (atom k) k≥1))
         (omega arith)
         (lowered-satisfies (bound T i) n m
-        (ancestor-satisfies T (λ x y. K .nodes x y .parent) j p (λ x y r. K .nodes x (omega arith) .step .split r .0) (u .ancestor) n sat)
+        (ancestor-satisfies T (λ x y. K .nodes x y .parent) j p (λ x y r. K .nodes x (omega arith) .step .split r) (u .ancestor) n sat)
         (omega (arith, of-eq (num m) (num n ⊖ atom k) q, of-le (num (bound T i .L)) (num (bound T j .L) ⊖ atom k) bounds))
         (omega (arith, of-eq (num m) (num n ⊖ atom k) q, of-le (num 1) (atom k) k≥1)))
         (λ z mem.

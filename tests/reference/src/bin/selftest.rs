@@ -9,7 +9,9 @@ use std::path::Path;
 use std::time::Instant;
 use zorambi_reference::formula::{self, Formulas};
 use zorambi_reference::formula::{AND, BIG_AND, BIG_OR, FALSE, LITERAL, NEGATED, ON_I, ON_N, OR, PLAIN, TRUE};
+use zorambi_reference::generate::cases::RANGES;
 use zorambi_reference::generate::models::{find_model, pair_rows, random_assignment, random_pairs};
+use zorambi_reference::generate::ranges;
 use zorambi_reference::generate::sides::agree_either_way;
 use zorambi_reference::generate::tables::Tables;
 use zorambi_reference::generate::{case, run, Input, Outcome, Rng};
@@ -104,6 +106,21 @@ fn paper(tally: &mut Tally) {
     check("link by 0", SCHEMA, &proof("-1 1 1 5 7\n", "-1 1 0 5 7\n"), (12, 5, 0, 0));
     check("link to itself", SCHEMA, &proof("-1 1 1 5 7\n", "-1 5 1 5 7\n"), (13, 5, 0, 0));
     check("link to an exact node's brother", SCHEMA, &proof("-1 1 1 5 7\n", "-1 2 1 5 7\n"), (13, 5, 0, 0));
+    // Document 02, No. 5: node 1 knows n ≥ 1 and splits at K; node 2 is void for n below 2.
+    for (by, expected) in [
+        ("1", (0, 0, 7, 1)),
+        ("2", (14, 2, 0, 0)),
+        ("9998", (14, 2, 0, 0)),
+        ("9999", (14, 1, 0, 0)),
+        ("99999", (14, 1, 0, 0)),
+        ("-1", (12, 1, 0, 0)),
+        ("-99999", (12, 1, 0, 0)),
+    ] {
+        let split = format!("0 2 -1 -1 -1 -1 {by} ");
+        check(&format!("node 1 by {by}"), SCHEMA, &proof("0 2 -1 -1 -1 -1 0 ", &split), expected);
+    }
+    check("node 1 to 0", SCHEMA, &proof("0 2 -1 -1 -1 -1 0 ", "0 2 -1 -1 -1 0 0 "), (12, 1, 0, 0));
+    check("node 2 by 1", SCHEMA, &proof("1 7 2 -1 -1 -1 0 ", "1 7 2 -1 -1 -1 1 "), (12, 2, 0, 0));
 
     let mut model = |name: &str, schema: &str, model: &str, expected: (u8, i32)| {
         tally.equal(name, check_model_texts(schema.as_bytes(), model.as_bytes()), expected);
@@ -336,9 +353,13 @@ fn generated(tally: &mut Tally, cases: u64, seed: u64) {
     let (mut running, mut slowest) = (0.0, (0.0, 0));
     // Cases that are made to show one thing, and how many of them are accepted, by sort and kind.
     let mut aims: BTreeMap<(&'static str, &'static str), [usize; 2]> = BTreeMap::new();
-    for number in 0..cases {
+    let edges = ranges::edges().into_iter().enumerate();
+    let edges = edges.map(|(number, case)| (number as u64, format!("edge {number} of K"), case));
+    let made = (0..cases).map(|number| {
         let case = case(seed, number);
-        let name = format!("case {number} of seed {seed} ({})", case.sort);
+        (number, format!("case {number} of seed {seed} ({})", case.sort), case)
+    });
+    for (number, name, case) in edges.chain(made) {
         let begin = Instant::now();
         let Ok(outcome) = catch_unwind(AssertUnwindSafe(|| run(&case.input))) else {
             tally.record(&name, Err("panic".to_string()));
@@ -370,7 +391,7 @@ fn generated(tally: &mut Tally, cases: u64, seed: u64) {
         }
     }
     print_counts(&counts);
-    for ((sort, kind), [times, accepted]) in aims {
+    for ((sort, kind), [times, accepted]) in &aims {
         println!("{:58}{times:>6}{accepted:>10}", format!("{sort}: {kind}"));
     }
     println!(
@@ -386,6 +407,10 @@ fn generated(tally: &mut Tally, cases: u64, seed: u64) {
         let times: usize = counts.values().map(|entry| entry.by_answer[answer]).sum();
         let result = if times > 0 { Ok(()) } else { Err("does not occur".to_string()) };
         tally.record(&format!("answer {answer}"), result);
+    }
+    for (kind, _) in ranges::kinds() {
+        let result = if aims.contains_key(&(RANGES, kind)) { Ok(()) } else { Err("does not occur".to_string()) };
+        tally.record(kind, result);
     }
     let checks: Vec<&Counts> =
         counts.iter().filter(|(sort, _)| sort.starts_with("check")).map(|(_, entry)| entry).collect();

@@ -4,6 +4,7 @@ use super::exact::exact_tables;
 use super::models::{damage_model, find_model, pair_rows, random_pairs, ModelTables};
 use super::pool::Pool;
 use super::prover::grow;
+use super::ranges::ranges_tables;
 use super::rng::{mix, Rng};
 use super::schemata::{false_schema, pad_to, random_schema, Schema};
 use super::sharp::{move_set, sharp_tables};
@@ -30,6 +31,8 @@ pub struct Case {
 pub const EXACT_ANCESTOR: &str = "check, exact ancestor";
 /// The sort of a tableau with sides of ands and ors swapped.
 pub const SIDES: &str = "check, sides";
+/// The sort of a tableau with bounds from both sides.
+pub const RANGES: &str = "check, ranges";
 
 /// What a case is made to show.
 #[derive(Clone, Debug)]
@@ -285,7 +288,7 @@ pub fn case(seed: u64, number: u64) -> Case {
         aim = Some(aim_of);
         Input::Check(tables)
     };
-    let (sort, input) = match rng.below(110) {
+    let (sort, input) = match rng.below(120) {
         0..=21 => ("check, grown", Input::Check(grown(rng))),
         22..=33 => ("check, grown and damaged", Input::Check(damaged(rng))),
         34..=49 => ("check, sharp", Input::Check(sharp_tables(rng))),
@@ -314,7 +317,8 @@ pub fn case(seed: u64, number: u64) -> Case {
         97 => ("line at fault in a model", model_fault_case(rng)),
         98 | 99 => ("compare rows", compare_case(rng)),
         100..=103 => (EXACT_ANCESTOR, aimed(exact_tables(rng))),
-        _ => (SIDES, aimed(sides_tables(rng))),
+        104..=109 => (SIDES, aimed(sides_tables(rng))),
+        _ => (RANGES, aimed(ranges_tables(rng))),
     };
     Case { sort, input, aim }
 }

@@ -1,16 +1,17 @@
 //! Grows a tableau for a schema by the rules, with random choices.
 //!
-//! The way is that of the paper's sources: take ands and ors apart; split into n = L and n ≥ L + 1;
-//! in the first case unfold until all is settled, in the second unfold each iteration once more;
-//! link back to an open ancestor as soon as its set stands here, lowered. A tableau need not come
-//! to an end; what is left over then gets some closing rule that does not fit.
+//! The way is that of the paper's sources: take ands and ors apart; split into n = L and n ≥ L + 1,
+//! or at a larger K; where n has one value unfold until all is settled, above K unfold each iteration
+//! once more; link back to an ancestor as soon as its set stands here, lowered. A tableau need not
+//! come to an end; what is left over then gets some closing rule that does not fit.
 
+use super::bounds::Bound;
 use super::pool::Pool;
 use super::rng::Rng;
 use super::schemata::Schema;
 use super::tables::{Tree, TreeNode};
-use crate::formula::{AND, BIG_AND, BIG_OR, FALSE, LITERAL, NEGATED, ON_I, ON_N, OR, TRUE};
-use crate::{MAX_MEMBERS, MAX_N};
+use crate::formula::{AND, BIG_AND, BIG_OR, FALSE, LITERAL, NEGATED, ON_I, ON_N, OR, PLAIN, TRUE};
+use crate::MAX_MEMBERS;
 use std::collections::{BTreeSet, HashMap, HashSet};
 use std::rc::Rc;
 
@@ -30,7 +31,9 @@ struct Style {
     prune: usize,
     /// Split without need.
     split: usize,
-    /// Unfold an open node without a split.
+    /// Split at a K above L.
+    ranges: usize,
+    /// Unfold without a split where n has more than one value.
     eager: usize,
     /// Take the or that looks best.
     best: usize,
@@ -48,6 +51,7 @@ fn style(rng: &mut Rng) -> Style {
         keep: rng.pick(&[0, 0, 5, 30]),
         prune: rng.pick(&[100, 100, 100, 95, 80]),
         split: rng.pick(&[0, 0, 0, 2, 5]),
+        ranges: rng.pick(&[0, 0, 0, 20, 60]),
         eager: rng.pick(&[0, 0, 10, 50]),
         best: rng.pick(&[100, 100, 95, 70]),
         carry: rng.pick(&[0, 0, 5, 30, 100]),
@@ -67,8 +71,7 @@ struct Growing {
     to: i32,
     by: i32,
     set: Vec<i32>,
-    least: i32,
-    open: bool,
+    bound: Bound,
     /// What the parent's rule gives this node.
     given: Vec<i32>,
     children: Vec<usize>,
@@ -79,7 +82,7 @@ struct Growing {
 /// A node to be dealt with.
 struct Goal {
     node: usize,
-    /// How often each iteration is to be unfolded on an open branch.
+    /// How often each iteration is to be unfolded where n has more than one value.
     unfolds: i32,
     /// Rows that have been taken apart and are still there.
     used: Vec<i32>,
@@ -110,9 +113,19 @@ struct Prover<'a> {
 
 /// Grows a tableau. The schema's rows come first; the proof's rows follow.
 pub fn grow(schema: &Schema, rng: &mut Rng) -> Grown {
+    let style = style(rng);
+    grow_in_style(schema, rng, style)
+}
+
+/// The same with most splits at a K above L.
+pub fn grow_by_ranges(schema: &Schema, rng: &mut Rng) -> Grown {
+    let style = Style { ranges: 80, ..style(rng) };
+    grow_in_style(schema, rng, style)
+}
+
+fn grow_in_style(schema: &Schema, rng: &mut Rng, style: Style) -> Grown {
     let schema_count = schema.pool.len();
     let mut pool = schema.pool.clone();
-    let style = style(rng);
     let mut first_limit = HashMap::new();
     for number in 0..schema_count as i32 {
         let [kind, a, b, c] = pool.row(number);
@@ -155,7 +168,7 @@ pub fn grow(schema: &Schema, rng: &mut Rng) -> Grown {
 
 impl Prover<'_> {
     fn grow_from(&mut self, root: i32, least: i32) -> bool {
-        self.nodes.push(new_node(-1, vec![root], least, true, Vec::new()));
+        self.nodes.push(new_node(-1, vec![root], Bound::from(least), Vec::new()));
         let mut goals = vec![Goal { node: 0, unfolds: 0, used: Vec::new(), splits: 0 }];
         let mut closed = true;
         while let Some(goal) = goals.pop() {
@@ -172,17 +185,17 @@ impl Prover<'_> {
 
     /// Gives the node a rule and children. `None` if there is no way on.
     fn expand(&mut self, mut goal: Goal) -> Option<Vec<Goal>> {
-        let (set, least, open) = {
+        let (set, bound) = {
             let node = &self.nodes[goal.node];
-            (node.set.clone(), node.least, node.open)
+            (node.set.clone(), node.bound)
         };
-        if !self.rng.chance(self.style.dawdle) && (self.close(goal.node, &set, least, open) || self.link(goal.node)) {
+        if !self.rng.chance(self.style.dawdle) && (self.close(goal.node, &set, bound) || self.link(goal.node)) {
             return Some(Vec::new());
         }
         if self.nodes.len() + 2 > self.style.max_nodes {
             return None;
         }
-        let may_split = open && least < MAX_N && goal.splits < 12;
+        let may_split = bound.may_split() && goal.splits < 12;
         if may_split && self.rng.chance(self.style.split) {
             return self.split(goal, false);
         }
@@ -199,16 +212,16 @@ impl Prover<'_> {
             self.fill(goal.node, 0, on, -1, -1);
             return Some(vec![self.child(&goal, on, vec![a, b])]);
         }
-        let (due_ands, blocked_ands) = self.due(&goal, of_kind(self.pool, BIG_AND), least, open);
+        let (due_ands, blocked_ands) = self.due(&goal, of_kind(self.pool, BIG_AND), bound);
         if !due_ands.is_empty() {
             let on = self.rng.pick(&due_ands);
             let (with, other) = self.unfolded(on)?;
             self.fill(goal.node, 3, on, with, other);
             return Some(vec![self.child(&goal, on, vec![with, other])]);
         }
-        let (due_ors, blocked_ors) = self.due(&goal, of_kind(self.pool, BIG_OR), least, open);
+        let (due_ors, blocked_ors) = self.due(&goal, of_kind(self.pool, BIG_OR), bound);
         let ors = of_kind(self.pool, OR);
-        let best = self.best_or(&ors, &set, least, open);
+        let best = self.best_or(&ors, &set, bound);
         if !due_ors.is_empty() && best.is_none() && (ors.is_empty() || self.rng.chance(50)) {
             let on = self.rng.pick(&due_ors);
             let (with, other) = self.unfolded(on)?;
@@ -232,7 +245,7 @@ impl Prover<'_> {
         }
         let all_unfold = active.iter().all(|row| {
             let [kind, _, b, c] = self.pool.row(*row);
-            kind < BIG_AND || least >= b + c
+            kind < BIG_AND || bound.least >= b + c
         });
         if all_unfold && self.rng.chance(self.style.eager) {
             goal.unfolds += 1;
@@ -248,20 +261,43 @@ impl Prover<'_> {
 
     fn split(&mut self, goal: Goal, unfold: bool) -> Option<Vec<Goal>> {
         self.fill(goal.node, 2, -1, -1, -1);
-        let least = self.nodes[goal.node].least;
-        let exact = self.child_with_bound(&goal, None, Vec::new(), least, false);
-        let mut open = self.child_with_bound(&goal, None, Vec::new(), least + 1, true);
-        open.unfolds += i32::from(unfold);
-        open.splits += 1;
-        Some(vec![exact, open])
+        let bound = self.nodes[goal.node].bound;
+        let by = if self.rng.chance(self.style.ranges) { self.split_above(goal.node) } else { 0 };
+        self.nodes[goal.node].by = by;
+        let [below, above] = bound.split(by);
+        let mut first = self.child_with_bound(&goal, None, Vec::new(), below);
+        let mut second = self.child_with_bound(&goal, None, Vec::new(), above);
+        first.splits += 1;
+        second.splits += 1;
+        second.unfolds += i32::from(unfold);
+        Some(vec![first, second])
+    }
+
+    /// K, named, where an iteration of the set is still empty, or some K from L on.
+    fn split_above(&mut self, node: usize) -> i32 {
+        let Growing { set, bound, .. } = &self.nodes[node];
+        let mut last: Vec<i32> = Vec::new();
+        for row in set {
+            let [kind, _, b, c] = self.pool.row(*row);
+            if kind >= BIG_AND && bound.least < b + c {
+                last.push(b + c - 1);
+            }
+        }
+        let bound = *bound;
+        let k = if !last.is_empty() && self.rng.chance(60) {
+            self.rng.pick(&last)
+        } else {
+            bound.least + self.rng.pick(&[0, 1, 1, 2, 3, 7, 20])
+        };
+        bound.by(k.min(bound.last_split()), self.rng)
     }
 
     fn child(&mut self, goal: &Goal, on: i32, given: Vec<i32>) -> Goal {
-        let (least, open) = (self.nodes[goal.node].least, self.nodes[goal.node].open);
-        self.child_with_bound(goal, Some(on), given, least, open)
+        let bound = self.nodes[goal.node].bound;
+        self.child_with_bound(goal, Some(on), given, bound)
     }
 
-    fn child_with_bound(&mut self, goal: &Goal, on: Option<i32>, given: Vec<i32>, least: i32, open: bool) -> Goal {
+    fn child_with_bound(&mut self, goal: &Goal, on: Option<i32>, given: Vec<i32>, bound: Bound) -> Goal {
         let mut used = goal.used.clone();
         let mut set = self.nodes[goal.node].set.clone();
         if let Some(on) = on {
@@ -275,24 +311,24 @@ impl Prover<'_> {
         set.sort_unstable();
         set.dedup();
         if self.rng.chance(self.style.prune) {
-            self.prune(&mut set, &used, least, open);
+            self.prune(&mut set, &used, bound);
         }
         let node = self.nodes.len();
-        self.nodes.push(new_node(goal.node as i32, set, least, open, given));
+        self.nodes.push(new_node(goal.node as i32, set, bound, given));
         self.nodes[goal.node].children.push(node);
         Goal { node, unfolds: goal.unfolds, used, splits: goal.splits }
     }
 
     /// Iterations that are to be unfolded now, and those that cannot be although they are due.
-    fn due(&self, goal: &Goal, rows: Vec<i32>, least: i32, open: bool) -> (Vec<i32>, Vec<i32>) {
+    fn due(&self, goal: &Goal, rows: Vec<i32>, bound: Bound) -> (Vec<i32>, Vec<i32>) {
         let (mut due, mut blocked) = (Vec::new(), Vec::new());
         for row in rows {
             let [kind, a, b, c] = self.pool.row(row);
             let first = self.first_limit.get(&(kind, a, b)).copied().unwrap_or(c);
-            if open && c - first >= goal.unfolds {
+            if !bound.is_exact() && c - first >= goal.unfolds {
                 continue;
             }
-            if least >= b + c {
+            if bound.least >= b + c {
                 due.push(row);
             } else {
                 blocked.push(row);
@@ -307,19 +343,20 @@ impl Prover<'_> {
     }
 
     /// Rules 5, 6 and 7.
-    fn close(&mut self, node: usize, set: &[i32], least: i32, open: bool) -> bool {
+    fn close(&mut self, node: usize, set: &[i32], bound: Bound) -> bool {
         let set: Vec<i32> = set.iter().copied().filter(|row| !self.inert.contains(row)).collect();
         let mut ways = Vec::new();
         for on in &set {
             let [kind, a, b, c] = self.pool.row(*on);
             match kind {
                 FALSE => ways.push((5, *on, -1)),
-                BIG_OR if !open && least < b + c => ways.push((7, *on, -1)),
+                BIG_OR if bound.is_below(b + c) => ways.push((7, *on, -1)),
                 LITERAL => {
                     for with in &set {
                         let [kind, a_with, b_with, c_with] = self.pool.row(*with);
-                        let index = |base: i32, offset: i32| if base == ON_N { least + offset } else { offset };
-                        let meet = (b, c) == (b_with, c_with) || (!open && index(b, c) == index(b_with, c_with));
+                        let index = |base: i32, offset: i32| if base == ON_N { bound.least + offset } else { offset };
+                        let by_value = bound.is_exact() && index(b, c) == index(b_with, c_with);
+                        let meet = (b, c) == (b_with, c_with) || by_value;
                         if kind == NEGATED && a == a_with && meet {
                             ways.push((6, *on, *with));
                         }
@@ -338,20 +375,18 @@ impl Prover<'_> {
 
     /// Rule 8.
     fn link(&mut self, node: usize) -> bool {
-        let least = self.nodes[node].least;
+        let least = self.nodes[node].bound.least;
         let mut at = self.nodes[node].up;
         while at >= 0 {
             let target = &self.nodes[at as usize];
-            if target.open && target.least < least {
-                for by in 1..=(least - target.least).min(4) {
-                    if let Some(partners) = self.partners(&target.set, &self.nodes[node].set, by) {
-                        if self.rng.chance(3) {
-                            continue;
-                        }
-                        let node = &mut self.nodes[node];
-                        (node.rule, node.to, node.by, node.partners) = (8, at, by, partners);
-                        return true;
+            for by in 1..=(least - target.bound.least).min(4) {
+                if let Some(partners) = self.partners(&target.set, &self.nodes[node].set, by) {
+                    if self.rng.chance(3) {
+                        continue;
                     }
+                    let node = &mut self.nodes[node];
+                    (node.rule, node.to, node.by, node.partners) = (8, at, by, partners);
+                    return true;
                 }
             }
             at = target.up;
@@ -360,22 +395,26 @@ impl Prover<'_> {
     }
 
     fn partners(&self, target: &[i32], set: &[i32], by: i32) -> Option<Vec<(i32, i32)>> {
+        let rows: Vec<i32> = target.iter().copied().filter(|row| !self.inert.contains(row)).collect();
+        if !self.pool.formulas.all_lowered(&rows, set, by) {
+            return None;
+        }
         let mut partners = Vec::new();
-        for row in target.iter().filter(|row| !self.inert.contains(row)) {
-            let partner = set.iter().find(|partner| self.pool.formulas.lowered(*row, **partner, by))?;
-            partners.push((*row, *partner));
+        for row in rows {
+            let partner = set.iter().find(|partner| self.pool.formulas.lowered(row, **partner, by))?;
+            partners.push((row, *partner));
         }
         Some(partners)
     }
 
     /// The or with a side that the set's literals contradict.
-    fn best_or(&mut self, ors: &[i32], set: &[i32], least: i32, open: bool) -> Option<i32> {
+    fn best_or(&mut self, ors: &[i32], set: &[i32], bound: Bound) -> Option<i32> {
         let literals: Vec<i32> =
             set.iter().copied().filter(|row| matches!(self.pool.row(*row)[0], LITERAL | NEGATED)).collect();
         let mut best: Vec<i32> = Vec::new();
         for or in ors {
             let [_, a, b, _] = self.pool.row(*or);
-            if self.contradicted(a, &literals, least, open) || self.contradicted(b, &literals, least, open) {
+            if self.contradicted(a, &literals, bound) || self.contradicted(b, &literals, bound) {
                 best.push(*or);
             }
         }
@@ -386,34 +425,34 @@ impl Prover<'_> {
         }
     }
 
-    fn contradicted(&self, number: i32, literals: &[i32], least: i32, open: bool) -> bool {
+    fn contradicted(&self, number: i32, literals: &[i32], bound: Bound) -> bool {
         let row = self.pool.row(number);
         match row[0] {
             FALSE => true,
             LITERAL | NEGATED => literals.iter().any(|literal| {
                 let other = self.pool.row(*literal);
-                let index = |row: [i32; 4]| if row[2] == ON_N { least + row[3] } else { row[3] };
+                let index = |row: [i32; 4]| if row[2] == ON_N { bound.least + row[3] } else { row[3] };
                 row[0] != other[0]
                     && row[1] == other[1]
-                    && (row[2..] == other[2..] || (!open && index(row) == index(other)))
+                    && (row[2..] == other[2..] || (bound.is_exact() && index(row) == index(other)))
             }),
-            AND => self.contradicted(row[1], literals, least, open) || self.contradicted(row[2], literals, least, open),
-            OR => self.contradicted(row[1], literals, least, open) && self.contradicted(row[2], literals, least, open),
-            BIG_OR => !open && least < row[2] + row[3],
+            AND => self.contradicted(row[1], literals, bound) || self.contradicted(row[2], literals, bound),
+            OR => self.contradicted(row[1], literals, bound) && self.contradicted(row[2], literals, bound),
+            BIG_OR => bound.is_below(row[2] + row[3]),
             _ => false,
         }
     }
 
     /// Drops what can be of no use: true, big ands without range, ors with a side that stands in the
     /// set, literals whose opposite cannot come up.
-    fn prune(&mut self, set: &mut Vec<i32>, used: &[i32], least: i32, open: bool) {
+    fn prune(&mut self, set: &mut Vec<i32>, used: &[i32], bound: Bound) {
         let before = set.clone();
         set.retain(|number| {
             let [kind, a, b, c] = self.pool.row(*number);
             match kind {
                 _ if self.inert.contains(number) => self.rng.chance(60),
                 TRUE => false,
-                BIG_AND => open || least >= b + c,
+                BIG_AND => !bound.is_below(b + c),
                 OR => !before.contains(&a) && !before.contains(&b),
                 _ => true,
             }
@@ -430,7 +469,7 @@ impl Prover<'_> {
                 return true;
             }
             let mut all = occurrences.iter().flat_map(|(_, list)| list.iter());
-            all.any(|occurrence| may_meet(row, occurrence, least, open))
+            all.any(|occurrence| may_meet(row, occurrence, bound))
         });
     }
 
@@ -524,7 +563,7 @@ impl Prover<'_> {
     }
 }
 
-fn new_node(up: i32, set: Vec<i32>, least: i32, open: bool, given: Vec<i32>) -> Growing {
+fn new_node(up: i32, set: Vec<i32>, bound: Bound, given: Vec<i32>) -> Growing {
     Growing {
         up,
         rule: -1,
@@ -534,8 +573,7 @@ fn new_node(up: i32, set: Vec<i32>, least: i32, open: bool, given: Vec<i32>) -> 
         to: -1,
         by: 0,
         set,
-        least,
-        open,
+        bound,
         given,
         children: Vec::new(),
         partners: Vec::new(),
@@ -570,7 +608,7 @@ fn occurrences(pool: &Pool, known: &mut HashMap<i32, Rc<Vec<Occurrence>>>, numbe
 }
 
 /// The literal and the occurrence may be opposites at some n of the bound.
-fn may_meet(literal: [i32; 4], occurrence: &Occurrence, least: i32, open: bool) -> bool {
+fn may_meet(literal: [i32; 4], occurrence: &Occurrence, bound: Bound) -> bool {
     let [kind, symbol, base, offset] = literal;
     if symbol != occurrence.symbol || (kind == LITERAL) == occurrence.positive {
         return false;
@@ -578,18 +616,10 @@ fn may_meet(literal: [i32; 4], occurrence: &Occurrence, least: i32, open: bool) 
     let Occurrence { base: other_base, offset: other, b, c, .. } = *occurrence;
     // The literal's index is n + offset or offset; the range of i + other is b + other up to n - c + other.
     match (base == ON_N, other_base) {
-        (true, ON_I) if open => offset <= other - c,
-        (true, ON_I) => b + other <= least + offset && offset <= other - c,
-        (false, ON_I) => b + other <= offset && (open || offset <= least - c + other),
-        (true, ON_N) => offset == other,
-        (false, ON_N) => {
-            let n = offset - other;
-            n == least || (open && n >= least)
-        }
-        (true, _) => {
-            let n = other - offset;
-            n == least || (open && n >= least)
-        }
-        (false, _) => offset == other,
+        (true, ON_I) => offset <= other - c && !bound.is_below(b + other - offset),
+        (false, ON_I) => b + other <= offset && !bound.is_below(offset + c - other),
+        (false, ON_N) => bound.has(offset - other),
+        (true, PLAIN) => bound.has(other - offset),
+        _ => offset == other,
     }
 }

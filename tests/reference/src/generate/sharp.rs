@@ -1,6 +1,7 @@
 //! Tableaux in which one condition decides: right ones changed so that, mostly, a single demand of
 //! the paper is met or missed by little, and two faults at one node for the order of refusals.
 
+use super::bounds::bounds;
 use super::pool::Pool;
 use super::prover::grow;
 use super::rng::Rng;
@@ -15,7 +16,8 @@ pub fn sharp_tables(rng: &mut Rng) -> Tables {
         2 => return limit_least(rng).tables(),
         _ => closed_tree(rng),
     };
-    match rng.below(28) {
+    match rng.below(30) {
+        28 | 29 => other_split(&mut tree, rng),
         0..=2 => boundary_row(&mut tree, rng),
         3 => deep_row(&mut tree, rng),
         4 | 5 => collapse_split(&mut tree, rng),
@@ -52,27 +54,6 @@ pub fn closed_tree(rng: &mut Rng) -> Tree {
             return grown.tree;
         }
     }
-}
-
-/// n ≥ (true) or n = (false) this, for each node; ups are right.
-pub fn bounds(tree: &Tree) -> Vec<(i32, bool)> {
-    let mut bounds: Vec<(i32, bool)> = Vec::new();
-    let mut seen = vec![0; tree.nodes.len()];
-    for node in &tree.nodes {
-        let Some(up) = usize::try_from(node.fields[0]).ok().filter(|up| *up < bounds.len()) else {
-            bounds.push((tree.least, true));
-            continue;
-        };
-        let (least, open) = bounds[up];
-        let position = seen[up];
-        seen[up] += 1;
-        bounds.push(match (tree.nodes[up].fields[1], position) {
-            (2, 0) => (least, false),
-            (2, _) => (least + 1, true),
-            _ => (least, open),
-        });
-    }
-    bounds
 }
 
 fn nodes_of_rule(tree: &Tree, rules: &[i32]) -> Vec<usize> {
@@ -159,7 +140,7 @@ fn deep_row(tree: &mut Tree, rng: &mut Rng) {
     }
 }
 
-/// Leaves out one side of a split: the node goes on as its exact or its open child did.
+/// Leaves out one side of a split: the node goes on as its first or its second child did.
 fn collapse_split(tree: &mut Tree, rng: &mut Rng) {
     let Some(split) = some_node(tree, rng, &[2]) else { return };
     let children: Vec<usize> =
@@ -199,14 +180,32 @@ fn collapse_split(tree: &mut Tree, rng: &mut Rng) {
     }
 }
 
-/// Splits a leaf in two like it: right at an open node, wrong at an exact one.
+/// Splits a leaf in two like it: right where more than one value is left, wrong at an exact node.
 fn split_leaf(tree: &mut Tree, rng: &mut Rng) {
     let Some(leaf) = some_node(tree, rng, &[5, 6, 7, 8]) else { return };
+    let by = some_by(tree, rng, leaf);
     let mut copy = tree.nodes[leaf].clone();
-    tree.nodes[leaf].fields[1..].copy_from_slice(&[2, -1, -1, -1, -1, 0]);
+    tree.nodes[leaf].fields[1..].copy_from_slice(&[2, -1, -1, -1, -1, by]);
     copy.fields[0] = leaf as i32;
     tree.nodes.push(copy.clone());
     tree.nodes.push(copy);
+}
+
+/// A split at another K.
+fn other_split(tree: &mut Tree, rng: &mut Rng) {
+    let Some(split) = some_node(tree, rng, &[2]) else { return };
+    tree.nodes[split].fields[6] = some_by(tree, rng, split);
+}
+
+/// A split's `by` at this node: 0, or about the first or the last that its bound allows.
+fn some_by(tree: &Tree, rng: &mut Rng, node: usize) -> i32 {
+    let bound = bounds(tree)[node];
+    match rng.below(6) {
+        0 | 1 => 0,
+        2 | 3 => bound.least + rng.range(-1, 2),
+        4 => bound.last_split() + rng.range(-1, 2),
+        _ => rng.pick(&[-1, 1, 9998, 9999, i32::MAX]),
+    }
 }
 
 /// Two faults at one node.
@@ -265,7 +264,8 @@ fn two_faults(tree: &mut Tree, rng: &mut Rng) {
 
 /// The bound does not allow what the node does; gives the node's new number.
 fn bound_fault(tree: &mut Tree, rng: &mut Rng, node: usize) -> usize {
-    let (least, _) = bounds(tree)[node];
+    let bound = bounds(tree)[node];
+    let least = bound.least;
     let [_, rule, on, with, ..] = tree.nodes[node].fields;
     let [kind, a, b, c] = row_of(tree, on);
     match rule {
@@ -277,7 +277,8 @@ fn bound_fault(tree: &mut Tree, rng: &mut Rng, node: usize) -> usize {
             return node + 1;
         }
         3 | 4 | 7 if a < tree.schema_count as i32 => {
-            let limit = if rule == 7 { least - b } else { least - b + 1 + rng.range(0, 1) };
+            let most = bound.most.unwrap_or(least);
+            let limit = if rule == 7 { most - b } else { least - b + 1 + rng.range(0, 1) };
             if !(-9999..9999).contains(&limit) || c == limit {
                 return node;
             }
@@ -482,7 +483,8 @@ fn join_to_root(tree: &mut Tree, row: Row, node: usize) -> i32 {
 /// A rule is used on a row that is almost the right one and stands in the set by right.
 fn decoy(tree: &mut Tree, rng: &mut Rng) {
     let Some(node) = some_node(tree, rng, &[5, 6, 6, 7, 7, 0, 1]) else { return };
-    let (least, _) = bounds(tree)[node];
+    let bound = bounds(tree)[node];
+    let least = bound.least;
     let fields = tree.nodes[node].fields;
     let field = if fields[1] == 6 { 2 + rng.below(2) } else { 2 };
     let [kind, a, b, c] = row_of(tree, fields[field]);
@@ -498,7 +500,7 @@ fn decoy(tree: &mut Tree, rng: &mut Rng) {
         },
         BIG_OR if a < tree.schema_count as i32 => match rng.below(4) {
             0 => [BIG_AND, a, b, c],
-            _ => [BIG_OR, a, b, (near(rng, least + 1 - b)).clamp(-9999, 9999)],
+            _ => [BIG_OR, a, b, near(rng, bound.most.unwrap_or(least) + 1 - b).clamp(-9999, 9999)],
         },
         FALSE => [rng.range(0, 1), 0, 0, 0],
         AND | OR if a < tree.schema_count as i32 && b < tree.schema_count as i32 => [AND + OR - kind, a, b, 0],
@@ -530,13 +532,13 @@ fn retarget(tree: &mut Tree, rng: &mut Rng) {
         }
     }
     let to = usize::try_from(tree.nodes[link].fields[5]).unwrap_or(0).min(bounds.len() - 1);
-    tree.nodes[link].fields[6] = bounds[link].0 - bounds[to].0 + rng.pick(&[0, 0, 1, -1]);
+    tree.nodes[link].fields[6] = bounds[link].least - bounds[to].least + rng.pick(&[0, 0, 1, -1]);
 }
 
 /// An iteration at another limit, near what the bound allows, unfolded rightly.
 fn unfold_otherwise(tree: &mut Tree, rng: &mut Rng) {
     let Some(node) = some_node(tree, rng, &[3, 4]) else { return };
-    let (least, _) = bounds(tree)[node];
+    let least = bounds(tree)[node].least;
     let [kind, a, b, _] = row_of(tree, tree.nodes[node].fields[2]);
     if a >= tree.schema_count as i32 {
         return;
@@ -604,7 +606,7 @@ fn limit_least(rng: &mut Rng) -> Tree {
     let mut up = 0;
     for _ in 0..rng.below(4) {
         let split = nodes.len() as i32;
-        nodes.push(TreeNode { fields: [up, 2, -1, -1, -1, -1, 0], set: vec![0, 1] });
+        nodes.push(TreeNode { fields: [up, 2, -1, -1, -1, -1, rng.pick(&[0, 0, least, 9998, 9999])], set: vec![0, 1] });
         nodes.push(clash(split));
         up = split;
     }

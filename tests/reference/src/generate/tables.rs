@@ -91,13 +91,14 @@ impl Tree {
         children
     }
 
-    /// Numbers the nodes anew: a parent before its children, brothers in their order.
-    pub fn renumber_nodes(&mut self, rng: &mut Rng) {
-        self.order_nodes(&self.children(), rng);
+    /// Numbers the nodes anew: a parent before its children, brothers in their order. Gives the new
+    /// number of each node.
+    pub fn renumber_nodes(&mut self, rng: &mut Rng) -> Vec<i32> {
+        self.order_nodes(&self.children(), rng)
     }
 
     /// The same with the children of each node in the order given.
-    pub fn order_nodes(&mut self, children: &[Vec<usize>], rng: &mut Rng) {
+    pub fn order_nodes(&mut self, children: &[Vec<usize>], rng: &mut Rng) -> Vec<i32> {
         let count = self.nodes.len();
         // Places from which the next node may come: a list of brothers, the first not yet taken.
         let mut waiting: Vec<(usize, usize)> = Vec::new();
@@ -124,7 +125,7 @@ impl Tree {
         for (new, old) in order.iter().enumerate() {
             new_number[*old] = new as i32;
         }
-        let rename = |number: i32| if number >= 0 { new_number[number as usize] } else { number };
+        let rename = |number: i32| new_number.get(number as usize).copied().unwrap_or(number);
         self.nodes = order
             .iter()
             .map(|old| {
@@ -134,6 +135,7 @@ impl Tree {
                 node
             })
             .collect();
+        new_number
     }
 
     /// Numbers the rows anew: schema rows before proof rows, parts before what they are parts of.
@@ -254,7 +256,7 @@ pub fn damage_tree(tree: &mut Tree, rng: &mut Rng) {
     let node_count = tree.nodes.len();
     let row_count = tree.rows.len();
     // Any node, or one of some rule, so that no rule is rare.
-    let rule = rng.pick(&[3, 4, 6, 7, 8, 8]);
+    let rule = rng.pick(&[2, 3, 4, 6, 7, 8, 8]);
     let of_rule: Vec<usize> = (0..node_count).filter(|node| tree.nodes[*node].fields[1] == rule).collect();
     let node = if rng.chance(50) && !of_rule.is_empty() { rng.pick(&of_rule) } else { rng.below(node_count) };
     let row = rng.below(row_count);

@@ -15,7 +15,7 @@ array-copy-out-result c = search needs
 
 returns : tie.Need-returns
 unfolding ruleOf ruleTable entry unused nat
-returns c = any-default ruleTable (c .before .args .z) _ (entry unused unused false false 0) (c .before .pre)
+returns c = any-default ruleTable (c .before .args .z) _ (entry unused unused false false false 0) (c .before .pre)
 
 pub rule-at-spec : {M : Type 1} → statement M
 rule-at-spec = tie.close (tie.spec mul-result array-copy-out-result returns)
