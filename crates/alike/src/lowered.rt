@@ -2,14 +2,12 @@
 use branch::counts::Counts;
 use branch::node;
 use classes::compare;
-use formula::kept::kept_at;
 ghost use mathlib.Core.Path.{_≡_};
 ghost use mathlib.Core.Bool.{true, false};
 ghost use Prim.Native.Nat.{ℕ, _+_, _*_, _-_, _<_, _≤_, _^_};
-ghost use lib.Dec.{eqb};
 ghost use lib.IntN.{pos};
-ghost use lib.ListN.{getD};
-ghost use Rattle.stab.specs.Basic.{_and_, nat, allOf};
+ghost use lib.ListN.{getD, length};
+ghost use Rattle.stab.specs.Basic.{nat, allOf};
 ghost use Rattle.stab.specs.Formula.{joined, tree, loose};
 ghost use Rattle.stab.specs.Node.{nodeAt, set, setOf};
 ghost use Rattle.stab.specs.Rule.{isLowered, hasLowered};
@@ -82,52 +80,44 @@ fn partner(
     size
 }
 
-// Rows y and z have the same class and the same shift.
+// Rows y and z have the same class and the same shift, where both are kept.
 fn same_form(forms: &[u32], y: usize, z: usize) -> bool
     requires { ⌜ (y < 2 ^ 32) × (z < 2 ^ 32) ⌝ }
-    ensures { λ r. ⌜ r ≡ (eqb (getD (now (forms .entry)) (4 * y) 0) (getD (now (forms .entry)) (4 * z) 0) and eqb (getD (now (forms .entry)) (4 * y + 1) 0) (getD (now (forms .entry)) (4 * z + 1) 0)) ⌝ }
+    ensures { λ r. ⌜ (r ≡ true → (getD (now (forms .entry)) (4 * y) 0 ≡ getD (now (forms .entry)) (4 * z) 0) × (getD (now (forms .entry)) (4 * y + 1) 0 ≡ getD (now (forms .entry)) (4 * z + 1) 0)) ⌝ }
 {
-    if kept_at(forms, 4 * y) != kept_at(forms, 4 * z) {
+    let a = 4 * y;
+    let b = 4 * z;
+    if forms.len() <= a + 1 {
         return false;
     }
-    kept_at(forms, 4 * y + 1) == kept_at(forms, 4 * z + 1)
-}
-
-// A partner of the row at place i of the set of node `to`, where `last` is that of the row before it. A row with the class and
-// the shift of the row before it has the same.
-fn next_partner(
-    schema: &[i32],
-    proof: &[i32],
-    nodes: &[i32],
-    members: &[i32],
-    forms: &[u32],
-    t: Counts,
-    j: usize,
-    to: usize,
-    k: i32,
-    i: usize,
-    last: usize,
-) -> usize
-    requires { ⌜ (j < 2 ^ 32) × (to < 2 ^ 32) × (i < nat (nodeAt (now nodes) to .size)) × (last ≤ nat (nodeAt (now nodes) j .size)) ⌝ }
-    requires { ⌜ Ready (joined (now schema) (t .schema) (now proof)) (now forms) (t .schema + t .proof) ⌝ }
-    requires { ⌜ SetOfRows (joined (now schema) (t .schema) (now proof)) (now nodes) (now members) (t .schema + t .proof) j ⌝ }
-    requires { ⌜ SetOfRows (joined (now schema) (t .schema) (now proof)) (now nodes) (now members) (t .schema + t .proof) to ⌝ }
-    requires { ⌜ (0 < i → (last < nat (nodeAt (now nodes) j .size)) × (hasLowered (lent (now schema) (now proof) (now nodes) (now members) t) k (set (lent (now schema) (now proof) (now nodes) (now members) t) j) (getD (set (lent (now schema) (now proof) (now nodes) (now members) t) to) (i - 1) (pos 0)) ≡ true)) ⌝ }
-    ensures { λ r. ⌜ (r < nat (nodeAt (now (nodes .entry)) j .size) → hasLowered (lent (now (schema .entry)) (now (proof .entry)) (now (nodes .entry)) (now (members .entry)) t) k (set (lent (now (schema .entry)) (now (proof .entry)) (now (nodes .entry)) (now (members .entry)) t) j) (getD (set (lent (now (schema .entry)) (now (proof .entry)) (now (nodes .entry)) (now (members .entry)) t) to) i (pos 0)) ≡ true) ⌝ }
-    ensures { λ r. ⌜ (nat (nodeAt (now (nodes .entry)) j .size) ≤ r → hasLowered (lent (now (schema .entry)) (now (proof .entry)) (now (nodes .entry)) (now (members .entry)) t) k (set (lent (now (schema .entry)) (now (proof .entry)) (now (nodes .entry)) (now (members .entry)) t) j) (getD (set (lent (now (schema .entry)) (now (proof .entry)) (now (nodes .entry)) (now (members .entry)) t) to) i (pos 0)) ≡ false) ⌝ }
-{
-    let start = node::natural_of(nodes, to, node::START);
-    let z = signed::natural_at(members, start + i);
-    if 0 < i {
-        let y = signed::natural_at(members, start + (i - 1));
-        if same_form(forms, y, z) {
-            return last;
-        }
+    if forms.len() <= b + 1 {
+        return false;
     }
-    partner(schema, proof, nodes, members, forms, t, j, k, z, last)
+    if forms[a] != forms[b] {
+        return false;
+    }
+    forms[a + 1] == forms[b + 1]
 }
 
-// Each row of the set of node `to`, lowered by k, stands in the set of node j.
+// A place after i in a list of rows, or its end. The rows from i on that stand before it have one class and one shift.
+fn past(rows: &[i32], forms: &[u32], i: usize) -> usize
+    requires { ⌜ i < length (now rows) ⌝ }
+    ensures { λ r. ⌜ (i < r) × (r ≤ length (now (rows .entry))) ⌝ }
+    ensures { λ r. ⌜ ((a : ℕ) → a < r → i < a → (getD (now (forms .entry)) (4 * nat (getD (now (rows .entry)) i (pos 0))) 0 ≡ getD (now (forms .entry)) (4 * nat (getD (now (rows .entry)) a (pos 0))) 0) × (getD (now (forms .entry)) (4 * nat (getD (now (rows .entry)) i (pos 0)) + 1) 0 ≡ getD (now (forms .entry)) (4 * nat (getD (now (rows .entry)) a (pos 0)) + 1) 0)) ⌝ }
+{
+    let z = signed::natural_at(rows, i);
+    let mut e = i + 1;
+    while e < rows.len() {
+        if !same_form(forms, z, signed::natural_at(rows, e)) {
+            return e;
+        }
+        e += 1;
+    }
+    e
+}
+
+// Each row of the set of node `to`, lowered by k, stands in the set of node j. A partner is looked for once for rows after one
+// another that have one class and one shift, from the place after the last one on.
 pub fn all_lowered(
     schema: &[i32],
     proof: &[i32],
@@ -147,14 +137,17 @@ pub fn all_lowered(
 {
     let size = node::natural_of(nodes, to, node::SIZE);
     let width = node::natural_of(nodes, j, node::SIZE);
-    let mut last: usize = 0;
+    let start = node::natural_of(nodes, to, node::START);
+    let mut from: usize = 0;
     let mut i: usize = 0;
     while i < size {
-        last = next_partner(schema, proof, nodes, members, forms, t, j, to, k, i, last);
-        if width <= last {
+        let z = signed::natural_at(members, start + i);
+        let found = partner(schema, proof, nodes, members, forms, t, j, k, z, from);
+        if width <= found {
             return false;
         }
-        i += 1;
+        from = found + 1;
+        i = past(&members[start..start + size], forms, i);
     }
     true
 }
