@@ -17,9 +17,9 @@ extern "C" {
 #endif
 
 /* The check: a formula row is 4 numbers (kind a b c), a node 9 (up rule on with other to by, then its set's start among the
- * members and its length), a member 1. by is what a link lowers n by, or a split's K, its first child having n <= K and its
- * second n >= K + 1; a split's by 0 stands for the least n that its node knows of. If the answer is ZORAMBI_ACCEPTED, the
- * schema is false at every natural n from its least value up, under every assignment. */
+ * members and its length), a member 1. to is a link's target, any node before it. by is what a link lowers n by, or a split's
+ * K, its first child having n <= K and its second n >= K + 1; a split's by 0 stands for the least n that its node knows of. If
+ * the answer is ZORAMBI_ACCEPTED, the schema is false at every natural n from its least value up, under every assignment. */
 uint64_t zorambi_check(const int32_t *schema, size_t schema_len, size_t schema_rows,
                        const int32_t *proof, size_t proof_len, size_t proof_rows,
                        int32_t root, int32_t least,
@@ -112,8 +112,8 @@ enum zorambi_answer_number {
   ZORAMBI_PARENT = 10,          /* no node (-1); a wrong parent, or node 0's set */
   ZORAMBI_DRAWN = 11,           /* the set has a row that neither its parent nor its parent's rule gives */
   ZORAMBI_FIELDS = 12,          /* no such rule, or a field, kind, symbol or by that does not fit, as a split's negative by */
-  ZORAMBI_TARGET = 13,          /* a link to no proper ancestor */
-  ZORAMBI_BOUND = 14,           /* a bound, a split's K, or the index of a clash */
+  ZORAMBI_TARGET = 13,          /* a link whose to is not the number of a node before it */
+  ZORAMBI_BOUND = 14,           /* a bound, a split's K, a link's L - by or H - by, or the index of a clash */
   ZORAMBI_PARTNER = 15,         /* with or other of an unfolding */
   ZORAMBI_LOWERED = 16,         /* a row of the link's target has no lowered partner */
   ZORAMBI_CHILDREN = 17,        /* the number of children */

@@ -77,12 +77,20 @@ told() { # RECORD WORDS...
 }
 told split_at_upper_bound "refused: a split's K (14) at node 9" "proof.txt:16: 7 2 -1 -1 -1 -1 8 1 2 3"
 told split_negative_by "refused: the fields of rule 2, split (12) at node 7" "proof.txt:14: 6 2 -1 -1 -1 -1 -8 1 2 3 7 9"
+told link_to_later_node "refused: a link whose to is not the number of a node before it (13) at node 7" \
+  "proof.txt:13: 5 8 -1 -1 -1 8 1 0 6 11"
+link_bounds="refused: a link's bounds: n - by may lie outside its target's (14) at node"
+told link_below_other_branch "$link_bounds 11" "proof.txt:17: 10 8 -1 -1 -1 4 1 0 6 11"
+told link_above_upper_bound "$link_bounds 12" "proof.txt:16: 9 8 -1 -1 -1 5 2 0 1 4"
+told link_open_to_bounded "$link_bounds 9" "proof.txt:12: 5 8 -1 -1 -1 4 2 0 1 4"
+told link_lost_row_other_branch "refused: a link's row without its lowered partner (16) at node 12" \
+  "proof.txt:18: 10 8 -1 -1 -1 4 1 0 6"
 told void_above_least "refused: a void's bound (14) at node 3" "proof.txt:8: 2 7 1 -1 -1 -1 0 1"
 
 # ---- 01's record and its neighbours
 
-# 01's record, changed in one point by sed: the numbers that 01, or 02 for a split's K, gives for it, and what is said
-# of it.
+# 01's record, changed in one point by sed: the numbers that 01, or 02 for a split's K and for a link's target, gives
+# for it, and what is said of it.
 neighbour() { # NAME FILE SED NUMBERS [WORDS ...]
   local name=$1 out words
   record "$work/r"
@@ -95,7 +103,16 @@ $4" "$out" $?
 }
 neighbour "the record of 01" proof.txt '' "0 0 7 1"
 neighbour "node 5 by 2" proof.txt 's/^4 8 -1 -1 -1 1 1 5 7$/4 8 -1 -1 -1 1 2 5 7/' "14 5 0 0" \
-  "refused: a link's bound (14) at node 5" "proof.txt:12: 4 8 -1 -1 -1 1 2 5 7"
+  "$link_bounds 5" "proof.txt:12: 4 8 -1 -1 -1 1 2 5 7"
+# Node 0 has another set, node 2 knows n = 1; 5 is the link itself, 6 comes after it, 7 is no node.
+neighbour "node 5 to 0" proof.txt 's/^4 8 -1 -1 -1 1 1 5 7$/4 8 -1 -1 -1 0 1 5 7/' "16 5 0 0" \
+  "refused: a link's row without its lowered partner (16) at node 5" "proof.txt:12: 4 8 -1 -1 -1 0 1 5 7"
+neighbour "node 5 to 2" proof.txt 's/^4 8 -1 -1 -1 1 1 5 7$/4 8 -1 -1 -1 2 1 5 7/' "14 5 0 0" \
+  "$link_bounds 5" "proof.txt:12: 4 8 -1 -1 -1 2 1 5 7"
+for to in 5 6 7 -1; do
+  neighbour "node 5 to $to" proof.txt "s/^4 8 -1 -1 -1 1 1 5 7\$/4 8 -1 -1 -1 $to 1 5 7/" "13 5 0 0" \
+    "refused: a link whose to is not the number of a node before it (13) at node 5" "proof.txt:12: 4 8 -1 -1 -1 $to 1 5 7"
+done
 neighbour "least 0" schema.txt 's/^4 1$/4 0/' "14 3 0 0" "refused: an unfolding's bound (14) at node 3"
 neighbour "least 2" schema.txt 's/^4 1$/4 2/' "14 2 0 0" "refused: a void's bound (14) at node 2"
 neighbour "node 1 by 1" proof.txt 's/^0 2 -1 -1 -1 -1 0 2 3$/0 2 -1 -1 -1 -1 1 2 3/' "0 0 7 1"

@@ -28,11 +28,12 @@
 //! let mut record = Record { schema, proof };
 //! assert_eq!(check(&record), Verdict::Accepted { nodes: 7, links: 1 });
 //!
-//! // Node 5 links by 2: it would go below what the ancestor knows of n.
+//! // Node 5 links by 2: it would go below what its target knows of n.
 //! record.proof.nodes[5][6] = 2;
 //! let verdict = check(&record);
 //! assert_eq!(verdict, Verdict::Refused { refusal: Refusal::Bound, place: Some(5) });
-//! assert_eq!(verdict.to_string(), "refused: 14 at node 5 (a bound, a split's K, or the index of a clash)");
+//! let words = "a bound, a split's K, a link's L - by or H - by, or the index of a clash";
+//! assert_eq!(verdict.to_string(), format!("refused: 14 at node 5 ({words})"));
 //! ```
 //!
 //! The same from texts:

@@ -5,9 +5,9 @@ use crate::verdict::Verdict;
 
 /// A formula row: kind a b c.
 pub type Row = [i32; 4];
-/// A node row: up rule on with other to by, then its set's start among the members and its length. `by`
-/// is what a link lowers n by, or a split's K: its first child has n ≤ K, its second n ≥ K + 1. A
-/// split's 0 stands for the least n that its node knows of.
+/// A node row: up rule on with other to by, then its set's start among the members and its length. `to`
+/// is a link's target, any node before it. `by` is what a link lowers n by, or a split's K: its first
+/// child has n ≤ K, its second n ≥ K + 1. A split's 0 stands for the least n that its node knows of.
 pub type Node = [i32; 9];
 /// A true pair of a model: symbol index.
 pub type Pair = [i32; 2];

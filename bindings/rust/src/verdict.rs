@@ -97,8 +97,8 @@ impl fmt::Display for Refusal {
             Refusal::Parent => "no node, a wrong parent, or node 0's set",
             Refusal::Drawn => "a row that neither the parent's set nor its rule gives",
             Refusal::Fields => "no such rule, or a field, kind, symbol, by or row that does not fit it",
-            Refusal::Target => "a link to no proper ancestor",
-            Refusal::Bound => "a bound, a split's K, or the index of a clash",
+            Refusal::Target => "a link whose to is not the number of a node before it",
+            Refusal::Bound => "a bound, a split's K, a link's L - by or H - by, or the index of a clash",
             Refusal::Partner => "with or other of an unfolding",
             Refusal::Lowered => "a row of the link's target without its lowered partner",
             Refusal::Children => "the number of children",
@@ -230,7 +230,11 @@ mod tests {
         assert_eq!(words(Verdict::Accepted { nodes: 0, links: 0 }), "accepted");
         assert_eq!(
             words(Verdict::Refused { refusal: Refusal::Bound, place: Some(5) }),
-            "refused: 14 at node 5 (a bound, a split's K, or the index of a clash)"
+            "refused: 14 at node 5 (a bound, a split's K, a link's L - by or H - by, or the index of a clash)"
+        );
+        assert_eq!(
+            words(Verdict::Refused { refusal: Refusal::Target, place: Some(7) }),
+            "refused: 13 at node 7 (a link whose to is not the number of a node before it)"
         );
         assert_eq!(
             words(Verdict::Refused { refusal: Refusal::Root, place: None }),

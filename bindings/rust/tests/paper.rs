@@ -44,6 +44,12 @@ fn the_record_and_its_neighbours() {
     assert_eq!(split_by("2"), refused(Refusal::Bound, 2));
     assert_eq!(split_by("9999"), refused(Refusal::Bound, 1));
     assert_eq!(split_by("-1"), refused(Refusal::Fields, 1));
+    let link_to = |to: &str| with_proof("-1 1 1 5 7\n", &format!("-1 {to} 1 5 7\n"));
+    assert_eq!(link_to("0"), refused(Refusal::Lowered, 5));
+    assert_eq!(link_to("2"), refused(Refusal::Bound, 5));
+    assert_eq!(link_to("5"), refused(Refusal::Target, 5));
+    assert_eq!(link_to("6"), refused(Refusal::Target, 5));
+    assert_eq!(link_to("-1"), refused(Refusal::Target, 5));
 }
 
 #[test]

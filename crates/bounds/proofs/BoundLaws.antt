@@ -14,7 +14,6 @@ use Rattle.stab.specs.Node.{Node, Bound, nodeAt, names, childCountOf, rank, spl
 use Rattle.stab.proofs.Bools.{and-first-false, and-second-false, if-true, if-false}
 use Rattle.stab.proofs.Whole.{eqZ-of, eqZ-not, nat-of}
 use Rattle.stab.proofs.Scans.{count-true, count-false, count-le}
-use Rattle.stab.proofs.Trees.{below-nat}
 use Rattle.branch.specs.Parents.{upFits, AllUpFit}
 use Rattle.branch.proofs.Parts.{under-of}
 use Rattle.branch.proofs.ParentLaws.{first-up, parent-less}

@@ -1,4 +1,3 @@
-pub mod AboveLaws
 pub mod Ascending
 pub mod NodeColumns
 pub mod ParentLaws

@@ -1,5 +1,4 @@
-// The nodes of a tableau: their numbers, members, ancestors and links.
-pub mod above;
+// The nodes of a tableau: their numbers, members, splits and links.
 pub mod counts;
 pub mod links;
 pub mod member;

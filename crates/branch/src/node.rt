@@ -2,7 +2,7 @@
 ghost use mathlib.Core.Path.{_≡_};
 ghost use Prim.Native.Nat.{_<_, _^_};
 ghost use lib.IntN.{negℤ};
-ghost use Rattle.stab.specs.Basic.{eqZ, nat};
+ghost use Rattle.stab.specs.Basic.{eqZ, nat, below};
 ghost use Rattle.stab.specs.Node.{nodeAt};
 ghost use Rattle.branch.specs.NodeColumn.{nodeColumn};
 
@@ -55,4 +55,15 @@ pub fn is_of(nodes: &[i32], j: usize, k: usize, z: i32) -> bool
     ensures { λ v. ⌜ v ≡ eqZ (nodeColumn (nodeAt (now (nodes .entry)) j) k) z ⌝ }
 {
     signed::is_at(nodes, 9 * j + k, z)
+}
+
+// It is one of 0 .. n - 1.
+pub fn is_below(nodes: &[i32], j: usize, k: usize, n: usize) -> bool
+    requires { ⌜ (j < 2 ^ 32) × (k < 9) ⌝ }
+    ensures { λ r. ⌜ r ≡ below n (nodeColumn (nodeAt (now (nodes .entry)) j) k) ⌝ }
+{
+    if 0 < under_of(nodes, j, k) {
+        return false;
+    }
+    natural_of(nodes, j, k) < n
 }

@@ -67,6 +67,11 @@ fn accepted() {
         b"accepted/chain_531/proof.txt",
     );
     record(
+        b"accepted/chain_either_end",
+        b"accepted/chain_either_end/schema.txt",
+        b"accepted/chain_either_end/proof.txt",
+    );
+    record(
         b"accepted/chain_up_to_20",
         b"accepted/chain_up_to_20/schema.txt",
         b"accepted/chain_up_to_20/proof.txt",
@@ -96,6 +101,11 @@ fn accepted() {
         b"accepted/token_on_two_rails/schema.txt",
         b"accepted/token_on_two_rails/proof.txt",
     );
+    record(
+        b"accepted/two_widths_down",
+        b"accepted/two_widths_down/schema.txt",
+        b"accepted/two_widths_down/proof.txt",
+    );
 }
 
 fn refused() {
@@ -103,6 +113,16 @@ fn refused() {
         b"refused/instance_regrouped",
         b"refused/instance_regrouped/schema.txt",
         b"refused/instance_regrouped/proof.txt",
+    );
+    record(
+        b"refused/link_above_upper_bound",
+        b"refused/link_above_upper_bound/schema.txt",
+        b"refused/link_above_upper_bound/proof.txt",
+    );
+    record(
+        b"refused/link_below_other_branch",
+        b"refused/link_below_other_branch/schema.txt",
+        b"refused/link_below_other_branch/proof.txt",
     );
     record(
         b"refused/link_bound_of_leaf",
@@ -118,6 +138,21 @@ fn refused() {
         b"refused/link_lost_row_cmp_transitive",
         b"refused/link_lost_row_cmp_transitive/schema.txt",
         b"refused/link_lost_row_cmp_transitive/proof.txt",
+    );
+    record(
+        b"refused/link_lost_row_other_branch",
+        b"refused/link_lost_row_other_branch/schema.txt",
+        b"refused/link_lost_row_other_branch/proof.txt",
+    );
+    record(
+        b"refused/link_open_to_bounded",
+        b"refused/link_open_to_bounded/schema.txt",
+        b"refused/link_open_to_bounded/proof.txt",
+    );
+    record(
+        b"refused/link_to_later_node",
+        b"refused/link_to_later_node/schema.txt",
+        b"refused/link_to_later_node/proof.txt",
     );
     record(
         b"refused/open_clash",
@@ -153,6 +188,16 @@ fn refused() {
 
 fn models() {
     model(
+        b"refused/link_above_upper_bound, its model",
+        b"refused/link_above_upper_bound/schema.txt",
+        b"refused/link_above_upper_bound/model.txt",
+    );
+    model(
+        b"refused/link_below_other_branch, its model",
+        b"refused/link_below_other_branch/schema.txt",
+        b"refused/link_below_other_branch/model.txt",
+    );
+    model(
         b"refused/link_bound_of_leaf, its model",
         b"refused/link_bound_of_leaf/schema.txt",
         b"refused/link_bound_of_leaf/model.txt",
@@ -161,6 +206,16 @@ fn models() {
         b"refused/link_by_zero, its model",
         b"refused/link_by_zero/schema.txt",
         b"refused/link_by_zero/model.txt",
+    );
+    model(
+        b"refused/link_lost_row_other_branch, its model",
+        b"refused/link_lost_row_other_branch/schema.txt",
+        b"refused/link_lost_row_other_branch/model.txt",
+    );
+    model(
+        b"refused/link_open_to_bounded, its model",
+        b"refused/link_open_to_bounded/schema.txt",
+        b"refused/link_open_to_bounded/model.txt",
     );
     model(
         b"refused/open_clash, its model",

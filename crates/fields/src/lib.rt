@@ -15,18 +15,7 @@ ghost use Rattle.stab.specs.Rule.{unused, symbolFits, fieldsFit};
 ghost use Rattle.branch.specs.NodeColumn.{nodeColumn};
 ghost use Rattle.branch.specs.Lent.{lent, SetHeld, fitsKind, otherFits, byFits, linkFits, rowsFit, restFits};
 
-// Number k of node j is one of 0 .. n - 1.
-fn is_below(nodes: &[i32], j: usize, k: usize, n: usize) -> bool
-    requires { ⌜ (j < 2 ^ 32) × (k < 9) ⌝ }
-    ensures { λ r. ⌜ r ≡ below n (nodeColumn (nodeAt (now (nodes .entry)) j) k) ⌝ }
-{
-    if 0 < node::under_of(nodes, j, k) {
-        return false;
-    }
-    node::natural_of(nodes, j, k) < n
-}
-
-// It stands in the node's set.
+// Number k of node j stands in the node's set.
 fn in_set(nodes: &[i32], members: &[i32], j: usize, k: usize) -> bool
     requires { ⌜ (j < 2 ^ 32) × (k < 9) ⌝ }
     requires { ⌜ SetHeld (now nodes) (now members) j ⌝ }
@@ -54,7 +43,7 @@ fn kind_fits(
     if signed::equal(need, -1) {
         return node::is_of(nodes, j, k, -1);
     }
-    if !is_below(nodes, j, k, t.schema + t.proof) {
+    if !node::is_below(nodes, j, k, t.schema + t.proof) {
         return false;
     }
     let r = node::natural_of(nodes, j, k);
@@ -80,7 +69,7 @@ fn other_fits(nodes: &[i32], t: Counts, j: usize, used: bool) -> bool
     ensures { λ r. ⌜ r ≡ otherFits (t .schema + t .proof) (nodeAt (now (nodes .entry)) j) used ⌝ }
 {
     if used {
-        return is_below(nodes, j, node::OTHER, t.schema + t.proof);
+        return node::is_below(nodes, j, node::OTHER, t.schema + t.proof);
     }
     node::is_of(nodes, j, node::OTHER, -1)
 }
@@ -179,7 +168,7 @@ pub fn fields_fit(
     requires { ⌜ SetHeld (now nodes) (now members) j ⌝ }
     ensures { λ r. ⌜ r ≡ fieldsFit (lent (now (schema .entry)) (now (proof .entry)) (now (nodes .entry)) (now (members .entry)) t) j ⌝ }
 {
-    if !is_below(nodes, j, node::RULE, 9) {
+    if !node::is_below(nodes, j, node::RULE, 9) {
         return false;
     }
     let rule = rules::rule_at(node::natural_of(nodes, j, node::RULE));

@@ -91,7 +91,7 @@ module _ (T : Tableau) (j n : ℕ) (e : node T j .rule ≡ pos n) where
       (unfoldFits (bound T j .L) (row T (node T j .on)))
       (clashFits (isExact (bound T j)) (bound T j .L) (row T (node T j .on)) (row T (node T j .with)))
       (voidFits (bound T j .H) (row T (node T j .on)))
-      (loopFits (bound T j .L) (bound T (nat (node T j .to)) .L) (node T j .by))
+      (loopFits (bound T j) (bound T (nat (node T j .to))) (node T j .by))
 
   -- the rule's number is m
   by-number : (m : ℕ) → n ≡ m → tests (pos m) ≡ boundFits T j
@@ -118,7 +118,7 @@ module _ (T : Tableau) (j n : ℕ) (e : node T j .rule ≡ pos n) where
   unfolding tests
   void-asked h = asked-7 _ _ _ _ _ ∙ by-number 7 h
 
-  pub loop-asked : n ≡ 8 → loopFits (bound T j .L) (bound T (nat (node T j .to)) .L) (node T j .by) ≡ boundFits T j
+  pub loop-asked : n ≡ 8 → loopFits (bound T j) (bound T (nat (node T j .to))) (node T j .by) ≡ boundFits T j
   unfolding tests
   loop-asked h = asked-8 _ _ _ _ _ ∙ by-number 8 h
 

@@ -4,6 +4,7 @@ use native.Mathlib.Omega.{arith}
 use mathlib.Core.Path.{_≡_, refl, sym, _∙_, ap, ap₂}
 use mathlib.Core.Logic.{⊎-elim}
 use mathlib.Core.Bool.{Bool, true, false, not, true≢false}
+use mathlib.Core.Option.{some}
 use lib.Dec.{leb, ltb, eqb}
 use lib.IntN.{ℤ, pos, negℤ, _+ℤ_, _-ℤ_}
 use lib.Signed.{leZ, ltZ}
@@ -11,8 +12,8 @@ use borrow.Author.Tests.{le-leb, leb-true, lt-leb, lt-ltb, ltb-true, eq-eqb, eqb
 use Rattle.stab.specs.Basic.{if_then_else_, eqZ, nat}
 use Rattle.stab.specs.Formula.{Row, nothing, parameter, index, baseOf}
 use Rattle.stab.specs.Meaning.{base}
-use Rattle.stab.specs.Node.{isUpper, isExact}
-use Rattle.stab.specs.Rule.{staysBelow, splitFits, voidFits, indexAt}
+use Rattle.stab.specs.Node.{Bound, isUpper, isExact}
+use Rattle.stab.specs.Rule.{staysBelow, splitFits, voidFits, upperFits, loopFits, indexAt}
 use Rattle.stab.proofs.Bools.{decide, same-test}
 use Rattle.stab.proofs.Whole.{atom, num, _⊕_, _⊖_, le-of, of-le, lt-of, not-lt-of, of-not-le, eq-of, of-eq, eqZ-true, plus-nat, minus-nat}
 use Rattle.formula.proofs.RowLaws.{test-same}
@@ -72,14 +73,6 @@ index-test v w l x y e d =
     (λ h. omega (arith, of-eq (num x ⊕ atom (v .c)) (num y ⊕ atom (w .c)) h, plus-nat (v .c), minus-nat (v .c), plus-nat (w .c), minus-nat (w .c)))
     ∙ ap₂ (λ (a b : ℤ). eqZ (a +ℤ v .c) (b +ℤ w .c)) e d
 
--- ---- links: L - k is at least the ancestor's
-
-pub link-test : (l a k : ℕ) → leb (a + k) l ≡ leZ (pos a) (pos l -ℤ pos k)
-link-test l a k =
-    same-test _ _
-    (λ h. le-of (num a) (num l ⊖ num k) (omega (arith, leb-true (a + k) l h)))
-    (λ h. le-leb (a + k) l (omega (arith, of-le (num a) (num l ⊖ num k) h)))
-
 -- ---- a split's K, and the upper bound as it is kept
 
 module _ (h l k : ℕ) where
@@ -122,3 +115,36 @@ pub void-upper : (h : ℕ) (w : Row) → (h ≡ 0 → ⊥) → ltZ (pos (h - 1))
 unfolding voidFits upper
 void-upper zero w f = absurd (f refl)
 void-upper (suc H) w f = ap (λ (n : ℕ). ltZ (pos n) (w .b +ℤ w .c)) (omega arith)
+
+-- ---- links: L - k is at least the target's L, H - k at most its H
+
+pub link-low : (B A : Bound) (k : ℕ) → B .L < A .L + k → false ≡ loopFits B A (pos k)
+unfolding loopFits
+link-low B A k p =
+    first-fails _ _
+    (⊎-elim
+    (λ t. absurd (omega (arith, of-le (num (A .L)) (num (B .L) ⊖ num k) t)))
+    (λ t. t)
+    (decide (leZ (pos (A .L)) (pos (B .L) -ℤ pos k))))
+
+pub link-from : (B A : Bound) (k : ℕ) → A .L + k ≤ B .L → upperFits (B .H) (A .H) (pos k) ≡ loopFits B A (pos k)
+unfolding loopFits
+link-from B A k p = second-decides _ _ (le-of (num (A .L)) (num (B .L) ⊖ num k) (omega arith))
+
+pub no-upper : (h a k : ℕ) → a ≡ 0 → true ≡ upperFits (upper h) (upper a) (pos k)
+unfolding upperFits upper
+no-upper h a k e = ap (λ (n : ℕ). upperFits (upper h) (upper n) (pos k)) (sym e)
+
+pub leaf-open : (h a k : ℕ) → (a ≡ 0 → ⊥) → h ≡ 0 → false ≡ upperFits (upper h) (upper a) (pos k)
+unfolding upperFits upper
+leaf-open h zero k f e = absurd (f refl)
+leaf-open h (suc A) k f e = ap (λ (n : ℕ). upperFits (upper n) (some A) (pos k)) (sym e)
+
+pub upper-test : (h a k : ℕ) → (a ≡ 0 → ⊥) → (h ≡ 0 → ⊥) → leb h (a + k) ≡ upperFits (upper h) (upper a) (pos k)
+unfolding upperFits upper
+upper-test h zero k f g = absurd (f refl)
+upper-test zero (suc A) k f g = absurd (g refl)
+upper-test (suc H) (suc A) k f g =
+    same-test _ _
+    (λ t. le-of (num H ⊖ num k) (num A) (omega (arith, leb-true (suc H) (suc A + k) t)))
+    (λ t. le-leb (suc H) (suc A + k) (omega (arith, of-le (num H ⊖ num k) (num A) t)))

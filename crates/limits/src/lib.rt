@@ -9,17 +9,16 @@ ghost use mathlib.Core.Path.{_≡_};
 ghost use mathlib.Core.Bool.{true};
 ghost use mathlib.Core.List.{[]};
 ghost use Prim.Native.Nat.{_+_, _*_, _<_, _≤_, _^_};
-ghost use lib.IntN.{pos, _+ℤ_, _-ℤ_};
-ghost use lib.ListN.{getD};
+ghost use lib.IntN.{pos, _+ℤ_};
 ghost use lib.Signed.{leZ};
 ghost use Rattle.stab.specs.Basic.{_and_, eqZ, nat};
 ghost use Rattle.stab.specs.Formula.{joined, baseOf, offset};
 ghost use Rattle.stab.specs.Meaning.{base};
 ghost use Rattle.stab.specs.Node.{nodeAt, isExact, splitAt};
-ghost use Rattle.stab.specs.Rule.{ofRule, splitFits, indexAt, clashFits, voidFits, boundFits};
+ghost use Rattle.stab.specs.Rule.{ofRule, splitFits, indexAt, clashFits, voidFits, upperFits, loopFits, boundFits};
 ghost use Rattle.formula.specs.Facts.{AllFormed};
 ghost use Rattle.branch.specs.Work.{AllWorked};
-ghost use Rattle.branch.specs.Lent.{lent, upper, bounded, FieldsKnown};
+ghost use Rattle.branch.specs.Lent.{lent, upper, bounded, boundBy, FieldsKnown};
 
 // Rule 2: K is at least L, and below H, or at most 9998 where there is none.
 fn split_fits(nodes: &[i32], j: usize, l: usize, h: usize) -> bool
@@ -132,15 +131,31 @@ fn is_exact(l: usize, h: usize) -> bool
     l + 1 == h
 }
 
-// Rule 8: L - k is at least the target's, where L is the node's own.
-fn target_allows(nodes: &[i32], work: &[u32], j: usize, l: usize) -> bool
+// Rule 8: H - k is at most the target's H, where that has one.
+fn upper_fits(h: usize, target: usize, k: usize) -> bool
+    requires { ⌜ (target < 2 ^ 32) × (k < 2 ^ 32) ⌝ }
+    ensures { λ r. ⌜ r ≡ upperFits (upper h) (upper target) (pos k) ⌝ }
+{
+    if target == 0 {
+        return true;
+    }
+    if h == 0 {
+        return false;
+    }
+    h <= target + k
+}
+
+// Rule 8: L - k is at least the target's L, and H - k at most its H, where l and h are the node's own.
+fn target_allows(nodes: &[i32], work: &[u32], j: usize, l: usize, h: usize) -> bool
     requires { ⌜ j < 2 ^ 32 ⌝ }
-    ensures { λ r. ⌜ r ≡ leZ (pos (getD (now (work .entry)) (4 * nat (nodeAt (now (nodes .entry)) j .to) + 1) 0)) (pos l -ℤ pos (nat (nodeAt (now (nodes .entry)) j .by))) ⌝ }
+    ensures { λ r. ⌜ r ≡ loopFits (bounded h l) (boundBy (now (work .entry)) (nat (nodeAt (now (nodes .entry)) j .to))) (pos (nat (nodeAt (now (nodes .entry)) j .by))) ⌝ }
 {
     let to = node::natural_of(nodes, j, node::TO);
-    let least = kept::kept_at(work, 4 * to + worked::L);
     let k = node::natural_of(nodes, j, node::BY);
-    least + k <= l
+    if l < kept::kept_at(work, 4 * to + worked::L) + k {
+        return false;
+    }
+    upper_fits(h, kept::kept_at(work, 4 * to + worked::H), k)
 }
 
 // What the rule of node j asks of its bound holds. No set is looked at.
@@ -168,7 +183,7 @@ pub fn bound_fits(
         3 | 4 => reaches(schema, t.schema, proof, on, l),
         6 => clash_fits(schema, t.schema, proof, on, with, is_exact(l, h), l),
         7 => void_fits(schema, t.schema, proof, on, h),
-        8 => target_allows(nodes, work, j, l),
+        8 => target_allows(nodes, work, j, l, h),
         _ => true,
     }
 }

@@ -1,4 +1,4 @@
--- Parents have smaller numbers, so ancestors do, and the search upwards finds them.
+-- Ancestors have smaller numbers, and the search upwards finds them.
 use Prim.Native.Nat.{ℕ, zero, suc, _<_}
 use native.Mathlib.Omega.{arith}
 use mathlib.Core.Path.{_≡_, refl, sym, _∙_}
@@ -7,17 +7,14 @@ use mathlib.Core.Bool.{Bool, true, false, false≢true}
 use mathlib.Core.List.{List}
 use lib.IntN.{ℤ, pos}
 use Rattle.stab.specs.Basic.{_and_, _or_, eqZ, nat, below}
-use Rattle.stab.specs.Node.{Tableau, node, nodeAt, aboveIf, aboveN, isAncestor}
-use Rattle.stab.specs.Keeps.{KeepsParent, Ancestor, parent, further}
+use Rattle.stab.specs.Node.{Tableau, nodeAt}
+use Rattle.stab.specs.Keeps.{KeepsParent}
+use Rattle.stab.specs.AncestorLink.{aboveIf, aboveN, isAncestor, Ancestor, parent, further}
 use Rattle.stab.proofs.Bools.{and-left, and-right, and-both, or-cases, or-left, or-right}
-use Rattle.stab.proofs.Whole.{num, less, of-eq, eqZ-true, eqZ-refl}
-use Rattle.stab.proofs.Trees.{below-nat, below-pos, below-of}
-use Rattle.stab.proofs.Tests.{_tests_, below-tests}
-
-pub parent-below : (T : Tableau) (j i : ℕ) → KeepsParent T j → nodeAt (T .nodes) j .up ≡ pos i → i < j
-unfolding node nat
-parent-below T zero i h e = absurd (omega (arith, of-eq (less (num 1)) (num i) (sym (h .0) ∙ e)))
-parent-below T (suc j) i h e = rw e at (below-nat (suc j) (nodeAt (T .nodes) (suc j) .up) (below-tests _ _ .1 h))
+use Rattle.stab.proofs.Whole.{eqZ-true, eqZ-refl}
+use Rattle.stab.proofs.Trees.{below-pos, below-of}
+use Rattle.stab.proofs.Tests.{_tests_}
+use Rattle.stab.proofs.Bounds.{parent-below}
 
 -- node 0 has no ancestor, and every other node's are smaller than it
 pub ancestor-below : (T : Tableau) → ((k : ℕ) → k < T .nodeRows → KeepsParent T k) → {i j : ℕ} → j < T .nodeRows → Ancestor (T .nodes) i j → i < j

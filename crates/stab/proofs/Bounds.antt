@@ -5,10 +5,20 @@ use mathlib.Core.Path.{_≡_, refl, sym, _∙_, ap}
 use mathlib.Core.Logic.{⊎-elim}
 use mathlib.Core.Bool.{Bool, true, false}
 use mathlib.Core.List.{List}
-use lib.IntN.{ℤ}
+use lib.IntN.{ℤ, pos}
 use Rattle.stab.specs.Basic.{if_then_else_, nat, below, count}
-use Rattle.stab.specs.Node.{Node, nodeAt, childBound, firstBound, inheritIf, inheritN, inherited, boundOf, rank}
+use Rattle.stab.specs.Node.{Tableau, Node, nodeAt, node, childBound, firstBound, inheritIf, inheritN, inherited, boundOf, rank}
+use Rattle.stab.specs.Keeps.{KeepsParent}
+use Rattle.stab.proofs.Whole.{num, less, of-eq}
 use Rattle.stab.proofs.Trees.{below-nat}
+use Rattle.stab.proofs.Tests.{below-tests}
+
+-- ---- parents
+
+pub parent-below : (T : Tableau) (j i : ℕ) → KeepsParent T j → nodeAt (T .nodes) j .up ≡ pos i → i < j
+unfolding node nat
+parent-below T zero i h e = absurd (omega (arith, of-eq (less (num 1)) (num i) (sym (h .0) ∙ e)))
+parent-below T (suc j) i h e = rw e at (below-nat (suc j) (nodeAt (T .nodes) (suc j) .up) (below-tests _ _ .1 h))
 
 -- ---- what a node has from its parent
 

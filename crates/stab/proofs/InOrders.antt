@@ -17,8 +17,9 @@ use Rattle.stab.specs.declared.Refusal.{Refusal}
 use Rattle.stab.specs.declared.Verdict.{Verdict}
 use Rattle.stab.specs.declared.Verdict.the-variants.{Accepted}
 use Rattle.stab.proofs.Bools.{and-left, and-right, and-both, or-cases, or-left, or-right, implies-use, implies-make, otherwise-first, otherwise-second, otherwise-none}
-use Rattle.stab.proofs.Scans.{scan-none, none-scan, all-use, all-make}
+use Rattle.stab.proofs.Scans.{all-use, all-make}
 use Rattle.stab.proofs.Tests.{itself, at-clears}
+use Rattle.stab.proofs.Exactness.Checked.{refusal-by-kept}
 use Rattle.stab.proofs.Exactness.Refusals.{of-tests, of-refusal-by, accepted}
 
 -- formulas that agree with sides in order are alike
@@ -97,10 +98,7 @@ unfolding nodeRefusalInOrder nodeRefusal
 node-kept T j = step-kept T j both (λ h. h)
 
 refusal-kept : (T : Tableau) → refusalBy nodeRefusalInOrder T clears-too refusalBy nodeRefusal T
-unfolding refusalBy
-refusal-kept T =
-    (λ h. h) both (λ h. h) both (λ h. h) both (λ h. h) both (λ h. h) both (λ h. h) both
-    (λ h. scan-none (nodeRefusal T) (T .nodeRows) (λ j l. node-kept T j (none-scan (nodeRefusalInOrder T) (T .nodeRows) h j l)))
+refusal-kept T = refusal-by-kept nodeRefusalInOrder nodeRefusal T (λ parents found j l. node-kept T j (found j l))
 
 -- ---- the theorem
 

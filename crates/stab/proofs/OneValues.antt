@@ -1,18 +1,19 @@
--- Tableaux in which each split's by is 0 are read as before bounds had two sides.
+-- Tableaux in which each split's by is 0 are read as before bounds had two sides, by the check with links to proper ancestors.
 use Prim.Native.Nat.{ℕ, zero, suc, _<_}
 use native.Mathlib.Omega.{arith}
 use mathlib.Core.Path.{_≡_, refl, sym, _∙_, ap, ap₂, subst}
 use mathlib.Core.Logic.{⊎-elim}
-use mathlib.Core.Bool.{Bool, true, false, not}
+use mathlib.Core.Bool.{Bool, true, false, true≢false}
 use mathlib.Core.Option.{Option, none, some}
-use lib.Dec.{leb, eqb}
+use lib.Dec.{leb}
 use lib.IntN.{ℤ, pos, _-ℤ_}
 use lib.Signed.{leZ}
-use Rattle.stab.specs.Basic.{if_then_else_, _and_, _or_, _implies_, eqZ, nat, below, _otherwise_}
+use Rattle.stab.specs.Basic.{_and_, _or_, _implies_, eqZ, nat, below}
 use Rattle.stab.specs.Formula.{Row}
-use Rattle.stab.specs.Node.{Tableau, Node, Bound, row, nodeAt, node, rank, isUpper, isExact, splitAt, splitBound, childBound, firstBound, inherited, boundOf, bound}
-use Rattle.stab.specs.Rule.{ofRule, fieldsFit, targetFits, staysBelow, splitFits, unfoldFits, clashFits, voidFits, loopFits, boundFits}
-use Rattle.stab.specs.Check.{atUnless, stepRefusal, nodeRefusal, checkBy, verdict, check, linkCount}
+use Rattle.stab.specs.Node.{Tableau, Node, Bound, row, nodeAt, node, rank, isUpper, isExact, splitAt, splitBound, childBound, firstBound, boundOf, bound}
+use Rattle.stab.specs.Rule.{ofRule, fieldsFit, staysBelow, splitFits, unfoldFits, clashFits, voidFits, boundFits}
+use Rattle.stab.specs.AncestorLink.{targetAbove, loopAbove, boundAbove, stepRefusalAbove, nodeRefusalAbove, checkAbove}
+use Rattle.stab.specs.Check.{atUnless, checkBy, verdict, linkCount}
 use Rattle.stab.specs.OneValue.{OpenOrExact, splitOne, childOne, firstOne, boundOne, fieldsFitOne, splitFitsOne, voidFitsOne, boundFitsOne, stepRefusalOne, nodeRefusalOne, checkOne}
 use Rattle.stab.specs.Keeps.{KeepsParent, Splits}
 use Rattle.stab.specs.declared.Refusal.the-variants.{Bound as BoundWrong, Fields, Target}
@@ -20,14 +21,15 @@ use Rattle.stab.specs.declared.Verdict.{Verdict}
 use Rattle.stab.specs.declared.Verdict.the-variants.{Accepted}
 use borrow.Author.Tests.{le-leb, eq-eqb}
 use Rattle.stab.proofs.Bools.{decide, if-true, if-false, and-first-true, and-left, and-both, same-test, otherwise-same, otherwise-first-same}
-use Rattle.stab.proofs.Whole.{num, _⊖_, le-of, of-le, eqZ-true, eqZ-of}
+use Rattle.stab.proofs.Whole.{num, _⊖_, of-le, eqZ-true, eqZ-of}
 use Rattle.stab.proofs.Trees.{below-nat}
 use Rattle.stab.proofs.Tests.{_⇒_, eqZ-tests, at-clears, itself}
 use Rattle.stab.proofs.Bounds.{inherit-first, inherit-child}
 use Rattle.stab.proofs.Ancestors.{ancestor-below}
 use Rattle.stab.proofs.Ranges.{RightSplits}
 use Rattle.stab.proofs.Exactness.Checked.{refusal-by-same}
-use Rattle.stab.proofs.Exactness.Steps.{rule-tests, target-tests, step-clears}
+use Rattle.stab.proofs.AncestorLinks.{target-above-tests, loop-above, other-above, splits-above, above-clears}
+use Rattle.stab.proofs.Exactness.Steps.{rule-tests}
 
 -- "n ≥ L (open) or n = L (exact)" as a bound with two sides
 ends : Bool → ℕ → Option ℕ
@@ -130,9 +132,9 @@ module _ (T : Tableau) (parents : (k : ℕ) → k < T .nodeRows → KeepsParent 
       ∙ sym (ap twoSided (inherit-first (firstOne (T .least)) childOne (T .nodes) j b)))
       (decide (below j (nodeAt (T .nodes) j .up)))
 
-  module _ (j : ℕ) (l : j < T .nodeRows) (before : (k : ℕ) → k < j → nodeRefusal T k ≡ none) where
+  module _ (j : ℕ) (l : j < T .nodeRows) (before : (k : ℕ) → k < j → nodeRefusalAbove T k ≡ none) where
     splits : (i : ℕ) → i < suc j → RightSplits T parents i
-    splits i q k p r = step-clears T parents k (omega arith) .0 (before k (omega arith)) .1 .split r
+    splits i q = splits-above T parents i (λ k p. above-clears T k (before k (omega arith)) .bounds)
 
     -- up to node j bounds are the same
     same : (i : ℕ) → i < suc j → bound T i ≡ twoSided (boundOne T i)
@@ -145,9 +147,10 @@ module _ (T : Tableau) (parents : (k : ℕ) → k < T .nodeRows → KeepsParent 
         (rule-tests 2 (node T j) ⇒ eqZ-tests (node T j .by) (pos 0)) .1 (zeros j l) in
         same-test _ _ (and-left (fieldsFit T j) _) (λ h. and-both _ _ h by-zero)
 
-    same-bounds : targetFits T j ≡ true → boundFitsOne T j ≡ boundFits T j
-    unfolding boundFitsOne boundFits twoSided isExact nat
-    same-bounds t =
+    -- of a node that is no link
+    same-others : ofRule 8 (node T j) ≡ false → boundFitsOne T j ≡ boundFits T j
+    unfolding boundFitsOne boundFits twoSided isExact
+    same-others not-loop =
         let B : OpenOrExact = boundOne T j in
         let here : bound T j ≡ twoSided B = same j (omega arith) in
         ap₂ _and_
@@ -163,32 +166,47 @@ module _ (T : Tableau) (parents : (k : ℕ) → k < T .nodeRows → KeepsParent 
         (ap₂ _and_
         (implies-same _ _ _ (λ r.
         sym (ends-void (B .exact) (B .L) (row T (node T j .on))) ∙ ap (λ (C : Bound). voidFits (C .H) (row T (node T j .on))) (sym here)))
-        (implies-same _ _ _ (λ r.
-        let w = target-tests T parents j l .0 t (rule-tests 8 (node T j) .0 r) in
+        (implies-same _ _ _ (λ r. absurd (true≢false (sym r ∙ not-loop)))))))
+
+    -- of a link
+    same-loop : targetAbove T j ≡ true → node T j .rule ≡ pos 8 → boundFitsOne T j ≡ boundAbove T j
+    unfolding boundFitsOne ofRule eqZ _and_ _or_ _implies_ nat twoSided
+    same-loop t r =
+        let w = target-above-tests T parents j l .0 t r in
         let i<j : (w .0) < j = ancestor-below T parents l (w .2) in
+        let here : bound T j ≡ twoSided (boundOne T j) = same j (omega arith) in
         let there : bound T (nat (node T j .to)) ≡ twoSided (boundOne T (nat (node T j .to))) =
         same (nat (node T j .to)) (omega (arith, ap nat (w .1))) in
-        ap₂ (λ (C A : Bound). loopFits (C .L) (A .L) (node T j .by)) (sym here) (sym there))))))
+        rw r refl
+        ∙ ap₂ (λ (C A : Bound). loopAbove (C .L) (A .L) (node T j .by)) (sym here) (sym there)
+        ∙ sym (loop-above T j r)
 
-    same-step : stepRefusalOne T j ≡ stepRefusal T j
-    unfolding stepRefusalOne stepRefusal
+    same-bounds : targetAbove T j ≡ true → boundFitsOne T j ≡ boundAbove T j
+    same-bounds t =
+        ⊎-elim
+        (λ r. same-loop t (rule-tests 8 (node T j) .0 r))
+        (λ r. same-others r ∙ sym (other-above T j r))
+        (decide (ofRule 8 (node T j)))
+
+    same-step : stepRefusalOne T j ≡ stepRefusalAbove T j
+    unfolding stepRefusalOne stepRefusalAbove
     same-step =
         otherwise-same _ _ _ (λ d.
         otherwise-first-same _ (ap (λ (v : Bool). atUnless v Fields j) same-fields)
         ∙ otherwise-same _ _ _ (λ f.
         otherwise-same _ _ _ (λ t.
         otherwise-first-same _
-        (ap (λ (v : Bool). atUnless v BoundWrong j) (same-bounds (at-clears Target j (itself (targetFits T j)) .0 t))))))
+        (ap (λ (v : Bool). atUnless v BoundWrong j) (same-bounds (at-clears Target j (itself (targetAbove T j)) .0 t))))))
 
-    same-node : nodeRefusalOne T j ≡ nodeRefusal T j
-    unfolding nodeRefusalOne nodeRefusal
+    same-node : nodeRefusalOne T j ≡ nodeRefusalAbove T j
+    unfolding nodeRefusalOne nodeRefusalAbove
     same-node = otherwise-first-same _ same-step
 
 -- ---- the theorem
 
 -- 02, No. 5: "by 0 stands for K = L, so stored tableaux read as before", for every tableau, whatever its numbers
-pub stored-as-before : (T : Tableau) → ((j : ℕ) → j < T .nodeRows → node T j .rule ≡ pos 2 → node T j .by ≡ pos 0) → check T ≡ checkOne T
-unfolding check checkOne checkBy
+pub stored-as-before : (T : Tableau) → ((j : ℕ) → j < T .nodeRows → node T j .rule ≡ pos 2 → node T j .by ≡ pos 0) → checkAbove T ≡ checkOne T
+unfolding checkAbove checkOne checkBy
 stored-as-before T zeros =
     ap (λ (x : Option Verdict). verdict x (Accepted (T .nodeRows) (linkCount T)))
-    (sym (refusal-by-same nodeRefusalOne T (λ parents j l before. same-node T parents zeros j l before)))
+    (sym (refusal-by-same nodeRefusalOne nodeRefusalAbove T (λ parents j l before. same-node T parents zeros j l before)))

@@ -1,19 +1,18 @@
--- A node's range of values lies within its ancestors', and is never empty; an exact ancestor makes all below it exact with its own L.
+-- A node's range of values lies within its parent's, and is never empty.
 use Prim.Native.Nat.{ℕ, zero, suc, _<_, _≤_}
 use native.Mathlib.Omega.{arith}
-use mathlib.Core.Path.{_≡_, refl, sym, _∙_, ap, ap₂, subst}
+use mathlib.Core.Path.{_≡_, refl, sym, _∙_, ap, subst}
 use mathlib.Core.Logic.{⊎-elim}
 use mathlib.Core.Bool.{true}
 use mathlib.Core.Option.{Option, none, some, Option·none-ne-some, Option·some-injective}
 use lib.IntN.{ℤ, pos}
 use Rattle.stab.specs.Basic.{eqZ, nat, below}
 use Rattle.stab.specs.Node.{Tableau, Node, Bound, node, nodeAt, rank, AtMost, Satisfies, splitAt, splitBound, childBound, firstBound, boundOf, bound}
-use Rattle.stab.specs.Keeps.{KeepsParent, Ancestor, parent, further, Splits, Keeps}
+use Rattle.stab.specs.Keeps.{KeepsParent, Splits, Keeps}
 use Rattle.stab.proofs.Bools.{decide, if-true, if-false}
 use Rattle.stab.proofs.Whole.{eqZ-true}
 use Rattle.stab.proofs.Trees.{below-nat, below-pos, below-of}
-use Rattle.stab.proofs.Bounds.{bound-first, bound-child}
-use Rattle.stab.proofs.Ancestors.{parent-below}
+use Rattle.stab.proofs.Bounds.{parent-below, bound-first, bound-child}
 
 -- n satisfies a bound only from its L on, and up to its H
 pub from-least : (B : Bound) (n : ℕ) → Satisfies B n → B .L ≤ n
@@ -32,10 +31,9 @@ unfolding AtMost
 at-most none n h = tt
 at-most (some H) n h = h H refl
 
--- where n satisfies a bound, so does every smaller m that is not below its L
-pub lowered-satisfies : (B : Bound) (n m : ℕ) → Satisfies B n → B .L ≤ m → m < n → Satisfies B m
+pub satisfies : (B : Bound) (n : ℕ) → B .L ≤ n → ((H : ℕ) → B .H ≡ some H → n ≤ H) → Satisfies B n
 unfolding Satisfies
-lowered-satisfies B n m s l h = (l, at-most (B .H) m (λ H e. omega (arith, up-to B n H e s)))
+satisfies B n l h = (l, at-most (B .H) n h)
 
 -- ---- ranges
 
@@ -50,20 +48,6 @@ Nonempty B = (H : ℕ) → B .H ≡ some H → B .L ≤ H
 
 inside-itself : (B : Bound) → Inside B B
 inside-itself B = record { lower = omega arith; upper = λ H e. (H, e, omega arith) }
-
-inside-trans : {C B A : Bound} → Inside C B → Inside B A → Inside C A
-inside-trans {C} {B} {A} i k = record {
-  lower = omega (arith, i .lower, k .lower);
-  upper = λ H e.
-      let g = k .upper H e in
-      let f = i .upper (g .0) (g .1) in
-      (f .0, f .1, omega (arith, f .2, g .2));
-}
-
-pub inside-satisfies : (B A : Bound) (n : ℕ) → Inside B A → Satisfies B n → Satisfies A n
-unfolding Satisfies
-inside-satisfies B A n i s =
-    (omega (arith, i .lower, from-least B n s), at-most (A .H) n (λ H e. let g = i .upper H e in omega (arith, up-to B n (g .0) (g .1) s, g .2)))
 
 -- ---- the children of a split, and of any node
 
@@ -113,13 +97,6 @@ module _ (T : Tableau) (parents : (k : ℕ) → k < T .nodeRows → KeepsParent 
       subst (λ (B : Bound). Inside B (bound T k)) (sym (bound-of-child j k l e))
       (child-inside (node T k) (bound T k) (rank (T .nodes) j) (splits k (parent-below T j k (parents j l) e)))
 
-  -- and so within its ancestors'
-  pub ancestor-inside : (j : ℕ) → j < T .nodeRows → RightSplits j → {i : ℕ} → Ancestor (T .nodes) i j → Inside (bound T j) (bound T i)
-  ancestor-inside j l splits {i} (parent e) = parent-inside j i l splits e
-  ancestor-inside j l splits {i} (further {k = k} e a) =
-      let m : k < j = parent-below T j k (parents j l) e in
-      inside-trans (parent-inside j k l splits e) (ancestor-inside k (omega arith) (λ h p. splits h (omega arith)) a)
-
   nonempty-below : (n j : ℕ) → j < n → j < T .nodeRows → RightSplits j → Nonempty (bound T j)
   unfolding bound firstBound node
   nonempty-below zero j p l splits = absurd (omega arith)
@@ -137,19 +114,6 @@ module _ (T : Tableau) (parents : (k : ℕ) → k < T .nodeRows → KeepsParent 
   -- L ≤ H at every bounded node
   pub nonempty : (j : ℕ) → j < T .nodeRows → RightSplits j → Nonempty (bound T j)
   nonempty j l splits = nonempty-below (suc j) j (omega arith) l splits
-
-  -- "An exact ancestor makes all below it exact with its own L"
-  pub exact-ancestor : (j : ℕ) → j < T .nodeRows → RightSplits j → {i : ℕ} → Ancestor (T .nodes) i j → bound T i .H ≡ some (bound T i .L) → bound T j ≡ bound T i
-  exact-ancestor j l splits {i} a x =
-      let within = ancestor-inside j l splits a in
-      let g = within .upper (bound T i .L) x in
-      let some-is : (g .0) ≡ bound T i .L = omega (arith, within .lower, g .2, nonempty j l splits (g .0) (g .1)) in
-      let least-is : bound T j .L ≡ bound T i .L = omega (arith, within .lower, g .2, nonempty j l splits (g .0) (g .1)) in
-      ap₂ (λ (n : ℕ) (u : Option ℕ). record { L = n; H = u }) least-is (g .1 ∙ ap some some-is ∙ sym x)
-
-  -- what satisfies a node's bound satisfies its ancestors'
-  pub ancestor-satisfies : (j : ℕ) → j < T .nodeRows → RightSplits j → {i : ℕ} → Ancestor (T .nodes) i j → (n : ℕ) → Satisfies (bound T j) n → Satisfies (bound T i) n
-  ancestor-satisfies j l splits {i} a n s = inside-satisfies (bound T j) (bound T i) n (ancestor-inside j l splits a) s
 
 -- ---- 02, No. 5: in a tableau that keeps the rules
 

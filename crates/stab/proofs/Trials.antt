@@ -134,6 +134,20 @@ rangeLink by = checkProgram schemaFalse
     bytes by ++
     bytes " 0\n")
 
+-- ---- links to any node
+
+-- 0..4, 5..9 and n ≥ 10 in three branches; the link stands in the second
+crossLink : String → List ℕ
+crossLink link = checkProgram schemaFalse
+    (nodes "-1 2 -1 -1 -1 -1 4 0\n0 5 0 -1 -1 -1 0 0\n0 2 -1 -1 -1 -1 9 0\n2 8 -1 -1 -1 " ++
+    bytes link ++
+    bytes " 0\n2 5 0 -1 -1 -1 0 0\n")
+
+-- a link from n ≥ 10 to 0..4
+openCross : List ℕ
+openCross = checkProgram schemaFalse
+    (nodes "-1 2 -1 -1 -1 -1 4 0\n0 5 0 -1 -1 -1 0 0\n0 2 -1 -1 -1 -1 9 0\n2 5 0 -1 -1 -1 0 0\n2 8 -1 -1 -1 1 9 0\n")
+
 -- ---- the trials
 
 pub computed : List (List ℕ)
@@ -209,6 +223,15 @@ computed =
     -- L - k at the ancestor's L, and below it
     rangeLink "1" ∷
     rangeLink "2" ∷
+    -- to another branch: both bounds fit; H - k above the target's H, L - k below its L
+    crossLink "1 5" ∷
+    crossLink "1 4" ∷
+    crossLink "1 6" ∷
+    -- to itself, to a later node, to none; from an open leaf to a bounded target
+    crossLink "3 5" ∷
+    crossLink "4 5" ∷
+    crossLink "-1 5" ∷
+    openCross ∷
     -- the one number
     (packed (Accepted 7 1) ∷ packed (Refused Bound (At 5)) ∷ packed (Refused False Whole) ∷ []) ∷
     -- line 2 of a text; line 3, which is unfinished; line 0
@@ -274,6 +297,13 @@ stated =
     answer "14 1 0 0" ∷
     answer "0 0 5 1" ∷
     answer "14 4 0 0" ∷
+    answer "0 0 5 1" ∷
+    answer "14 3 0 0" ∷
+    answer "14 3 0 0" ∷
+    answer "13 3 0 0" ∷
+    answer "13 3 0 0" ∷
+    answer "13 3 0 0" ∷
+    answer "14 4 0 0" ∷
     -- 1 * 8192 * 8192 + 7 * 8192 + 1; (14 * 8192 + 6) * 8192 * 8192; 20 * 8192 * 8192 * 8192
     (67166209 ∷ 7696984047616 ∷ 10995116277760 ∷ []) ∷
     bytes "cd" ∷
@@ -283,5 +313,5 @@ stated =
     replicate 26 0 ∷ []
 
 pub trials : computed ≡ stated
-unfolding evaluated ranges openSplit rangeClash rangeVoid rangeLink schema₂₅₅ schemaTrue model schemaFalse nodes byZero openClash openClashAtLeast emptyUnfolded leafBound agree partnersInOrder hasLoweredInOrder loweredInOrder stepRefusalInOrder nodeRefusalInOrder checkInOrder sided swapped oneBody regrouped inOrderProgram answer computed stated
+unfolding evaluated crossLink openCross ranges openSplit rangeClash rangeVoid rangeLink schema₂₅₅ schemaTrue model schemaFalse nodes byZero openClash openClashAtLeast emptyUnfolded leafBound agree partnersInOrder hasLoweredInOrder loweredInOrder stepRefusalInOrder nodeRefusalInOrder checkInOrder sided swapped oneBody regrouped inOrderProgram answer computed stated
 trials = refl

@@ -1,12 +1,12 @@
 -- The check with formulas compared as before 02, No. 4: with sides in order, by document 01's "agree in shape and in all numbers"; all
 -- else is the check's. What it accepts the check accepts, with the same counts (`in-order-accepted`).
 use Prim.Native.Nat.{ℕ}
-use mathlib.Core.Bool.{Bool, true, false}
+use mathlib.Core.Bool.{Bool, false}
 use mathlib.Core.List.{List, [], _∷_}
 use mathlib.Core.Option.{Option}
 use lib.IntN.{ℤ}
 use Rattle.stab.specs.Basic.{_and_, _or_, _implies_, eqZ, nat, allOf, _otherwise_}
-use Rattle.stab.specs.Formula.{Row, Formula, const, lit, join, iter}
+use Rattle.stab.specs.Formula.{Formula, const, lit, join, iter}
 use Rattle.stab.specs.Alike.{lower, instance, eqBool, eqOp, eqBase}
 use Rattle.stab.specs.Node.{Tableau, row, formula, node, set}
 use Rattle.stab.specs.Rule.{ofRule, drawn, fieldsFit, targetFits, boundFits, shortened, childrenFit}

@@ -11,7 +11,7 @@ use lib.ListN.{length}
 use Rattle.stab.specs.Basic.{nat}
 use Rattle.stab.specs.Formula.{Row, Op, Kind, constant, literal, junction, iteration, unknown, kindOf, index, Formula, const, lit, join, iter, tree, size, depth}
 use Rattle.stab.specs.Alike.{lower, instance}
-use Rattle.stab.specs.Node.{Tableau, Bound, rows, rowCount, row, formula, node, nodeAt, set, setStart, setEnd, splitAt, bound, rank, childCount}
+use Rattle.stab.specs.Node.{Tableau, Bound, rows, rowCount, row, formula, node, set, setStart, setEnd, splitAt, bound, rank, childCount}
 use Rattle.stab.specs.Rule.{unused, rule, given, indexAt}
 use Rattle.stab.specs.Model.{Model, schemaRow, pairSymbol, pairIndex, satisfied}
 
@@ -104,11 +104,6 @@ abbrev pub KeepsParent : Tableau → ℕ → Type 0
 KeepsParent T zero = (node T zero .up ≡ negℤ (pos 1)) × (set T zero ≡ T .root ∷ [])
 KeepsParent T (suc i) = Below (suc i) (node T (suc i) .up)
 
--- node i is a proper ancestor of node j
-pub data Ancestor (nodes : List ℤ) (i : ℕ) : ℕ → Type 0 where
-  parent : {j : ℕ} → nodeAt nodes j .up ≡ pos i → Ancestor nodes i j
-  further : {j k : ℕ} → nodeAt nodes j .up ≡ pos k → Ancestor nodes i k → Ancestor nodes i j
-
 -- ---- the rules
 
 -- z comes from node p's set, or from its rule for the child of rank k
@@ -149,11 +144,12 @@ pub record Clashes (T : Tableau) (j : ℕ) : Type 0 where
   pub sameSymbol : row T (node T j .on) .a ≡ row T (node T j .with) .a
   pub sameIndex : SameIndex (bound T j) (row T (node T j .on)) (row T (node T j .with))
 
--- rule 8, with a link to node i. In a tableau that keeps the rules node i is not exact (`target-open`).
+-- rule 8, with a link to node i
 pub record Loops (T : Tableau) (j i : ℕ) : Type 0 where
   pub target : node T j .to ≡ pos i
-  pub ancestor : Ancestor (T .nodes) i j
+  pub before : i < j
   pub above : pos (bound T i .L) ≤ℤ (pos (bound T j .L) -ℤ node T j .by)
+  pub below : (A : ℕ) → bound T i .H ≡ some A → (H : ℕ) × (bound T j .H ≡ some H) × ((pos H -ℤ node T j .by) ≤ℤ pos A)
   pub lowered : (z : ℤ) → List·Memᴰ z (set T i) → (x : ℤ) × List·Memᴰ x (set T j) × Alike (lower (node T j .by) (formula T z)) (formula T x)
 
 pub record KeepsStep (T : Tableau) (j : ℕ) : Type 0 where

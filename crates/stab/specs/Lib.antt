@@ -7,6 +7,7 @@ pub mod Node
 pub mod Rule
 pub mod Check
 pub mod Search
+pub mod AncestorLink
 pub mod OpenTarget
 pub mod InOrder
 pub mod OneValue

@@ -7,7 +7,7 @@ use lib.Dec.{eqb}
 use lib.IntN.{ℤ, pos, negℤ, _+ℤ_}
 use lib.Signed.{leZ}
 use lib.ListN.{getD, take, drop}
-use Rattle.stab.specs.Basic.{if_then_else_, _and_, _or_, eqZ, nat, below, allOf, ascending, sameList, count}
+use Rattle.stab.specs.Basic.{if_then_else_, _and_, eqZ, nat, below, allOf, ascending, sameList, count}
 use Rattle.stab.specs.Formula.{Row, joined, Formula, tree, isOuter}
 
 -- What the check is lent: tables of numbers, with how many rows or members each is said to hold.
@@ -186,18 +186,3 @@ boundOf nodes least j = inherited (firstBound least) childBound nodes j
 
 unfoldable pub bound : Tableau → ℕ → Bound
 bound T j = boundOf (T .nodes) (T .least) j
-
--- ---- ancestors
-
-unfoldable pub aboveIf : Bool → List ℤ → (ℕ → Bool) → ℤ → ℕ → Bool
-aboveIf true nodes above z j = eqZ (nodeAt nodes j .up) z or above (nat (nodeAt nodes j .up))
-aboveIf false nodes above z j = false
-
--- z is a proper ancestor of node j, for k > j
-unfoldable pub aboveN : List ℤ → ℕ → ℤ → ℕ → Bool
-aboveN nodes zero z j = false
-aboveN nodes (suc k) z j = aboveIf (below j (nodeAt nodes j .up)) nodes (aboveN nodes k z) z j
-
--- z is the parent of node j, or its parent's parent, and so on
-unfoldable pub isAncestor : List ℤ → ℤ → ℕ → Bool
-isAncestor nodes z j = aboveN nodes (suc j) z j

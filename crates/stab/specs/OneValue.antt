@@ -1,5 +1,5 @@
 -- The check after 02, No. 4 and before No. 5: a node knows n ≥ L or n = L, and a split takes away one value. Where each split's by
--- is 0 the check gives the same verdict (`stored-as-before`). What No. 5 left as it was is the check's.
+-- is 0 the check after No. 5, with links to proper ancestors, gives the same verdict (`stored-as-before`).
 use Prim.Native.Nat.{ℕ, zero, suc}
 use mathlib.Core.Bool.{Bool, true, false, not}
 use mathlib.Core.Option.{Option}
@@ -9,7 +9,8 @@ use lib.Signed.{ltZ}
 use Rattle.stab.specs.Basic.{if_then_else_, _and_, _or_, _implies_, eqZ, nat, _otherwise_}
 use Rattle.stab.specs.Formula.{Row}
 use Rattle.stab.specs.Node.{Tableau, Node, row, node, inherited}
-use Rattle.stab.specs.Rule.{ofRule, drawn, fieldsFit, targetFits, unfoldFits, clashFits, loopFits, partnersFit, loweredFits, childrenFit}
+use Rattle.stab.specs.Rule.{ofRule, drawn, fieldsFit, unfoldFits, clashFits, partnersFit, loweredFits, childrenFit}
+use Rattle.stab.specs.AncestorLink.{targetAbove, loopAbove}
 use Rattle.stab.specs.Check.{atUnless, checkBy}
 use Rattle.stab.specs.declared.Refusal.the-variants.{Drawn, Fields, Target, Bound, Partner, Lowered, Children}
 use Rattle.stab.specs.declared.Verdict.{Verdict}
@@ -53,13 +54,13 @@ boundFitsOne T j =
     (ofRule 3 (node T j) or ofRule 4 (node T j) implies unfoldFits (boundOne T j .L) (row T (node T j .on))) and
     (ofRule 6 (node T j) implies clashFits (boundOne T j .exact) (boundOne T j .L) (row T (node T j .on)) (row T (node T j .with))) and
     (ofRule 7 (node T j) implies voidFitsOne (boundOne T j) (row T (node T j .on))) and
-    (ofRule 8 (node T j) implies loopFits (boundOne T j .L) (boundOne T (nat (node T j .to)) .L) (node T j .by))
+    (ofRule 8 (node T j) implies loopAbove (boundOne T j .L) (boundOne T (nat (node T j .to)) .L) (node T j .by))
 
 unfoldable pub stepRefusalOne : Tableau → ℕ → Option Verdict
 stepRefusalOne T j =
     atUnless (drawn T j) Drawn j otherwise
     atUnless (fieldsFitOne T j) Fields j otherwise
-    atUnless (targetFits T j) Target j otherwise
+    atUnless (targetAbove T j) Target j otherwise
     atUnless (boundFitsOne T j) Bound j otherwise
     atUnless (partnersFit T j) Partner j otherwise
     atUnless (loweredFits T j) Lowered j

@@ -1,12 +1,13 @@
--- The check with the test put back that 02, No. 3 takes out of document 01's rule 8: "to is a proper ancestor, open". In 01 a node
--- that is not open is exact, and so it is read here: since No. 5 an ancestor may have an upper bound, if only L = H is not. It gives
--- the same verdict as the check, whatever the tableau (`open-needless`).
+-- The check with links to proper ancestors, and with the test put back that 02, No. 3 takes out of document 01's rule 8: "to is a
+-- proper ancestor, open". In 01 a node that is not open is exact, and so it is read here: since No. 5 an ancestor may have an upper
+-- bound, and only L = H is excluded. It gives the same verdict as without the test, whatever the tableau (`open-needless`).
 use Prim.Native.Nat.{ℕ}
 use mathlib.Core.Bool.{Bool, not}
 use mathlib.Core.Option.{Option}
 use Rattle.stab.specs.Basic.{_and_, _implies_, nat, _otherwise_}
 use Rattle.stab.specs.Node.{Tableau, node, isExact, bound}
-use Rattle.stab.specs.Rule.{ofRule, drawn, fieldsFit, targetFits, boundFits, partnersFit, loweredFits, childrenFit}
+use Rattle.stab.specs.Rule.{ofRule, drawn, fieldsFit, partnersFit, loweredFits, childrenFit}
+use Rattle.stab.specs.AncestorLink.{targetAbove, boundAbove}
 use Rattle.stab.specs.Check.{atUnless, checkBy}
 use Rattle.stab.specs.declared.Refusal.the-variants.{Drawn, Fields, Target, Bound, Partner, Lowered, Children}
 use Rattle.stab.specs.declared.Verdict.{Verdict}
@@ -20,8 +21,8 @@ unfoldable pub stepRefusalOpen : Tableau → ℕ → Option Verdict
 stepRefusalOpen T j =
     atUnless (drawn T j) Drawn j otherwise
     atUnless (fieldsFit T j) Fields j otherwise
-    atUnless (targetFits T j) Target j otherwise
-    atUnless (boundFits T j and targetOpen T j) Bound j otherwise
+    atUnless (targetAbove T j) Target j otherwise
+    atUnless (boundAbove T j and targetOpen T j) Bound j otherwise
     atUnless (partnersFit T j) Partner j otherwise
     atUnless (loweredFits T j) Lowered j
 

@@ -1,4 +1,4 @@
--- 01, "The rules"; 02, Nos. 3 to 5.
+-- 01, "The rules"; 02, Nos. 3 to 6.
 use Prim.Native.Nat.{ℕ, zero, suc}
 use mathlib.Core.Bool.{Bool, true, false}
 use mathlib.Core.List.{List, [], _∷_}
@@ -11,7 +11,7 @@ use Rattle.stab.specs.Basic.{if_then_else_, _and_, _or_, _implies_, eqZ,
 use Rattle.stab.specs.Formula.{Row, baseOf}
 use Rattle.stab.specs.Meaning.{base}
 use Rattle.stab.specs.Alike.{lower, instance, alike}
-use Rattle.stab.specs.Node.{Tableau, Node, Bound, row, formula, isRow, node, set, isExact, splitAt, bound, rank, childCount, isAncestor}
+use Rattle.stab.specs.Node.{Tableau, Node, Bound, row, formula, isRow, node, set, isExact, splitAt, bound, rank, childCount}
 use Rattle.stab.specs.declared.Rule.{Rule}
 
 -- ---- the table
@@ -116,9 +116,9 @@ fieldsFit T j =
 
 -- ---- the target of a loop: refusal 13
 
--- "to is a proper ancestor"
+-- 02, No. 6: 01's "proper ancestor" becomes "any node with a smaller number"
 unfoldable pub targetFits : Tableau → ℕ → Bool
-targetFits T j = ofRule 8 (node T j) implies isAncestor (T .nodes) (node T j .to) j
+targetFits T j = ofRule 8 (node T j) implies below j (node T j .to)
 
 -- ---- bounds and the index of a clash: refusal 14
 
@@ -147,10 +147,15 @@ unfoldable pub voidFits : Option ℕ → Row → Bool
 voidFits none w = false
 voidFits (some H) w = ltZ (pos H) (w .b +ℤ w .c)
 
--- "L - k ≥ the ancestor's bound", which is A: "A link to a bounded ancestor needs L - k at or above that ancestor's L." That it is
--- "open" is not looked at (02, No. 3: "take the test out").
-unfoldable pub loopFits : ℕ → ℕ → ℤ → Bool
-loopFits L A k = leZ (pos A) (pos L -ℤ k)
+-- "if the target has an upper bound, the leaf has one too and H - k is at or below the target's H": for the leaf's and the target's
+unfoldable pub upperFits : Option ℕ → Option ℕ → ℤ → Bool
+upperFits leaf none k = true
+upperFits none (some A) k = false
+upperFits (some H) (some A) k = leZ (pos H -ℤ k) (pos A)
+
+-- "Both bounds now count: L - k is at or above the target's L", for a leaf with bound B and a target with bound A
+unfoldable pub loopFits : Bound → Bound → ℤ → Bool
+loopFits B A k = leZ (pos (A .L)) (pos (B .L) -ℤ k) and upperFits (B .H) (A .H) k
 
 unfoldable pub boundFits : Tableau → ℕ → Bool
 boundFits T j =
@@ -158,7 +163,7 @@ boundFits T j =
     (ofRule 3 (node T j) or ofRule 4 (node T j) implies unfoldFits (bound T j .L) (row T (node T j .on))) and
     (ofRule 6 (node T j) implies clashFits (isExact (bound T j)) (bound T j .L) (row T (node T j .on)) (row T (node T j .with))) and
     (ofRule 7 (node T j) implies voidFits (bound T j .H) (row T (node T j .on))) and
-    (ofRule 8 (node T j) implies loopFits (bound T j .L) (bound T (nat (node T j .to)) .L) (node T j .by))
+    (ofRule 8 (node T j) implies loopFits (bound T j) (bound T (nat (node T j .to))) (node T j .by))
 
 -- ---- with and other of an unfolding: refusal 15
 
@@ -186,7 +191,7 @@ unfoldable pub hasLowered : Tableau → ℤ → List ℤ → ℤ → Bool
 hasLowered T k [] z = false
 hasLowered T k (x ∷ xs) z = isLowered T k z x or hasLowered T k xs z
 
--- "each row of the ancestor's set, lowered by k, stands in this set"
+-- "each row of the ancestor's set, lowered by k, stands in this set", of which 02, No. 6: "16 compares with that node's set"
 unfoldable pub loweredFits : Tableau → ℕ → Bool
 loweredFits T j =
     ofRule 8 (node T j) implies allOf (hasLowered T (node T j .by) (set T j)) (set T (nat (node T j .to)))

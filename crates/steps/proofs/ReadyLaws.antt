@@ -3,28 +3,24 @@ use Prim.Native.Nat.{ℕ, zero, suc, _+_, _<_, _≤_}
 use native.Mathlib.Omega.{arith}
 use native.Mathlib.Numerals.{add-one}
 use mathlib.Core.Path.{_≡_, refl, sym, _∙_, ap}
-use mathlib.Core.Logic.{⊎-elim}
-use mathlib.Core.Bool.{Bool, true, false, true≢false}
+use mathlib.Core.Bool.{true, false}
 use mathlib.Core.List.{List}
-use lib.Dec.{leb}
-use lib.IntN.{ℤ, pos, negℤ}
+use lib.IntN.{ℤ, pos}
 use lib.Signed.{leZ}
 use lib.ListN.{getD}
-use borrow.Author.Tests.{leb-true, leb-false}
-use Rattle.stab.specs.Basic.{_and_, nat, below, allOf, ascending}
+use Rattle.stab.specs.Basic.{_and_, nat, allOf, ascending}
 use Rattle.stab.specs.Formula.{tree, loose, isOuter}
-use Rattle.stab.specs.Node.{Tableau, node, nodeAt, set, setOf, setStart, setEnd, setFollows, setFits, parentFits, rows, rowCount, isRow, formula, isOuterRow, isAncestor, aboveN, aboveIf}
+use Rattle.stab.specs.Node.{Tableau, node, nodeAt, set, setOf, setStart, setEnd, setFollows, setFits, parentFits, rows, rowCount, isRow, formula, isOuterRow}
 use Rattle.stab.specs.Rule.{ofRule, targetFits}
-use Rattle.stab.proofs.Bools.{and-left, and-right, and-both, or-false, false-of-not, implies-use, decide}
-use Rattle.stab.proofs.Whole.{eqZ-not, nat-of, below-0}
+use Rattle.stab.proofs.Bools.{and-left, and-right, and-both, false-of-not, implies-use}
+use Rattle.stab.proofs.Trees.{below-nat}
+use Rattle.stab.proofs.Whole.{nat-of}
 use Rattle.branch.specs.Lent.{SetHeld, SetOfRows, ChildKnown}
 use Rattle.branch.specs.Parents.{upFits, AllUpFit}
 use Rattle.steps.specs.Ready.{Ready}
 use Rattle.branch.specs.Sets.{placeFits}
-use Rattle.branch.proofs.AboveLaws.{above-none}
 use Rattle.branch.proofs.HeldLaws.{set-length}
 use Rattle.branch.proofs.ParentLaws.{parent-less}
-use Rattle.branch.proofs.Parts.{is-natural}
 use Rattle.sets.proofs.SetLaws.{at-all, place-start, place-next, place-within}
 use Rattle.sets.proofs.SetRefusals.{outer-below}
 
@@ -84,7 +80,7 @@ module _ (T : Tableau) (facts forms work : List ℕ) (ready : Ready T facts form
 
   -- ---- parents
 
-  pub ups : AllUpFit (T .nodes) (T .nodeRows)
+  ups : AllUpFit (T .nodes) (T .nodeRows)
   unfolding parentFits upFits node
   ups zero p = and-left _ _ (ready .parents zero p)
   ups (suc j) p = ready .parents (suc j) p
@@ -97,42 +93,9 @@ module _ (T : Tableau) (facts forms work : List ℕ) (ready : Ready T facts form
         rank = ready .worked j p .rank;
       }
 
--- ---- ancestors
-
-at-least-0 : (n : ℕ) (z : ℤ) → below n z ≡ true → leZ (pos 0) z ≡ true
-unfolding below
-at-least-0 n z h = and-left _ _ h
-
--- a negative number is no ancestor
-above-negative : (nodes : List ℤ) (z : ℤ) → leZ (pos 0) z ≡ false → (k j : ℕ) → aboveN nodes k z j ≡ false
-unfolding aboveN aboveIf
-above-negative nodes z h zero j = refl
-above-negative nodes z h (suc k) j = go (below j (nodeAt nodes j .up)) refl (above-negative nodes z h k (nat (nodeAt nodes j .up)))
-  where
-    go : (v : Bool) → below j (nodeAt nodes j .up) ≡ v → aboveN nodes k z (nat (nodeAt nodes j .up)) ≡ false → aboveIf v nodes (aboveN nodes k z) z j ≡ false
-    go true e ih =
-        or-false _ _
-        (eqZ-not (nodeAt nodes j .up) z (λ d. true≢false (sym (at-least-0 j (nodeAt nodes j .up) e) ∙ ap (leZ (pos 0)) d ∙ h)))
-        ih
-    go false e ih = refl
-
-pub no-ancestor : (nodes : List ℤ) (z : ℤ) (j : ℕ) → 0 < nat (negℤ z) → isAncestor nodes z j ≡ false
-unfolding isAncestor
-no-ancestor nodes z j h = above-negative nodes z (below-0 z h) (suc j) j
-
--- an ancestor has a smaller number
-pub ancestor-less : (nodes : List ℤ) (z : ℤ) (j : ℕ) → isAncestor nodes z j ≡ true → nat z < j
-ancestor-less nodes z j h =
-    ⊎-elim
-    (λ l.
-    ⊎-elim
-    (λ m. absurd (true≢false (sym h ∙ ap (λ (x : ℤ). isAncestor nodes x j) (sym (is-natural z (leb-true _ 0 l))) ∙ above-none nodes (nat z) j (leb-true j (nat z) m))))
-    (λ m. leb-false j (nat z) m)
-    (decide (leb j (nat z))))
-    (λ l. absurd (true≢false (sym h ∙ no-ancestor nodes z j (leb-false (nat (negℤ z)) 0 l))))
-    (decide (leb (nat (negℤ z)) 0))
+-- ---- targets
 
 -- the target of a link that fits has a smaller number
 pub target-less : (T : Tableau) (j : ℕ) → targetFits T j ≡ true → ofRule 8 (node T j) ≡ true → nat (node T j .to) < j
 unfolding targetFits
-target-less T j h e = ancestor-less (T .nodes) (node T j .to) j (implies-use _ _ h e)
+target-less T j h e = below-nat j (node T j .to) (implies-use _ _ h e)

@@ -1,7 +1,6 @@
 // The judgement of nodes, one by one: refusals 11 to 17.
 use crate::partners;
 use alike::lowered;
-use branch::above;
 use branch::counts::Counts;
 use branch::node;
 use branch::worked;
@@ -17,12 +16,11 @@ ghost use lib.Dec.{eqb};
 ghost use lib.ListN.{getD};
 ghost use Rattle.stab.specs.Basic.{_implies_, nat, below, scan};
 ghost use Rattle.stab.specs.Formula.{joined};
-ghost use Rattle.stab.specs.Node.{nodeAt, isAncestor};
+ghost use Rattle.stab.specs.Node.{nodeAt};
 ghost use Rattle.stab.specs.Rule.{ruleOf, ofRule, drawn, loweredFits};
 ghost use Rattle.stab.specs.Check.{finding, stepRefusal, nodeRefusal};
 ghost use Rattle.classes.specs.Class.{Ready as Compared};
 ghost use Rattle.branch.specs.Lent.{lent, SetOfRows, ChildKnown};
-ghost use Rattle.branch.specs.Parents.{AllUpFit};
 ghost use Rattle.steps.specs.Ready.{Ready};
 
 // 11: the set of node j is drawn from its parent's. Node 0 has none.
@@ -45,18 +43,15 @@ fn drawn_fits(
     drawn::is_drawn(schema, proof, nodes, members, work, t, j)
 }
 
-// 13: the target of a link is a proper ancestor.
+// 13: the target of a link is a node before it.
 fn target_fits(nodes: &[i32], j: usize) -> bool
-    requires { ⌜ (j < 2 ^ 32) × AllUpFit (now nodes) (j + 1) ⌝ }
-    ensures { λ r. ⌜ r ≡ (ofRule 8 (nodeAt (now (nodes .entry)) j) implies isAncestor (now (nodes .entry)) (nodeAt (now (nodes .entry)) j .to) j) ⌝ }
+    requires { ⌜ j < 2 ^ 32 ⌝ }
+    ensures { λ r. ⌜ r ≡ (ofRule 8 (nodeAt (now (nodes .entry)) j) implies below j (nodeAt (now (nodes .entry)) j .to)) ⌝ }
 {
     if !node::is_of(nodes, j, node::RULE, 8) {
         return true;
     }
-    if 0 < node::under_of(nodes, j, node::TO) {
-        return false;
-    }
-    above::is_above(nodes, node::natural_of(nodes, j, node::TO), j)
+    node::is_below(nodes, j, node::TO, j)
 }
 
 // 16: of a link, each row of the target's set, lowered, stands in the node's.

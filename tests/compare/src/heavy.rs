@@ -27,6 +27,7 @@ pub fn test(tally: &mut Tally) {
         ("1,024 rows of one class", one_class()),
         ("1,024 rows, 970 ors of one shape, no two alike", no_two_alike()),
         ("511 ranges in one another", nested_ranges()),
+        ("510 links in a row, each to the one before", links_in_a_row()),
     ];
     let models = [
         ("29,998 values, body of size 4,095", long_range(LITERALS_APART)),
@@ -526,6 +527,21 @@ fn nested_ranges() -> Tables {
     for split in splits {
         b.node([split, 5, no, -1, -1, -1, 0], &[no]);
     }
+    b.tables(no, 1)
+}
+
+/// 511 splits, each the second child of the one before. The first child knows one n and links to the first child
+/// above it, which knows one less.
+fn links_in_a_row() -> Tables {
+    let mut b = Builder::default();
+    let no = b.row([FALSE, 0, 0, 0]);
+    let (mut up, mut last) = (-1, -1);
+    for at in 0..511 {
+        up = b.node([up, 2, -1, -1, -1, -1, 0], &[no]);
+        let first = if at == 0 { [up, 5, no, -1, -1, -1, 0] } else { [up, 8, -1, -1, -1, last, 1] };
+        last = b.node(first, &[no]);
+    }
+    b.node([up, 5, no, -1, -1, -1, 0], &[no]);
     b.tables(no, 1)
 }
 

@@ -4,7 +4,7 @@ use std::path::Path;
 use std::process::exit;
 use zorambi_compare::tally::Tally;
 use zorambi_compare::{edges, heavy, paper, records, sides};
-use zorambi_reference::generate::{case, ranges};
+use zorambi_reference::generate::{across, case, ranges, Case};
 
 const USE: &str = "\
 use: zorambi-compare SEED COUNT RECORDS        the paper's cases, the records below RECORDS, texts and tables at the
@@ -23,10 +23,10 @@ fn generated(tally: &mut Tally, seed: u64, count: u64) {
     }
 }
 
-/// Splits at every edge of K.
-fn edges_of_k(tally: &mut Tally) {
-    for (number, case) in ranges::edges().iter().enumerate() {
-        tally.compare_generated(&format!("edge {number} of K"), case);
+/// Splits at every edge of K, or links at every edge of their bounds and with every target.
+fn made(tally: &mut Tally, what: &str, cases: &[Case]) {
+    for (number, case) in cases.iter().enumerate() {
+        tally.compare_generated(&format!("edge {number} of {what}"), case);
     }
 }
 
@@ -54,7 +54,8 @@ fn main() {
             edges::test(&mut tally);
             println!("{} cases chosen by hand", tally.passed + tally.failed);
             sides::test(&mut tally, Path::new(folder), 20);
-            edges_of_k(&mut tally);
+            made(&mut tally, "K", &ranges::edges());
+            made(&mut tally, "links", &across::edges());
             generated(&mut tally, number(seed), number(count));
             tally.test_cover();
         }

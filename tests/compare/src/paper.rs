@@ -55,6 +55,14 @@ pub fn test(tally: &mut Tally) {
         ("node 1 by -1", SCHEMA.into(), proof("0 2 -1 -1 -1 -1 0 ", "0 2 -1 -1 -1 -1 -1 "), "12 1 0 0"),
         ("node 1 to 0", SCHEMA.into(), proof("0 2 -1 -1 -1 -1 0 ", "0 2 -1 -1 -1 0 0 "), "12 1 0 0"),
         ("node 2 by 1", SCHEMA.into(), proof("1 7 2 -1 -1 -1 0 ", "1 7 2 -1 -1 -1 1 "), "12 2 0 0"),
+        // Document 02, No. 6: node 5's link to any node. Node 0 has another set, node 2 knows n = 1, node 4 n ≥ 2.
+        ("node 5 to 0", SCHEMA.into(), proof("-1 1 1 5 7\n", "-1 0 1 5 7\n"), "16 5 0 0"),
+        ("node 5 to 2", SCHEMA.into(), proof("-1 1 1 5 7\n", "-1 2 1 5 7\n"), "14 5 0 0"),
+        ("node 5 to 4", SCHEMA.into(), proof("-1 1 1 5 7\n", "-1 4 1 5 7\n"), "14 5 0 0"),
+        ("node 5 to 5", SCHEMA.into(), proof("-1 1 1 5 7\n", "-1 5 1 5 7\n"), "13 5 0 0"),
+        ("node 5 to 6", SCHEMA.into(), proof("-1 1 1 5 7\n", "-1 6 1 5 7\n"), "13 5 0 0"),
+        ("node 5 to 7", SCHEMA.into(), proof("-1 1 1 5 7\n", "-1 7 1 5 7\n"), "13 5 0 0"),
+        ("node 5 to -1", SCHEMA.into(), proof("-1 1 1 5 7\n", "-1 -1 1 5 7\n"), "13 5 0 0"),
         // Plausible, and false.
         ("a link by 0", SCHEMA.into(), proof("-1 1 1 5 7\n", "-1 1 0 5 7\n"), "12 5 0 0"),
     ];

@@ -5,9 +5,9 @@ use crate::calls::{of_library, of_reference};
 use crate::sides as of_records;
 use crate::soundness::Soundness;
 use std::collections::BTreeMap;
-use zorambi_reference::generate::cases::{EXACT_ANCESTOR, RANGES, SIDES};
+use zorambi_reference::generate::cases::{ACROSS, EXACT_ANCESTOR, RANGES, SIDES};
 use zorambi_reference::generate::sides::{self, Comes};
-use zorambi_reference::generate::{exact, ranges, Aim, Case, Input};
+use zorambi_reference::generate::{across, exact, ranges, Aim, Case, Input};
 
 /// The entries by what they do, as columns of the table of answers.
 const GROUPS: [&str; 6] = ["check", "model", "read", "write", "program", "again"];
@@ -183,10 +183,12 @@ impl Tally {
             };
             self.test(&format!("sides, {kind}"), enough(fits));
         }
-        for (kind, answer) in ranges::kinds() {
-            let counts = self.aimed(RANGES, kind);
+        let of_ranges = ranges::kinds().map(|(kind, answer)| (RANGES, kind, answer));
+        let of_across = across::kinds().map(|(kind, answer)| (ACROSS, kind, answer));
+        for (sort, kind, answer) in of_ranges.chain(of_across) {
+            let counts = self.aimed(sort, kind);
             let as_made = if answer == 0 { counts.accepted } else { counts.at };
-            self.test(&format!("ranges, {kind}"), enough(counts.cases > 0 && as_made == counts.cases));
+            self.test(&format!("{sort}, {kind}"), enough(counts.cases > 0 && as_made == counts.cases));
         }
         for (kind, accepted) in of_records::KINDS {
             let counts = self.aimed(of_records::SORT, kind);

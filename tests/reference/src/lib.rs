@@ -1,6 +1,7 @@
 //! A second implementation of document 01 ("Schema tableaux: formulas, nodes, links
-//! and texts") with document 02's changes No. 4 ("Sides in either order") and No. 5 ("Bounds from
-//! both sides"), written from the papers alone, to be run beside another implementation.
+//! and texts") with document 02's changes No. 4 ("Sides in either order"), No. 5 ("Bounds from
+//! both sides") and No. 6 ("Links to any node"), written from the papers alone, to be run beside
+//! another implementation.
 //!
 //! * [`formula`]: rows, well-formedness, size, depth, outer rows, "lowered by k", "instance at n - c"
 //! * [`tableau`]: the check, with every refusal in the paper's order

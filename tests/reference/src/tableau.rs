@@ -77,6 +77,14 @@ impl Bound {
     fn last_split(self) -> i64 {
         self.most.unwrap_or(i64::from(MAX_N)) - 1
     }
+
+    /// Every n of this bound, lowered by k, is within the target's bound.
+    fn lowered_into(self, k: i32, target: Bound) -> bool {
+        let k = i64::from(k);
+        let above = self.least - k >= target.least;
+        let below = target.most.is_none_or(|highest| self.most.is_some_and(|most| most - k <= highest));
+        above && below
+    }
 }
 
 /// The check: `root` and `least`, then the four tables, each with its count of rows or members.
@@ -261,17 +269,17 @@ fn check_node(formulas: &Formulas, nodes: &[Node], bounds: &[Bound], number: usi
         return Err(12);
     }
 
-    // 13: a link goes to a proper ancestor.
+    // 13: a link goes to a node with a smaller number.
     let target = if rule.to {
-        match proper_ancestor(nodes, number, node.to) {
-            Some(ancestor) => ancestor,
-            None => return Err(13),
+        match usize::try_from(node.to) {
+            Ok(to) if to < number => to,
+            _ => return Err(13),
         }
     } else {
         number
     };
 
-    // 14: the bound, a split's K, or the index of a clash.
+    // 14: the bound, a split's K, a link's two bounds, or the index of a clash.
     let first_limit = i64::from(on_b) + i64::from(on_c);
     let bound_fits = match rule_number {
         RULE_SPLIT => (bound.least..=bound.last_split()).contains(&bound.named(node.by)),
@@ -282,7 +290,7 @@ fn check_node(formulas: &Formulas, nodes: &[Node], bounds: &[Bound], number: usi
                     && value(on_b, on_c, bound.least) == value(with_b, with_c, bound.least))
         }
         RULE_VOID => bound.most.is_some_and(|most| most < first_limit),
-        RULE_LOOP => bound.least - i64::from(node.by) >= bounds[target].least,
+        RULE_LOOP => bound.lowered_into(node.by, bounds[target]),
         _ => true,
     };
     if !bound_fits {
@@ -297,7 +305,7 @@ fn check_node(formulas: &Formulas, nodes: &[Node], bounds: &[Bound], number: usi
         }
     }
 
-    // 16: each row of the ancestor's set stands in this set, lowered.
+    // 16: each row of the target's set stands in this set, lowered.
     if rule.to && !formulas.all_lowered(nodes[target].set, node.set, node.by) {
         return Err(16);
     }
@@ -312,17 +320,4 @@ fn check_node(formulas: &Formulas, nodes: &[Node], bounds: &[Bound], number: usi
 /// The index of a literal outside an iteration, for this n.
 fn value(base: i32, offset: i32, n: i64) -> i64 {
     i64::from(offset) + if base == ON_N { n } else { 0 }
-}
-
-/// `to` as a node number, if it is a proper ancestor of node `number`.
-fn proper_ancestor(nodes: &[Node], number: usize, to: i32) -> Option<usize> {
-    let to = usize::try_from(to).ok()?;
-    let mut at = number;
-    while at > to {
-        at = nodes[at].up as usize;
-        if at == to {
-            return Some(to);
-        }
-    }
-    None
 }

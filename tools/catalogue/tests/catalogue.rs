@@ -96,7 +96,8 @@ fn the_line_of_a_refusal() {
     assert_eq!(said("right"), "accepted 7 nodes 1 link");
     assert_eq!(
         said("bound"),
-        "refused 14 at node 5 (a bound, a split's K, or the index of a clash): proof.txt:12: 4 8 -1 -1 -1 1 2 5 7"
+        "refused 14 at node 5 (a bound, a split's K, a link's L - by or H - by, or the index of a clash): \
+         proof.txt:12: 4 8 -1 -1 -1 1 2 5 7"
     );
     assert_eq!(said("schema row"), "refused 7 at row 3 (an ill-formed formula row): schema.txt:7: 6 9 2 0");
     assert_eq!(said("proof row"), "refused 7 at row 7 (an ill-formed formula row): proof.txt:4: 6 1 2 -10000");
@@ -227,7 +228,7 @@ fn the_table() {
             "5",
             "0",
             "0",
-            "a bound, a split's K, or the index of a clash",
+            "a bound, a split's K, a link's L - by or H - by, or the index of a clash",
             "proof.txt",
             "12",
             "4 8 -1 -1 -1 1 2 5 7",

@@ -5,7 +5,6 @@ use mathlib.Core.Path.{sym, _∙_, ap, subst}
 use mathlib.Core.List.{List}
 use lib.IntN.{pos}
 use lib.ListN.{length, set}
-use Rattle.stab.specs.Basic.{nat}
 use Rattle.stab.specs.Node.{Bound, boundOf}
 use Rattle.formula.proofs.KeptLaws.{kept-length}
 use Rattle.branch.specs.Work.{topOf, AllWorked}

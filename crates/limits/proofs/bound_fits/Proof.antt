@@ -2,8 +2,7 @@ use borrow.Author.Needs.{needs}
 use native.Mathlib.Omega.{arith}
 use mathlib.Core.Path.{_≡_, sym, _∙_, ap, ap₂}
 use mathlib.Core.List.{[]}
-use lib.IntN.{pos, _-ℤ_}
-use lib.Signed.{leZ}
+use lib.IntN.{pos}
 use Rattle.stab.specs.Basic.{nat}
 use Rattle.stab.specs.Node.{Tableau, Bound, node, isExact, splitAt, bound, row, rows, rowCount}
 use Rattle.stab.specs.Rule.{splitFits, unfoldFits, clashFits, voidFits, loopFits}
@@ -124,16 +123,16 @@ returns-3 c =
     ∙ void-asked (Lent (Begin m)) _ _ (numbered m) (c .before .match .keys3))
 
 returns-4 : tie.Need-returns-4
-unfolding node rows rowCount bound ofRule loopFits
+unfolding node rows rowCount bound ofRule
 returns-4 c =
     let m = c .before .before in
     let s = Begin m in
     let l = s .pre .1 .1 .1 .1 (eqZ-of _ _ (numbered m ∙ ap pos (c .before .match .keys4))) in
     c .target-allows .ensures
-    ∙ ap₂ (λ (B A : Bound). leZ (pos (A .L)) (pos (B .L) -ℤ pos (nat (node (Lent s) (s .args .j) .by))))
+    ∙ ap₂ (λ (B A : Bound). loopFits B A (pos (nat (node (Lent s) (s .args .j) .by))))
     (bound-read m)
     (bound-kept _ _ _ _ (nat (node (Lent s) (s .args .j) .to)) (s .pre .1 .1 .1 .0 _ (omega (arith, l, s .pre .0 .0))))
-    ∙ ap (loopFits (bound (Lent s) (s .args .j) .L) (bound (Lent s) (nat (node (Lent s) (s .args .j) .to)) .L)) (by-natural (Lent s) _ _ (numbered m) (s .pre .1 .0) (s .pre .1 .1 .0) (c .before .match .keys4))
+    ∙ ap (loopFits (bound (Lent s) (s .args .j)) (bound (Lent s) (nat (node (Lent s) (s .args .j) .to)))) (by-natural (Lent s) _ _ (numbered m) (s .pre .1 .0) (s .pre .1 .1 .0) (c .before .match .keys4))
     ∙ loop-asked (Lent s) _ _ (numbered m) (c .before .match .keys4)
 
 returns-5 : tie.Need-returns-5

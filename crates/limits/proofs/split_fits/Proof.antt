@@ -1,6 +1,6 @@
 use borrow.Author.Needs.{needs}
 use native.Mathlib.Omega.{arith}
-use Prim.Native.Nat.{ℕ, _^_}
+use Prim.Native.Nat.{_^_}
 use mathlib.Core.Path.{_∙_, ap}
 use Rattle.stab.specs.Rule.{splitFits}
 use Rattle.branch.specs.Lent.{bounded}

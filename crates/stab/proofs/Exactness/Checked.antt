@@ -1,18 +1,19 @@
 -- Nothing is found in a tableau exactly if all its rows keep the rules.
 use Prim.Native.Nat.{ℕ, _*_, _<_}
 use native.Mathlib.Omega.{arith}
-use mathlib.Core.Path.{_≡_}
+use mathlib.Core.Path.{_≡_, _∙_}
 use mathlib.Core.Logic.{Iff·trans}
 use mathlib.Core.Option.{Option, none}
 use lib.ListN.{length}
+use Rattle.stab.specs.Basic.{_otherwise_}
 use Rattle.stab.specs.Node.{Tableau, rows, rowCount}
 use Rattle.stab.specs.Check.{holds, setRefusal, parentRefusal, nodeRefusal, tablesHold, withinLimits, refusalBy, refusal}
 use Rattle.stab.specs.Keeps.{KeepsParent, Keeps}
 use Rattle.stab.specs.declared.Refusal.the-variants.{TableTooShort, TooMany, Parent}
 use Rattle.stab.specs.declared.Verdict.{Verdict}
-use Rattle.stab.proofs.Bools.{otherwise-same}
-use Rattle.stab.proofs.Scans.{scan-same, none-scan}
-use Rattle.stab.proofs.Tests.{_&_, le-tests, lt-tests, _clears_, whole-clears, once-clears, _then_, scan-clears}
+use Rattle.stab.proofs.Bools.{otherwise-same, otherwise-first, otherwise-second, otherwise-none}
+use Rattle.stab.proofs.Scans.{scan-same, scan-none, none-scan}
+use Rattle.stab.proofs.Tests.{_&_, le-tests, lt-tests, _clears_, whole-clears, _then_, scan-clears}
 use Rattle.stab.proofs.Exactness.Formulas.{formulas-clears}
 use Rattle.stab.proofs.Exactness.Nodes.{set-clears, parent-clears}
 use Rattle.stab.proofs.Exactness.Steps.{step-clears}
@@ -30,9 +31,8 @@ tableau-clears T =
     formulas-clears (rows T) (rowCount T) (T .schemaRows) (T .root) (T .least) then
     scan-clears (setRefusal T) (T .nodeRows) (λ j l. set-clears T j) then
     whole-clears Parent (lt-tests 0 (T .nodeRows)) then
-    once-clears
-    (scan-clears (parentRefusal T) (T .nodeRows) (λ j l. parent-clears T j))
-    (λ parents. scan-clears (nodeRefusal T) (T .nodeRows) (step-clears T parents))) (
+    scan-clears (parentRefusal T) (T .nodeRows) (λ j l. parent-clears T j) then
+    scan-clears (nodeRefusal T) (T .nodeRows) (λ j l. step-clears T j)) (
       λ p. record {
         tables = record {
           schemaHeld = p .0 .0;
@@ -73,14 +73,31 @@ tableau-clears T =
     )
 
 -- two judges of nodes find the same in a tableau if they find the same at each node before which nothing is found
-pub refusal-by-same : (judge : Tableau → ℕ → Option Verdict) (T : Tableau) → (((k : ℕ) → k < T .nodeRows → KeepsParent T k) → (j : ℕ) → j < T .nodeRows → ((k : ℕ) → k < j → nodeRefusal T k ≡ none) → judge T j ≡ nodeRefusal T j) → refusalBy judge T ≡ refusalBy nodeRefusal T
+pub refusal-by-same : (judge judge′ : Tableau → ℕ → Option Verdict) (T : Tableau) → (((k : ℕ) → k < T .nodeRows → KeepsParent T k) → (j : ℕ) → j < T .nodeRows → ((k : ℕ) → k < j → judge′ T k ≡ none) → judge T j ≡ judge′ T j) → refusalBy judge T ≡ refusalBy judge′ T
 unfolding refusalBy
-refusal-by-same judge T same =
+refusal-by-same judge judge′ T same =
     otherwise-same _ _ _ (λ a.
     otherwise-same _ _ _ (λ b.
     otherwise-same _ _ _ (λ c.
     otherwise-same _ _ _ (λ d.
     otherwise-same _ _ _ (λ e.
     otherwise-same _ _ _ (λ p.
-    scan-same (judge T) (nodeRefusal T) (T .nodeRows) (λ j l h.
-    same (scan-clears (parentRefusal T) (T .nodeRows) (λ i m. parent-clears T i) .0 p) j l (none-scan (nodeRefusal T) j h))))))))
+    scan-same (judge T) (judge′ T) (T .nodeRows) (λ j l h.
+    same (scan-clears (parentRefusal T) (T .nodeRows) (λ i m. parent-clears T i) .0 p) j l (none-scan (judge′ T) j h))))))))
+
+-- nothing is found at last, where nothing is found first
+at-last : {x y z : Option Verdict} → (x otherwise y) ≡ none → (x ≡ none → y ≡ none → z ≡ none) → (x otherwise z) ≡ none
+at-last {x} {y} {z} h f = otherwise-none x z (otherwise-first x y h) ∙ f (otherwise-first x y h) (otherwise-second x y h)
+
+-- where one judge of nodes finds nothing in a tableau, neither does another that finds nothing at any node then
+pub refusal-by-kept : (judge judge′ : Tableau → ℕ → Option Verdict) (T : Tableau) → (((k : ℕ) → k < T .nodeRows → KeepsParent T k) → ((k : ℕ) → k < T .nodeRows → judge T k ≡ none) → (j : ℕ) → j < T .nodeRows → judge′ T j ≡ none) → refusalBy judge T ≡ none → refusalBy judge′ T ≡ none
+unfolding refusalBy
+refusal-by-kept judge judge′ T kept h =
+    at-last h (λ a h₁.
+    at-last h₁ (λ b h₂.
+    at-last h₂ (λ c h₃.
+    at-last h₃ (λ d h₄.
+    at-last h₄ (λ e h₅.
+    at-last h₅ (λ p h₆.
+    scan-none (judge′ T) (T .nodeRows)
+    (kept (scan-clears (parentRefusal T) (T .nodeRows) (λ i m. parent-clears T i) .0 p) (none-scan (judge T) (T .nodeRows) h₆))))))))

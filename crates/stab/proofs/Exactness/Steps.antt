@@ -1,4 +1,4 @@
--- A node's step is passed exactly if it keeps its rule, where all parents have smaller numbers.
+-- A node's step is passed exactly if it keeps its rule.
 -- What the rules ask is first grouped by refusal, 12 to 17, as the tests are; at the end it is regrouped by rule.
 use Prim.Native.Nat.{ℕ, _≤_, _<_}
 use native.Mathlib.Omega.{arith}
@@ -8,20 +8,20 @@ use mathlib.Core.Bool.{true, false, false≢true}
 use mathlib.Core.List.{List, [], _∷_, List·Memᴰ, List·Memᴰ·head, List·Memᴰ·tail, List·Memᴰ·cases-cons, List·Memᴰ·not-nil}
 use mathlib.Core.Option.{Option, none, some, Option·none-ne-some, Option·some-ne-none, Option·some-injective}
 use lib.IntN.{ℤ, pos, _+ℤ_, _-ℤ_}
-use lib.Signed.{_≤ℤ_, _<ℤ_}
-use Rattle.stab.specs.Basic.{_or_, eqZ, nat}
+use lib.Signed.{leZ, _≤ℤ_, _<ℤ_}
+use Rattle.stab.specs.Basic.{_or_, eqZ, nat, below}
 use Rattle.stab.specs.Formula.{Row}
 use Rattle.stab.specs.Alike.{lower, instance}
 use Rattle.stab.specs.Node.{Tableau, Node, Bound, rowCount, isRow, row, formula, node, set, isUpper, isExact, splitAt, bound, childCount}
-use Rattle.stab.specs.Rule.{unused, rule, ofRule, kindFits, onStands, otherFits, linkFits, symbolFits, fieldsFit, targetFits, staysBelow, splitFits, unfoldFits, indexAt, clashFits, voidFits, loopFits, boundFits, shortened, isInstance, partnersFit, isLowered, hasLowered, loweredFits, childrenFit}
+use Rattle.stab.specs.Rule.{unused, rule, ofRule, kindFits, onStands, otherFits, linkFits, symbolFits, fieldsFit, targetFits, staysBelow, splitFits, unfoldFits, indexAt, clashFits, voidFits, upperFits, loopFits, boundFits, shortened, isInstance, partnersFit, isLowered, hasLowered, loweredFits, childrenFit}
 use Rattle.stab.specs.Check.{stepRefusal, nodeRefusal}
-use Rattle.stab.specs.Keeps.{Below, Alike, KeepsParent, Ancestor, KeepsDrawn, KeepsKind, Splits, SameIndex, Loops, KeepsStep}
+use Rattle.stab.specs.Keeps.{Below, Alike, KeepsDrawn, KeepsKind, Splits, SameIndex, Loops, KeepsStep}
 use Rattle.stab.specs.declared.Refusal.the-variants.{Drawn, Fields as FieldsWrong, Target, Bound as BoundWrong, Partner, Lowered, Children}
 use Rattle.stab.proofs.Whole.{atom, num, _⊖_, of-le, le-of, eqZ-of, eqZ-true, eqZ-not, not-eqZ}
 use Rattle.stab.proofs.Bools.{decide}
+use Rattle.stab.proofs.Trees.{below-nat, below-pos, below-of}
 use Rattle.stab.proofs.Tests.{_tests_, _&_, or-tests, _⇒_, if-tests, le-tests, eq-tests, leZ-tests, ltZ-tests, eqZ-tests, below-tests, has-tests, all-tests, _clears_, at-clears, _then_}
 use Rattle.stab.proofs.Alikes.{alike-tests}
-use Rattle.stab.proofs.Ancestors.{ancestor-tests}
 use Rattle.stab.proofs.Exactness.Nodes.{drawn-tests}
 
 -- ---- fields: 12
@@ -85,9 +85,14 @@ fields-tests T j =
 
 -- ---- the target of a loop: 13
 
-pub target-tests : (T : Tableau) → ((k : ℕ) → k < T .nodeRows → KeepsParent T k) → (j : ℕ) → j < T .nodeRows → targetFits T j tests (node T j .rule ≡ pos 8 → (i : ℕ) × (node T j .to ≡ pos i) × Ancestor (T .nodes) i j)
+-- z is the number of a node before j
+before-tests : (j : ℕ) (z : ℤ) → below j z tests ((i : ℕ) × (z ≡ pos i) × (i < j))
+before-tests j z =
+    (λ h. (nat z, sym (below-pos j z h), below-nat j z h), λ p. rw (p .1) (below-of j (p .0) (p .2)))
+
+pub target-tests : (T : Tableau) (j : ℕ) → targetFits T j tests (node T j .rule ≡ pos 8 → (i : ℕ) × (node T j .to ≡ pos i) × (i < j))
 unfolding targetFits
-target-tests T keeps j l = rule-tests 8 (node T j) ⇒ ancestor-tests T keeps (node T j .to) j l
+target-tests T j = rule-tests 8 (node T j) ⇒ before-tests j (node T j .to)
 
 -- ---- bounds and the index of a clash: 14
 
@@ -140,22 +145,47 @@ void-tests (some H) w =
     Iff·trans (ltZ-tests (pos H) (w .b +ℤ w .c))
     (λ l. (H, refl, l), λ p. subst (λ (n : ℕ). pos n <ℤ (w .b +ℤ w .c)) (sym (Option·some-injective H (p .0) (p .1))) (p .2))
 
+-- "if the target has an upper bound, the leaf has one too and H - k is at or below the target's H"
+abbrev pub UpperFits : Option ℕ → Option ℕ → ℤ → Type 0
+UpperFits leaf target k = (A : ℕ) → target ≡ some A → (H : ℕ) × (leaf ≡ some H) × ((pos H -ℤ k) ≤ℤ pos A)
+
+upper-fits-tests : (leaf target : Option ℕ) (k : ℤ) → upperFits leaf target k tests UpperFits leaf target k
+unfolding upperFits
+upper-fits-tests leaf none k = (λ h A e. absurd (Option·none-ne-some A e), λ p. refl)
+upper-fits-tests none (some A) k =
+    (λ h B e. absurd (false≢true h), λ p. let h = p A refl in absurd (Option·none-ne-some (h .0) (h .1)))
+upper-fits-tests (some H) (some A) k = (
+  λ h B e. (H, refl, leZ-tests (pos H -ℤ k) (pos B) .0 (subst (λ (n : ℕ). leZ (pos H -ℤ k) (pos n) ≡ true) (Option·some-injective A B e) h)),
+  λ p.
+      let h = p A refl in
+      leZ-tests (pos H -ℤ k) (pos A) .1
+      (subst (λ (n : ℕ). (pos n -ℤ k) ≤ℤ pos A) (sym (Option·some-injective H (h .0) (h .1))) (h .2)),
+)
+
+-- what a link from a node with bound B to one with bound A asks of them
+abbrev pub LoopFits : Bound → Bound → ℤ → Type 0
+LoopFits B A k = (pos (A .L) ≤ℤ (pos (B .L) -ℤ k)) × UpperFits (B .H) (A .H) k
+
+pub loop-tests : (B A : Bound) (k : ℤ) → loopFits B A k tests LoopFits B A k
+unfolding loopFits
+loop-tests B A k = leZ-tests (pos (A .L)) (pos (B .L) -ℤ k) & upper-fits-tests (B .H) (A .H) k
+
 pub record Bounds (T : Tableau) (j : ℕ) : Type 0 where
   pub split : node T j .rule ≡ pos 2 → Splits (bound T j) (splitAt (bound T j .L) (node T j .by))
-  unfolds : (node T j .rule ≡ pos 3) ⊎ (node T j .rule ≡ pos 4) → (row T (node T j .on) .b +ℤ row T (node T j .on) .c) ≤ℤ pos (bound T j .L)
-  clash : node T j .rule ≡ pos 6 → SameIndex (bound T j) (row T (node T j .on)) (row T (node T j .with))
-  void : node T j .rule ≡ pos 7 → (H : ℕ) × (bound T j .H ≡ some H) × (pos H <ℤ (row T (node T j .on) .b +ℤ row T (node T j .on) .c))
-  pub loop : node T j .rule ≡ pos 8 → pos (bound T (nat (node T j .to)) .L) ≤ℤ (pos (bound T j .L) -ℤ node T j .by)
+  pub unfolds : (node T j .rule ≡ pos 3) ⊎ (node T j .rule ≡ pos 4) → (row T (node T j .on) .b +ℤ row T (node T j .on) .c) ≤ℤ pos (bound T j .L)
+  pub clash : node T j .rule ≡ pos 6 → SameIndex (bound T j) (row T (node T j .on)) (row T (node T j .with))
+  pub void : node T j .rule ≡ pos 7 → (H : ℕ) × (bound T j .H ≡ some H) × (pos H <ℤ (row T (node T j .on) .b +ℤ row T (node T j .on) .c))
+  pub loop : node T j .rule ≡ pos 8 → LoopFits (bound T j) (bound T (nat (node T j .to))) (node T j .by)
 
 pub bound-tests : (T : Tableau) (j : ℕ) → boundFits T j tests Bounds T j
-unfolding boundFits unfoldFits loopFits
+unfolding boundFits unfoldFits
 bound-tests T j =
     Iff·trans
     ((rule-tests 2 (node T j) ⇒ split-tests (bound T j) (splitAt (bound T j .L) (node T j .by))) &
     (unfold-tests (node T j) ⇒ leZ-tests (row T (node T j .on) .b +ℤ row T (node T j .on) .c) (pos (bound T j .L))) &
     (rule-tests 6 (node T j) ⇒ index-tests (bound T j) (row T (node T j .on)) (row T (node T j .with))) &
     (rule-tests 7 (node T j) ⇒ void-tests (bound T j .H) (row T (node T j .on))) &
-    (rule-tests 8 (node T j) ⇒ leZ-tests (pos (bound T (nat (node T j .to)) .L)) (pos (bound T j .L) -ℤ node T j .by)))
+    (rule-tests 8 (node T j) ⇒ loop-tests (bound T j) (bound T (nat (node T j .to))) (node T j .by)))
     (λ p. record { split = p .0; unfolds = p .1 .0; clash = p .1 .1 .0; void = p .1 .1 .1 .0; loop = p .1 .1 .1 .1 }, λ k. (k .split, (k .unfolds, (k .clash, (k .void, k .loop)))))
 
 -- ---- with and other of an unfolding: 15
@@ -208,19 +238,19 @@ lowered-tests T j =
 record Judged (T : Tableau) (j : ℕ) : Type 0 where
   drawn : KeepsDrawn T j
   fields : Fields T j
-  target : node T j .rule ≡ pos 8 → (i : ℕ) × (node T j .to ≡ pos i) × Ancestor (T .nodes) i j
+  target : node T j .rule ≡ pos 8 → (i : ℕ) × (node T j .to ≡ pos i) × (i < j)
   bounds : Bounds T j
   partners : (node T j .rule ≡ pos 3) ⊎ (node T j .rule ≡ pos 4) → Partners T j
   lowered : node T j .rule ≡ pos 8 → (z : ℤ) → List·Memᴰ z (set T (nat (node T j .to))) → Lowers T (node T j .by) (set T j) z
   children : childCount T j ≡ rule T j .children
 
-judged-clears : (T : Tableau) → ((k : ℕ) → k < T .nodeRows → KeepsParent T k) → (j : ℕ) → j < T .nodeRows → nodeRefusal T j clears Judged T j
+judged-clears : (T : Tableau) (j : ℕ) → nodeRefusal T j clears Judged T j
 unfolding nodeRefusal stepRefusal childrenFit
-judged-clears T keeps j l =
+judged-clears T j =
     Iff·trans
     ((at-clears Drawn j (drawn-tests T j) then
     at-clears FieldsWrong j (fields-tests T j) then
-    at-clears Target j (target-tests T keeps j l) then
+    at-clears Target j (target-tests T j) then
     at-clears BoundWrong j (bound-tests T j) then
     at-clears Partner j (partners-tests T j) then
     at-clears Lowered j (lowered-tests T j)) then
@@ -245,8 +275,9 @@ loops T j k r =
       i,
       record {
         target = k .target r .1;
-        ancestor = k .target r .2;
-        above = subst (λ (m : ℕ). pos (bound T m .L) ≤ℤ (pos (bound T j .L) -ℤ node T j .by)) e (k .bounds .loop r);
+        before = k .target r .2;
+        above = subst (λ (m : ℕ). pos (bound T m .L) ≤ℤ (pos (bound T j .L) -ℤ node T j .by)) e (k .bounds .loop r .0);
+        below = subst (λ (m : ℕ). UpperFits (bound T j .H) (bound T m .H) (node T j .by)) e (k .bounds .loop r .1);
         lowered = λ z m. k .lowered r z (subst (λ (m : ℕ). List·Memᴰ z (set T m)) (sym e) m);
       },
     )
@@ -298,7 +329,7 @@ judged-keeps T j d k = record {
     link = (k .linkUsed, λ e. (k .linkUnused e, (k .splitUsed, k .byUnused e)));
     clash = λ r. (k .clash r .withStands, k .clash r .sameSymbol);
   };
-  target = λ r. (k .loop r .0, k .loop r .1 .target, k .loop r .1 .ancestor);
+  target = λ r. (k .loop r .0, k .loop r .1 .target, k .loop r .1 .before);
   bounds = record {
     split = k .split;
     unfolds = λ r. k .unfolds r .nonempty;
@@ -306,7 +337,7 @@ judged-keeps T j d k = record {
     void = k .void;
     loop = λ r.
         let e : nat (node T j .to) ≡ k .loop r .0 = ap nat (k .loop r .1 .target) in
-        subst (λ (m : ℕ). pos (bound T m .L) ≤ℤ (pos (bound T j .L) -ℤ node T j .by)) (sym e) (k .loop r .1 .above);
+        subst (λ (m : ℕ). LoopFits (bound T j) (bound T m) (node T j .by)) (sym e) (k .loop r .1 .above, k .loop r .1 .below);
   };
   partners = λ r. record {
     sameBody = k .unfolds r .sameBody;
@@ -318,6 +349,6 @@ judged-keeps T j d k = record {
   children = k .children;
 }
 
-pub step-clears : (T : Tableau) → ((k : ℕ) → k < T .nodeRows → KeepsParent T k) → (j : ℕ) → j < T .nodeRows → nodeRefusal T j clears (KeepsDrawn T j × KeepsStep T j)
-step-clears T keeps j l =
-    Iff·trans (judged-clears T keeps j l) (λ k. (k .drawn, keeps-judged T j k), λ p. judged-keeps T j (p .0) (p .1))
+pub step-clears : (T : Tableau) (j : ℕ) → nodeRefusal T j clears (KeepsDrawn T j × KeepsStep T j)
+step-clears T j =
+    Iff·trans (judged-clears T j) (λ k. (k .drawn, keeps-judged T j k), λ p. judged-keeps T j (p .0) (p .1))

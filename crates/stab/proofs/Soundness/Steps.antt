@@ -24,11 +24,10 @@ use Rattle.stab.proofs.Trees.{below-nat, below-pos, below-of}
 use Rattle.stab.proofs.Meanings.{Proper, unfolds, void-value, instance-value, lower-value}
 use Rattle.stab.proofs.Alikes.{alike-value}
 use Rattle.stab.proofs.Decoded as D
-use Rattle.stab.proofs.Bounds.{bound-child, counted}
+use Rattle.stab.proofs.Bounds.{parent-below, bound-child, counted}
 use Rattle.stab.proofs.Tests.{below-tests}
 use Rattle.stab.proofs.Formed.{formed-tests}
-use Rattle.stab.proofs.Ancestors.{parent-below}
-use Rattle.stab.proofs.Ranges.{from-least, up-to, exactly, lowered-satisfies, ancestor-satisfies}
+use Rattle.stab.proofs.Ranges.{from-least, up-to, exactly, satisfies}
 
 -- ---- the table's entries
 
@@ -365,14 +364,15 @@ module _ (T : Tableau) (K : Keeps T) (σ : Assignment) where
         le-of (num 0) (num n ⊖ atom k) (omega (arith, of-le (num (bound T i .L)) (num (bound T j .L) ⊖ atom k) bounds)) in
         let m : ℕ = nat (pos n -ℤ k) in
         let q : pos m ≡ (pos n -ℤ k) = nat-pos (pos n -ℤ k) nonneg in
-        let i<j : i < j = Rattle.stab.proofs.Ancestors.ancestor-below T (λ x y. K .nodes x y .parent) p (u .ancestor) in
+        let i<j : i < j = u .before in
         smaller m i
         (omega (arith, of-eq (num m) (num n ⊖ atom k) q, of-le (num 1) (atom k) k≥1))
         (omega arith)
-        (lowered-satisfies (bound T i) n m
-        (ancestor-satisfies T (λ x y. K .nodes x y .parent) j p (λ x y r. K .nodes x (omega arith) .step .split r) (u .ancestor) n sat)
+        (satisfies (bound T i) m
         (omega (arith, of-eq (num m) (num n ⊖ atom k) q, of-le (num (bound T i .L)) (num (bound T j .L) ⊖ atom k) bounds))
-        (omega (arith, of-eq (num m) (num n ⊖ atom k) q, of-le (num 1) (atom k) k≥1)))
+        (λ A e.
+        let h = u .below A e in
+        omega (arith, of-eq (num m) (num n ⊖ atom k) q, up-to (bound T j) n (h .0) (h .1) sat, of-le (num (h .0) ⊖ atom k) (num A) (leZ-of (h .2)))))
         (λ z mem.
         let x = u .lowered z mem in
         sym (lower-value σ n m k (formula T z) (pos 0) q (properly z (member-row i (omega arith) z mem)))

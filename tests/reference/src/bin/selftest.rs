@@ -9,12 +9,12 @@ use std::path::Path;
 use std::time::Instant;
 use zorambi_reference::formula::{self, Formulas};
 use zorambi_reference::formula::{AND, BIG_AND, BIG_OR, FALSE, LITERAL, NEGATED, ON_I, ON_N, OR, PLAIN, TRUE};
-use zorambi_reference::generate::cases::RANGES;
+use zorambi_reference::generate::cases::{ACROSS, RANGES};
 use zorambi_reference::generate::models::{find_model, pair_rows, random_assignment, random_pairs};
-use zorambi_reference::generate::ranges;
 use zorambi_reference::generate::sides::agree_either_way;
 use zorambi_reference::generate::tables::Tables;
-use zorambi_reference::generate::{case, run, Input, Outcome, Rng};
+use zorambi_reference::generate::{across, ranges};
+use zorambi_reference::generate::{case, run, Case, Input, Outcome, Rng};
 use zorambi_reference::program::Fault;
 use zorambi_reference::text::{self, Named};
 use zorambi_reference::{model, packed, program, tableau, Verdict};
@@ -104,8 +104,22 @@ fn paper(tally: &mut Tally) {
     check("no files", "", "", (3, 1, 0, 0));
     check("no proof file", SCHEMA, "", (3, 1, 0, 0));
     check("link by 0", SCHEMA, &proof("-1 1 1 5 7\n", "-1 1 0 5 7\n"), (12, 5, 0, 0));
-    check("link to itself", SCHEMA, &proof("-1 1 1 5 7\n", "-1 5 1 5 7\n"), (13, 5, 0, 0));
-    check("link to an exact node's brother", SCHEMA, &proof("-1 1 1 5 7\n", "-1 2 1 5 7\n"), (13, 5, 0, 0));
+    // Document 02, No. 6: node 5 knows n ≥ 2. Nodes 0 and 1 know n ≥ 1, node 2 n = 1, nodes 3 and 4 n ≥ 2.
+    for (to, expected) in [
+        ("0", (16, 5, 0, 0)),
+        ("2", (14, 5, 0, 0)),
+        ("3", (14, 5, 0, 0)),
+        ("4", (14, 5, 0, 0)),
+        ("5", (13, 5, 0, 0)),
+        ("6", (13, 5, 0, 0)),
+        ("7", (13, 5, 0, 0)),
+        ("99999", (13, 5, 0, 0)),
+        ("-1", (13, 5, 0, 0)),
+        ("-99999", (13, 5, 0, 0)),
+    ] {
+        let link = format!("-1 {to} 1 5 7\n");
+        check(&format!("node 5 to {to}"), SCHEMA, &proof("-1 1 1 5 7\n", &link), expected);
+    }
     // Document 02, No. 5: node 1 knows n ≥ 1 and splits at K; node 2 is void for n below 2.
     for (by, expected) in [
         ("1", (0, 0, 7, 1)),
@@ -353,8 +367,11 @@ fn generated(tally: &mut Tally, cases: u64, seed: u64) {
     let (mut running, mut slowest) = (0.0, (0.0, 0));
     // Cases that are made to show one thing, and how many of them are accepted, by sort and kind.
     let mut aims: BTreeMap<(&'static str, &'static str), [usize; 2]> = BTreeMap::new();
-    let edges = ranges::edges().into_iter().enumerate();
-    let edges = edges.map(|(number, case)| (number as u64, format!("edge {number} of K"), case));
+    let named = |of: &'static str, cases: Vec<Case>| {
+        let cases = cases.into_iter().enumerate();
+        cases.map(move |(number, case)| (number as u64, format!("edge {number} of {of}"), case))
+    };
+    let edges = named("K", ranges::edges()).chain(named("links", across::edges()));
     let made = (0..cases).map(|number| {
         let case = case(seed, number);
         (number, format!("case {number} of seed {seed} ({})", case.sort), case)
@@ -408,8 +425,12 @@ fn generated(tally: &mut Tally, cases: u64, seed: u64) {
         let result = if times > 0 { Ok(()) } else { Err("does not occur".to_string()) };
         tally.record(&format!("answer {answer}"), result);
     }
-    for (kind, _) in ranges::kinds() {
-        let result = if aims.contains_key(&(RANGES, kind)) { Ok(()) } else { Err("does not occur".to_string()) };
+    let of_ranges = ranges::kinds().map(|(kind, answer)| (RANGES, kind, answer));
+    let of_across = across::kinds().map(|(kind, answer)| (ACROSS, kind, answer));
+    for (sort, kind, answer) in of_ranges.chain(of_across) {
+        let [times, accepted] = aims.get(&(sort, kind)).copied().unwrap_or_default();
+        let as_made = times > 0 && accepted == if answer == 0 { times } else { 0 };
+        let result = if as_made { Ok(()) } else { Err("does not occur, or not as made".to_string()) };
         tally.record(kind, result);
     }
     let checks: Vec<&Counts> =

@@ -39,6 +39,16 @@ impl Bound {
         self.least <= n && self.most.is_none_or(|most| n <= most)
     }
 
+    /// n may be whatever it may be by the other.
+    pub fn covers(self, other: Bound) -> bool {
+        self.least <= other.least && self.most.is_none_or(|most| other.most.is_some_and(|of_other| of_other <= most))
+    }
+
+    /// What n - by may be.
+    pub fn lowered(self, by: i32) -> Bound {
+        Bound { least: self.least.saturating_sub(by), most: self.most.map(|most| most.saturating_sub(by)) }
+    }
+
     /// The largest K of a split; there is none if it is below L.
     pub fn last_split(self) -> i32 {
         self.most.unwrap_or(MAX_N) - 1

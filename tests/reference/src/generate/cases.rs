@@ -1,9 +1,10 @@
 //! One generated case of any sort, and what this implementation answers to it.
 
+use super::across::across_tables;
 use super::exact::exact_tables;
 use super::models::{damage_model, find_model, pair_rows, random_pairs, ModelTables};
 use super::pool::Pool;
-use super::prover::grow;
+use super::prover::{grow, grow_across};
 use super::ranges::ranges_tables;
 use super::rng::{mix, Rng};
 use super::schemata::{false_schema, pad_to, random_schema, Schema};
@@ -33,6 +34,8 @@ pub const EXACT_ANCESTOR: &str = "check, exact ancestor";
 pub const SIDES: &str = "check, sides";
 /// The sort of a tableau with bounds from both sides.
 pub const RANGES: &str = "check, ranges";
+/// The sort of a tableau with links across branches.
+pub const ACROSS: &str = "check, across";
 
 /// What a case is made to show.
 #[derive(Clone, Debug)]
@@ -288,7 +291,7 @@ pub fn case(seed: u64, number: u64) -> Case {
         aim = Some(aim_of);
         Input::Check(tables)
     };
-    let (sort, input) = match rng.below(120) {
+    let (sort, input) = match rng.below(130) {
         0..=21 => ("check, grown", Input::Check(grown(rng))),
         22..=33 => ("check, grown and damaged", Input::Check(damaged(rng))),
         34..=49 => ("check, sharp", Input::Check(sharp_tables(rng))),
@@ -318,7 +321,8 @@ pub fn case(seed: u64, number: u64) -> Case {
         98 | 99 => ("compare rows", compare_case(rng)),
         100..=103 => (EXACT_ANCESTOR, aimed(exact_tables(rng))),
         104..=109 => (SIDES, aimed(sides_tables(rng))),
-        _ => (RANGES, aimed(ranges_tables(rng))),
+        110..=119 => (RANGES, aimed(ranges_tables(rng))),
+        _ => (ACROSS, aimed(across_tables(rng))),
     };
     Case { sort, input, aim }
 }
@@ -339,7 +343,8 @@ fn grown_tree(rng: &mut Rng) -> Tree {
     let tries = if rng.chance(90) { 4 } else { 1 };
     let mut tree = None;
     for _ in 0..tries {
-        let grown = grow(&false_schema(rng), rng);
+        let schema = false_schema(rng);
+        let grown = if rng.chance(25) { grow_across(&schema, rng) } else { grow(&schema, rng) };
         let closed = grown.closed;
         tree = Some(grown.tree);
         if closed {

@@ -10,11 +10,13 @@
 //! * [`path`]: a tableau along one path
 //! * [`exact`]: links to an exact ancestor
 //! * [`ranges`]: splits at every edge of K, and what bounds from both sides decide
+//! * [`across`]: links to any node before, and to what is none
 //! * [`sides`]: sides of ands and ors swapped
 //! * [`models`]: models, found or at random
 //! * [`texts`]: texts, and damage to them
 //! * [`cases`]: one case of any sort, and what this implementation answers to it
 
+pub mod across;
 pub mod bounds;
 pub mod cases;
 pub mod exact;

@@ -35,6 +35,14 @@ pub struct Path {
     pub set: Vec<i32>,
 }
 
+/// A node to go on from.
+#[derive(Clone)]
+pub struct Place {
+    pub at: usize,
+    pub bound: Bound,
+    set: Vec<i32>,
+}
+
 impl Path {
     /// Down to where all is taken apart.
     pub fn new(rng: &mut Rng, least: i32) -> Path {
@@ -82,6 +90,42 @@ impl Path {
         self.tree.nodes[self.at].set = self.set.clone();
     }
 
+    /// Goes on from a node where all rows without n stand, and the big and if `on_n`.
+    pub fn gather(&mut self, on_n: bool) {
+        self.set.retain(|row| [CONTRADICTION, NOTHING, LIT, BOTH, EITHER].contains(row) || (on_n && *row == ALL));
+        self.tree.nodes[self.at].set = self.set.clone();
+        self.go(0, [BOTH, -1, -1], [self.with(&[NOTHING, LIT]), vec![]], 0);
+    }
+
+    pub fn place(&self) -> Place {
+        Place { at: self.at, bound: self.bound, set: self.set.clone() }
+    }
+
+    pub fn go_to(&mut self, place: &Place) {
+        let Place { at, bound, set } = place.clone();
+        (self.at, self.bound, self.set) = (at, bound, set);
+    }
+
+    /// Two branches: by a split, or by an or.
+    pub fn fork(&mut self, split: Option<i32>) -> [Place; 2] {
+        let first = self.tree.nodes.len();
+        let bounds = split.map_or([self.bound; 2], |by| self.bound.split(by));
+        match split {
+            Some(by) => self.split(by, 0),
+            None => self.go(1, [EITHER, -1, -1], [self.with(&[NOTHING]), self.with(&[LIT])], 0),
+        }
+        [0, 1].map(|child| Place {
+            at: first + child,
+            bound: bounds[child],
+            set: self.tree.nodes[first + child].set.clone(),
+        })
+    }
+
+    /// One round more of the big and, whose lowered row then stands here.
+    pub fn unfold_all(&mut self) {
+        self.go(3, [ALL, NEXT_ALL, INSTANCE], [self.with(&[NEXT_ALL, INSTANCE]), vec![]], 0);
+    }
+
     /// The set with more rows.
     fn with(&self, more: &[i32]) -> Vec<i32> {
         let mut node = closed(0, self.set.clone());
@@ -112,9 +156,7 @@ impl Path {
     pub fn step(&mut self, rng: &mut Rng) {
         let child = rng.below(2);
         match rng.below(4) {
-            0 if self.set.contains(&ALL) => {
-                self.go(3, [ALL, NEXT_ALL, INSTANCE], [self.with(&[NEXT_ALL, INSTANCE]), vec![]], 0)
-            }
+            0 if self.set.contains(&ALL) => self.unfold_all(),
             1 if self.set.contains(&SOME) => {
                 self.go(4, [SOME, NEXT_SOME, INSTANCE], [self.with(&[NEXT_SOME]), self.with(&[INSTANCE])], child);
             }

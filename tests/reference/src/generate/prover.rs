@@ -2,8 +2,8 @@
 //!
 //! The way is that of the paper's sources: take ands and ors apart; split into n = L and n ≥ L + 1,
 //! or at a larger K; where n has one value unfold until all is settled, above K unfold each iteration
-//! once more; link back to an ancestor as soon as its set stands here, lowered. A tableau need not
-//! come to an end; what is left over then gets some closing rule that does not fit.
+//! once more; link back to an ancestor, or to any node before, as soon as its set stands here, lowered.
+//! A tableau need not come to an end; what is left over then gets some closing rule that does not fit.
 
 use super::bounds::Bound;
 use super::pool::Pool;
@@ -19,6 +19,16 @@ use std::rc::Rc;
 pub struct Grown {
     pub tree: Tree,
     pub closed: bool,
+}
+
+/// Where links go.
+#[derive(Clone, Copy, PartialEq, Eq)]
+enum Targets {
+    Ancestors,
+    /// Any node that is there before the leaf.
+    Created,
+    /// Any node that has its rule before the leaf; the nodes are put in that order.
+    Expanded,
 }
 
 /// How a tableau is grown; numbers are cases in 100.
@@ -41,6 +51,7 @@ struct Style {
     carry: usize,
     /// Let the set of a link's target be all that it was.
     fat: bool,
+    targets: Targets,
     max_nodes: usize,
     max_unfolds: i32,
 }
@@ -56,6 +67,7 @@ fn style(rng: &mut Rng) -> Style {
         best: rng.pick(&[100, 100, 95, 70]),
         carry: rng.pick(&[0, 0, 5, 30, 100]),
         fat: rng.chance(40),
+        targets: Targets::Ancestors,
         max_nodes: rng.pick(&[100, 200, 200, 400, 1024]),
         max_unfolds: rng.range(3, 8),
     }
@@ -109,6 +121,8 @@ struct Prover<'a> {
     first_limit: HashMap<(i32, i32, i32), i32>,
     occurrences: HashMap<i32, Rc<Vec<Occurrence>>>,
     nodes: Vec<Growing>,
+    /// The nodes in the order in which they got their rules.
+    expanded: Vec<usize>,
 }
 
 /// Grows a tableau. The schema's rows come first; the proof's rows follow.
@@ -120,6 +134,14 @@ pub fn grow(schema: &Schema, rng: &mut Rng) -> Grown {
 /// The same with most splits at a K above L.
 pub fn grow_by_ranges(schema: &Schema, rng: &mut Rng) -> Grown {
     let style = Style { ranges: 80, ..style(rng) };
+    grow_in_style(schema, rng, style)
+}
+
+/// The same with links to any node before.
+pub fn grow_across(schema: &Schema, rng: &mut Rng) -> Grown {
+    let (targets, max_nodes) = (rng.pick(&[Targets::Created, Targets::Expanded]), rng.pick(&[100, 200, 200]));
+    let (split, ranges) = (rng.pick(&[0, 5, 10, 20, 30]), rng.pick(&[0, 20, 60, 80]));
+    let style = Style { targets, max_nodes, split, ranges, ..style(rng) };
     grow_in_style(schema, rng, style)
 }
 
@@ -142,6 +164,7 @@ fn grow_in_style(schema: &Schema, rng: &mut Rng, style: Style) -> Grown {
         first_limit,
         occurrences: HashMap::new(),
         nodes: Vec::new(),
+        expanded: Vec::new(),
     };
     let closed = prover.grow_from(schema.root, schema.least);
     prover.invent_rules();
@@ -155,8 +178,12 @@ fn grow_in_style(schema: &Schema, rng: &mut Rng, style: Style) -> Grown {
             set,
         })
         .collect();
+    let order = (prover.style.targets == Targets::Expanded).then(|| prover.order());
     let rows = pool.rows();
     let mut tree = Tree { root: schema.root, least: schema.least, rows, schema_count, nodes };
+    if let Some(order) = order {
+        tree.put_in_order(&order);
+    }
     if rng.chance(50) {
         tree.renumber_nodes(rng);
     }
@@ -172,6 +199,7 @@ impl Prover<'_> {
         let mut goals = vec![Goal { node: 0, unfolds: 0, used: Vec::new(), splits: 0 }];
         let mut closed = true;
         while let Some(goal) = goals.pop() {
+            self.expanded.push(goal.node);
             match self.expand(goal) {
                 Some(next) => goals.extend(next.into_iter().rev()),
                 None => closed = false,
@@ -373,23 +401,56 @@ impl Prover<'_> {
         true
     }
 
+    /// The nodes in the order in which they got their rules, then those that got none.
+    fn order(&self) -> Vec<usize> {
+        let mut order: Vec<usize> = Vec::new();
+        let mut taken = vec![false; self.nodes.len()];
+        for node in self.expanded.iter().copied().chain(0..self.nodes.len()) {
+            if !std::mem::replace(&mut taken[node], true) {
+                order.push(node);
+            }
+        }
+        order
+    }
+
+    /// Nodes that a link of this node may go to.
+    fn targets(&mut self, node: usize) -> Vec<usize> {
+        let up = |node: &usize| usize::try_from(self.nodes[*node].up).ok();
+        let mut above: Vec<usize> = std::iter::successors(up(&node), up).collect();
+        let mut others: Vec<usize> = match self.style.targets {
+            Targets::Ancestors => return above,
+            Targets::Created => (0..node).collect(),
+            Targets::Expanded => self.expanded.iter().copied().filter(|other| *other != node).collect(),
+        };
+        others.retain(|other| !above.contains(other));
+        self.rng.shuffle(&mut others);
+        others.truncate(40);
+        if self.rng.chance(70) {
+            others.append(&mut above);
+            others
+        } else {
+            above.append(&mut others);
+            above
+        }
+    }
+
     /// Rule 8.
     fn link(&mut self, node: usize) -> bool {
-        let least = self.nodes[node].bound.least;
-        let mut at = self.nodes[node].up;
-        while at >= 0 {
-            let target = &self.nodes[at as usize];
-            for by in 1..=(least - target.bound.least).min(4) {
-                if let Some(partners) = self.partners(&target.set, &self.nodes[node].set, by) {
+        for to in self.targets(node) {
+            let (bound, into) = (self.nodes[node].bound, self.nodes[to].bound);
+            for by in 1..=(bound.least - into.least).min(4) {
+                if !into.covers(bound.lowered(by)) {
+                    continue;
+                }
+                if let Some(partners) = self.partners(&self.nodes[to].set, &self.nodes[node].set, by) {
                     if self.rng.chance(3) {
                         continue;
                     }
                     let node = &mut self.nodes[node];
-                    (node.rule, node.to, node.by, node.partners) = (8, at, by, partners);
+                    (node.rule, node.to, node.by, node.partners) = (8, to as i32, by, partners);
                     return true;
                 }
             }
-            at = target.up;
         }
         false
     }

@@ -57,7 +57,7 @@ pub fn ranges_tables(rng: &mut Rng) -> (Tables, Aim) {
 
 /// What is known of n where the path's end begins.
 #[derive(Clone, Copy)]
-enum Shape {
+pub enum Shape {
     Open,
     /// An upper bound, and more than one value.
     Range,
@@ -222,12 +222,12 @@ fn along_a_path(rng: &mut Rng) -> (Tree, Aim) {
     (tree, aim(name, *answer, node))
 }
 
-fn aim(kind: &'static str, answer: u8, node: i32) -> Aim {
+pub fn aim(kind: &'static str, answer: u8, node: i32) -> Aim {
     Aim { kinds: vec![kind], node, expected: Some((answer, if answer == 0 { 0 } else { node })) }
 }
 
 /// A path by steps and splits to a bound of this shape, where it comes to one.
-fn walk(rng: &mut Rng, shape: Shape) -> Option<Path> {
+pub fn walk(rng: &mut Rng, shape: Shape) -> Option<Path> {
     let least = match rng.below(10) {
         0..=5 => rng.range(0, 5),
         6 | 7 => rng.range(6, 9900),
@@ -270,7 +270,7 @@ fn walk(rng: &mut Rng, shape: Shape) -> Option<Path> {
 }
 
 /// A right K: mostly near an edge.
-fn some_k(bound: Bound, rng: &mut Rng) -> i32 {
+pub fn some_k(bound: Bound, rng: &mut Rng) -> i32 {
     let (least, last) = (bound.least, bound.last_split());
     match rng.below(6) {
         0 => least,
@@ -281,7 +281,7 @@ fn some_k(bound: Bound, rng: &mut Rng) -> i32 {
 }
 
 /// Some number from `low` to `high`, mostly near an end; `None` if there is none.
-fn between(rng: &mut Rng, low: i32, high: i32) -> Option<i32> {
+pub fn between(rng: &mut Rng, low: i32, high: i32) -> Option<i32> {
     if low > high {
         return None;
     }

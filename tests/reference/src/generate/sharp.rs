@@ -3,9 +3,9 @@
 
 use super::bounds::bounds;
 use super::pool::Pool;
-use super::prover::grow;
+use super::prover::{grow, grow_across, Grown};
 use super::rng::Rng;
-use super::schemata::false_schema;
+use super::schemata::{false_schema, Schema};
 use super::tables::{Tables, Tree, TreeNode};
 use crate::formula::{Row, AND, BIG_AND, BIG_OR, FALSE, LITERAL, NEGATED, ON_I, ON_N, OR, PLAIN};
 use crate::NODE_WIDTH;
@@ -14,6 +14,7 @@ pub fn sharp_tables(rng: &mut Rng) -> Tables {
     let mut tree = match rng.below(10) {
         0 | 1 => return sharp_link(rng).tables(),
         2 => return limit_least(rng).tables(),
+        _ if rng.chance(25) => closed_by(grow_across, rng),
         _ => closed_tree(rng),
     };
     match rng.below(30) {
@@ -46,8 +47,12 @@ pub fn sharp_tables(rng: &mut Rng) -> Tables {
     tree.tables()
 }
 
-/// A tableau with all branches closed, as small as comes soon.
+/// A tableau with all branches closed and links to ancestors, as small as comes soon.
 pub fn closed_tree(rng: &mut Rng) -> Tree {
+    closed_by(grow, rng)
+}
+
+fn closed_by(grow: fn(&Schema, &mut Rng) -> Grown, rng: &mut Rng) -> Tree {
     loop {
         let grown = grow(&false_schema(rng), rng);
         if grown.closed && grown.tree.nodes.len() < 300 {
@@ -510,7 +515,7 @@ fn decoy(tree: &mut Tree, rng: &mut Rng) {
     tree.nodes[node + 1].fields[field] = number;
 }
 
-/// A link to another ancestor, lowering by what the two bounds allow, or one more or less.
+/// A link to another ancestor or any node before, lowering by what the two bounds allow, or one more or less.
 fn retarget(tree: &mut Tree, rng: &mut Rng) {
     let Some(link) = some_node(tree, rng, &[8]) else { return };
     let bounds = bounds(tree);
@@ -521,18 +526,21 @@ fn retarget(tree: &mut Tree, rng: &mut Rng) {
         above.push(up);
         at = tree.nodes[up].fields[0];
     }
-    if rng.chance(30) {
-        // Any node before it: often no ancestor.
+    if rng.chance(40) {
         tree.nodes[link].fields[5] = rng.below(link) as i32;
-        return;
-    }
-    if rng.chance(60) {
+    } else if rng.chance(60) {
         if let Some(to) = above.get(rng.below(above.len())) {
             tree.nodes[link].fields[5] = *to as i32;
         }
     }
     let to = usize::try_from(tree.nodes[link].fields[5]).unwrap_or(0).min(bounds.len() - 1);
-    tree.nodes[link].fields[6] = bounds[link].least - bounds[to].least + rng.pick(&[0, 0, 1, -1]);
+    // By L, or by H where both have one.
+    let (from, into) = (bounds[link], bounds[to]);
+    let rise = match (from.most, into.most) {
+        (Some(most), Some(into_most)) if rng.chance(50) => most - into_most,
+        _ => from.least - into.least,
+    };
+    tree.nodes[link].fields[6] = rise + rng.pick(&[0, 0, 1, -1]);
 }
 
 /// An iteration at another limit, near what the bound allows, unfolded rightly.

@@ -86,7 +86,8 @@ pub fn swapped(tree: &Tree, kind: &'static str, rng: &mut Rng) -> Option<(Tree, 
 }
 
 /// Swaps the sides of some of these rows. What rule 1 gives its first child is then what it gave its
-/// second, so its children change places; nothing else depends on the order.
+/// second, so its children change places; nothing else depends on the order. False if nothing is swapped, or
+/// a link would come before its target then.
 fn swap_rows(tree: &mut Tree, rows: std::ops::Range<usize>, percent: usize, rng: &mut Rng) -> bool {
     let mut is_swapped = vec![false; tree.rows.len()];
     for number in rows {
@@ -103,8 +104,7 @@ fn swap_rows(tree: &mut Tree, rows: std::ops::Range<usize>, percent: usize, rng:
             children.reverse();
         }
     }
-    tree.order_nodes(&children, rng);
-    is_swapped.contains(&true)
+    tree.order_nodes(&children, rng).is_some() && is_swapped.contains(&true)
 }
 
 /// Some unfolding's instance for one that is none; gives the node.

@@ -91,15 +91,16 @@ impl Tree {
         children
     }
 
-    /// Numbers the nodes anew: a parent before its children, brothers in their order. Gives the new
-    /// number of each node.
+    /// Numbers the nodes anew: a parent before its children, brothers in their order, a link after or
+    /// before its target as it was. Gives the new number of each node.
     pub fn renumber_nodes(&mut self, rng: &mut Rng) -> Vec<i32> {
-        self.order_nodes(&self.children(), rng)
+        let same = (0..self.nodes.len() as i32).collect();
+        self.order_nodes(&self.children(), rng).unwrap_or(same)
     }
 
-    /// The same with the children of each node in the order given.
-    pub fn order_nodes(&mut self, children: &[Vec<usize>], rng: &mut Rng) -> Vec<i32> {
-        let count = self.nodes.len();
+    /// The same with the children of each node in the order given; `None`, and all stays as it is, if the
+    /// links have no such order.
+    pub fn order_nodes(&mut self, children: &[Vec<usize>], rng: &mut Rng) -> Option<Vec<i32>> {
         // Places from which the next node may come: a list of brothers, the first not yet taken.
         let mut waiting: Vec<(usize, usize)> = Vec::new();
         let mut order = vec![0];
@@ -107,8 +108,16 @@ impl Tree {
         if !children[0].is_empty() {
             waiting.push((0, 0));
         }
+        let earlier = self.kept_before();
+        let mut taken = vec![false; self.nodes.len()];
+        taken[0] = true;
         while !waiting.is_empty() {
-            let at = if depth_first { waiting.len() - 1 } else { rng.below(waiting.len()) };
+            let may_come = |at: &usize| {
+                let (parent, next) = waiting[*at];
+                earlier[children[parent][next]].iter().all(|node| taken[*node])
+            };
+            let ready: Vec<usize> = (0..waiting.len()).filter(may_come).collect();
+            let at = *ready.get(if depth_first { ready.len().wrapping_sub(1) } else { rng.below(ready.len()) })?;
             let (parent, next) = waiting[at];
             let child = children[parent][next];
             if next + 1 < children[parent].len() {
@@ -119,9 +128,28 @@ impl Tree {
             if !children[child].is_empty() {
                 waiting.push((child, 0));
             }
+            taken[child] = true;
             order.push(child);
         }
-        let mut new_number = vec![-1; count];
+        Some(self.put_in_order(&order))
+    }
+
+    /// Of each node those that a link keeps before it.
+    fn kept_before(&self) -> Vec<Vec<usize>> {
+        let mut earlier = vec![Vec::new(); self.nodes.len()];
+        for (number, node) in self.nodes.iter().enumerate() {
+            match usize::try_from(node.fields[5]) {
+                Ok(to) if node.fields[1] == 8 && to < number => earlier[number].push(to),
+                Ok(to) if node.fields[1] == 8 && number < to && to < self.nodes.len() => earlier[to].push(number),
+                _ => {}
+            }
+        }
+        earlier
+    }
+
+    /// Puts the nodes in this order, a parent before its children. Gives the new number of each.
+    pub fn put_in_order(&mut self, order: &[usize]) -> Vec<i32> {
+        let mut new_number = vec![-1; self.nodes.len()];
         for (new, old) in order.iter().enumerate() {
             new_number[*old] = new as i32;
         }

@@ -7,7 +7,7 @@ use Rattle.stab.specs.Node.{Tableau, node, row, rows, rowCount, bound, formula}
 use Rattle.stab.specs.Rule.{drawn, fieldsFit, targetFits, boundFits, partnersFit, isInstance}
 use Rattle.branch.specs.Lent.{lent, FieldsKnown}
 use Rattle.fields.proofs.FieldParts.{fields-known, fields-bare}
-use Rattle.steps.proofs.ReadyLaws.{set-held, set-of-rows, ups, child-known, target-less}
+use Rattle.steps.proofs.ReadyLaws.{set-held, set-of-rows, child-known, target-less}
 use Rattle.steps.proofs.StepLaws.{drawn-found, fields-found, target-found, bound-found, partner-found, lowered-found, nothing-found}
 use Rattle.steps.proofs.steps.step.Statement.{statement}
 use Rattle.steps.proofs.steps.step.Tie as tie
@@ -74,9 +74,7 @@ returns-2 : tie.Need-returns-2
 returns-2 c = fields-found (Lent (Start1 (c .before .before))) _ (drawn-passed (c .before .before)) (asked-false (c .before .fields-fit .ensures) (c .if2 .taken))
 
 target-fits-requires : tie.Need-target-fits-requires
-target-fits-requires c κs =
-    let s = Start2 c in
-    (small s, λ i q. ups (Lent s) _ _ _ (s .pre .1) i (omega (arith, s .pre .0)))
+target-fits-requires c κs = small (Start2 c)
 
 returns-3 : tie.Need-returns-3
 unfolding targetFits node

@@ -3,9 +3,9 @@ use Prim.Native.Nat.{ℕ}
 use native.Mathlib.Omega.{arith}
 use mathlib.Core.Path.{_∙_, ap}
 use lib.Dec.{ltb}
 use Rattle.branch.proofs.ParentLaws.{below-negative, below-natural}
-use Rattle.fields.proofs.is_below.Statement.{statement}
-use Rattle.fields.proofs.is_below.Tie as tie
+use Rattle.branch.proofs.node.is_below.Statement.{statement}
+use Rattle.branch.proofs.node.is_below.Tie as tie
 
 under-of-requires : tie.Need-under-of-requires
 under-of-requires c κs = search needs
