@@ -64,37 +64,31 @@ of-some p b (suc k) i l h =
     (Rattle.stab.proofs.Scans.below-suc i k l)
 
 -- a whole number from b up to e is b plus a natural number below the size of the range, and the other way
-place : (b e j : ℤ) → b ≤ℤ j → j ≤ℤ e → (i : ℕ) × (i < rangeSize b e) × ((b +ℤ pos i) ≡ j)
+pub in-range : (b e j : ℤ) → (b ≤ℤ j) → (j ≤ℤ e) → (m : ℕ) × (m < rangeSize b e) × ((b +ℤ pos m) ≡ j)
 unfolding rangeSize
-place b e j h k =
+in-range b e j h k =
     let low = of-le (atom b) (atom j) (leZ-of h) in
     let high = of-le (atom j) (atom e) (leZ-of k) in
-    let i : ℕ = nat (j -ℤ b) in
-    let q : pos i ≡ (j -ℤ b) = nat-pos (j -ℤ b) (le-of (num 0) (atom j ⊖ atom b) (omega arith)) in
+    let m : ℕ = nat (j -ℤ b) in
+    let q = of-eq (num m) (atom j ⊖ atom b) (nat-pos (j -ℤ b) (le-of (num 0) (atom j ⊖ atom b) (omega arith))) in
     let s : ℤ = (e -ℤ b) +ℤ pos 1 in
-    let r : pos (nat s) ≡ s = nat-pos s (le-of (num 0) ((atom e ⊖ atom b) ⊕ num 1) (omega arith)) in (
-      i,
-      omega (arith, of-eq (num i) (atom j ⊖ atom b) q, of-eq (num (nat s)) ((atom e ⊖ atom b) ⊕ num 1) r),
-      eq-of (atom b ⊕ num i) (atom j) (omega (arith, of-eq (num i) (atom j ⊖ atom b) q)),
-    )
+    let r = of-eq (num (nat s)) ((atom e ⊖ atom b) ⊕ num 1) (nat-pos s (le-of (num 0) ((atom e ⊖ atom b) ⊕ num 1) (omega arith))) in
+    (m, omega arith, eq-of (atom b ⊕ num m) (atom j) (omega arith))
 
-placed : (b e : ℤ) (i : ℕ) → i < rangeSize b e → (b ≤ℤ (b +ℤ pos i)) × ((b +ℤ pos i) ≤ℤ e)
+pub of-range : (b e : ℤ) (m : ℕ) → m < rangeSize b e → (b ≤ℤ (b +ℤ pos m)) × ((b +ℤ pos m) ≤ℤ e)
 unfolding rangeSize
-placed b e i l =
-    let s : ℤ = (e -ℤ b) +ℤ pos 1 in
-    let r : leZ (pos (suc i)) s ≡ true = nat-le s (suc i) l (omega arith) in (
-      of-leZ (le-of (atom b) (atom b ⊕ num i) (omega arith)),
-      of-leZ (le-of (atom b ⊕ num i) (atom e) (omega (arith, of-le (num (suc i)) ((atom e ⊖ atom b) ⊕ num 1) r))),
-    )
+of-range b e m l =
+    let r = of-le (num (suc m)) ((atom e ⊖ atom b) ⊕ num 1) (nat-le ((e -ℤ b) +ℤ pos 1) (suc m) l (omega arith)) in
+    (of-leZ (le-of (atom b) (atom b ⊕ num m) (omega arith)), of-leZ (le-of (atom b ⊕ num m) (atom e) (omega arith)))
 
 -- "the value of a big and is true exactly when the body is true at every i with b ≤ i ≤ n - c"
 pub big-and-means : (σ : Assignment) (n : ℕ) (f : Formula) (b c x : ℤ) → (value σ n (iter conj f b c) x ≡ true) ↔ ((i : ℤ) → b ≤ℤ i → i ≤ℤ (pos n -ℤ c) → value σ n f i ≡ true)
 unfolding value
 big-and-means σ n f b c x = (
   (λ h i l m.
-      let w = place b (pos n -ℤ c) i l m in
+      let w = in-range b (pos n -ℤ c) i l m in
       ap (value σ n f) (sym (w .2)) ∙ every (value σ n f) b (rangeSize b (pos n -ℤ c)) h (w .0) (w .1)),
-  λ h. every-of (value σ n f) b (rangeSize b (pos n -ℤ c)) (λ i l. let w = placed b (pos n -ℤ c) i l in h (b +ℤ pos i) (w .0) (w .1)),
+  λ h. every-of (value σ n f) b (rangeSize b (pos n -ℤ c)) (λ i l. let w = of-range b (pos n -ℤ c) i l in h (b +ℤ pos i) (w .0) (w .1)),
 )
 
 -- "(big or) .. (some)"
@@ -103,9 +97,9 @@ unfolding value
 big-or-means σ n f b c x = (
   (λ h.
       let w = some-of (value σ n f) b (rangeSize b (pos n -ℤ c)) h in
-      let v = placed b (pos n -ℤ c) (w .0) (w .1) in
+      let v = of-range b (pos n -ℤ c) (w .0) (w .1) in
       (b +ℤ pos (w .0), v .0, v .1, w .2)),
   λ h.
-      let w = place b (pos n -ℤ c) (h .0) (h .1) (h .2) in
+      let w = in-range b (pos n -ℤ c) (h .0) (h .1) (h .2) in
       of-some (value σ n f) b (rangeSize b (pos n -ℤ c)) (w .0) (w .1) (ap (value σ n f) (w .2) ∙ h .3),
 )

@@ -20,6 +20,7 @@ pub mod AncestorLinks
 pub mod OpenTargets
 pub mod InOrders
 pub mod OneValues
+pub mod Wires
 pub mod Texts
 pub mod Audit
 pub mod Packed

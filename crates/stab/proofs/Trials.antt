@@ -4,11 +4,14 @@ use Prim.Native.String.{String}
 use mathlib.Core.Path.{_≡_, refl}
 use mathlib.Core.List.{List, [], _∷_, _++_}
 use lib.IntN.{pos, negsuc}
-use lib.ListN.{replicate}
+use lib.ListN.{length, replicate}
+use Rattle.stab.specs.Basic.{nat}
+use Rattle.stab.specs.Formula.{rowAt, tree}
 use Rattle.stab.specs.InOrder.{agree, partnersInOrder, hasLoweredInOrder, loweredInOrder, stepRefusalInOrder, nodeRefusalInOrder, checkInOrder}
+use Rattle.stab.specs.Occurs.{Wire, wireBefore, insert, gathered, inserted, occurring, table}
 use Rattle.stab.specs.Text.{bytes}
-use Rattle.stab.specs.Read.{readSchema, readProof}
-use Rattle.stab.specs.Write.{writeModel, output}
+use Rattle.stab.specs.Read.{Reading, read, stopped, SchemaText, readSchema, readProof}
+use Rattle.stab.specs.Write.{modelText, writeModel, output}
 use Rattle.stab.specs.LineNumber.{lineOf}
 use Rattle.stab.specs.Answer.{verdictNumbers, packed}
 use Rattle.stab.specs.Program.{printed, tableauOf, afterReading, checkProgram, modelProgram}
@@ -148,6 +151,25 @@ openCross : List ℕ
 openCross = checkProgram schemaFalse
     (nodes "-1 2 -1 -1 -1 -1 4 0\n0 5 0 -1 -1 -1 0 0\n0 2 -1 -1 -1 -1 9 0\n2 5 0 -1 -1 -1 0 0\n2 8 -1 -1 -1 1 9 0\n")
 
+-- ---- the wires that occur
+
+wiresAt : ℕ → Reading SchemaText → List Wire
+wiresAt n (read s) = occurring n (tree (rowAt (s .table)) (nat (s .root)))
+wiresAt n (stopped why k) = []
+
+-- as a model's text
+wires : List ℕ → ℕ → List ℕ
+wires schema n = let ws : List Wire = wiresAt n (readSchema 4096 schema) in modelText (pos n) (table ws) (length ws)
+
+-- symbol 1 at some i from 2 up to n, or not symbol 0 at n + 3
+fromTwo : List ℕ
+fromTwo = bytes "root least\n3 0\nkind a b c\n2 1 2 0\n7 0 2 0\n3 0 1 3\n5 1 2 0\n"
+
+-- symbol 0 at i and i + 1, for all i from 0 up to n; symbol 1 not at i - 1 and symbol 0 at i, for some i from -1 up to n - 1; symbol 0 at 2
+shared : List ℕ
+shared =
+    bytes "root least\n9 0\nkind a b c\n2 0 2 0\n2 0 2 1\n3 1 2 -1\n4 0 1 0\n4 2 0 0\n6 3 0 0\n7 4 -1 1\n5 6 5 0\n2 0 0 2\n4 7 8 0\n"
+
 -- ---- the trials
 
 pub computed : List (List ℕ)
@@ -240,7 +262,13 @@ computed =
     lineOf (bytes "ab\ncd\ne") 0 ∷
     -- writing: a model's text, with room to spare; one byte of room too few
     output 50 (writeModel (pos 12) (pos 0 ∷ negsuc 29996 ∷ []) 1 50) ∷
-    output 26 (writeModel (pos 12) (pos 0 ∷ negsuc 29996 ∷ []) 1 26) ∷ []
+    output 26 (writeModel (pos 12) (pos 0 ∷ negsuc 29996 ∷ []) 1 26) ∷
+    -- wires: none; negative indices; an empty range, and a range of one; two iterations that share a symbol
+    wires schemaTrue 9999 ∷
+    wires schema₂₅₅ 0 ∷
+    wires fromTwo 1 ∷
+    wires fromTwo 2 ∷
+    wires shared 1 ∷ []
 
 pub stated : List (List ℕ)
 stated =
@@ -310,8 +338,13 @@ stated =
     [] ∷
     [] ∷
     (bytes "n\n12\nsymbol index\n0 -29997\n" ++ replicate 23 0) ∷
-    replicate 26 0 ∷ []
+    replicate 26 0 ∷
+    model "9999\nsymbol index\n" ∷
+    model "0\nsymbol index\n255 -8\n255 -7\n" ∷
+    model "1\nsymbol index\n0 4\n" ∷
+    model "2\nsymbol index\n0 5\n1 2\n" ∷
+    model "1\nsymbol index\n0 -1\n0 0\n0 1\n0 2\n1 -2\n1 -1\n" ∷ []
 
 pub trials : computed ≡ stated
-unfolding evaluated crossLink openCross ranges openSplit rangeClash rangeVoid rangeLink schema₂₅₅ schemaTrue model schemaFalse nodes byZero openClash openClashAtLeast emptyUnfolded leafBound agree partnersInOrder hasLoweredInOrder loweredInOrder stepRefusalInOrder nodeRefusalInOrder checkInOrder sided swapped oneBody regrouped inOrderProgram answer computed stated
+unfolding evaluated crossLink openCross ranges openSplit rangeClash rangeVoid rangeLink schema₂₅₅ schemaTrue model schemaFalse nodes byZero openClash openClashAtLeast emptyUnfolded leafBound agree partnersInOrder hasLoweredInOrder loweredInOrder stepRefusalInOrder nodeRefusalInOrder checkInOrder sided swapped oneBody regrouped inOrderProgram wireBefore insert gathered inserted occurring table wiresAt wires fromTwo shared answer computed stated
 trials = refl

@@ -14,6 +14,7 @@ pub mod OneValue
 pub mod Model
 pub mod Keeps
 pub mod Refuted
+pub mod Occurs
 pub mod Text
 pub mod Read
 pub mod Write
