@@ -1,5 +1,5 @@
-/* Zorambi: the proved check of schema tableaux, the model check, the readers and writers of their texts, and the line that a
- * refusal points to, from C and C++.
+/* Zorambi: the proved check of schema tableaux, present and older, the model check, the readers and writers of their texts, and
+ * the line that a refusal points to, from C and C++.
  *
  * A slice is a pointer and the count of its numbers or bytes. With a count of 0 it is empty whatever the pointer is, NULL too,
  * as an empty vector gives it. The counts of rows, nodes and members are those that refusals 2 and 5 speak of: a table may be
@@ -19,12 +19,21 @@ extern "C" {
 /* The check: a formula row is 4 numbers (kind a b c), a node 9 (up rule on with other to by, then its set's start among the
  * members and its length), a member 1. to is a link's target, any node before it. by is what a link lowers n by, or a split's
  * K, its first child having n <= K and its second n >= K + 1; a split's by 0 stands for the least n that its node knows of. If
- * the answer is ZORAMBI_ACCEPTED, the schema is false at every natural n from its least value up, under every assignment. */
+ * the answer is ZORAMBI_ACCEPTED, the schema is false at every natural n from its least value up, under every assignment. A
+ * proof row whose four columns are those of an earlier schema or proof row is ZORAMBI_REPEATED; schema rows may repeat. */
 uint64_t zorambi_check(const int32_t *schema, size_t schema_len, size_t schema_rows,
                        const int32_t *proof, size_t proof_len, size_t proof_rows,
                        int32_t root, int32_t least,
                        const int32_t *nodes, size_t nodes_len, size_t node_rows,
                        const int32_t *members, size_t members_len, size_t member_count);
+
+/* The check of older records: the same without ZORAMBI_REPEATED, so that proof rows may repeat too. Its acceptance says the same
+ * of the schema, and where the check above answers anything else than ZORAMBI_REPEATED, both answer alike. */
+uint64_t zorambi_check_older(const int32_t *schema, size_t schema_len, size_t schema_rows,
+                             const int32_t *proof, size_t proof_len, size_t proof_rows,
+                             int32_t root, int32_t least,
+                             const int32_t *nodes, size_t nodes_len, size_t node_rows,
+                             const int32_t *members, size_t members_len, size_t member_count);
 
 /* The model check: a pair is 2 numbers (symbol index). If the answer is ZORAMBI_ACCEPTED, the schema is true at n where
  * exactly the listed pairs are true. */
@@ -82,11 +91,13 @@ void zorambi_line(const uint8_t *text, size_t text_len, size_t k, size_t span[2]
 
 /* The line that a refusal points to when a schema text and a proof text, or a model text, are read and checked: the line refused
  * in reading, or that of the row, node or pair at fault. zorambi_fault_line gives it, counted from 1, or 0 if there is
- * none, as after an acceptance or a refusal of the whole; zorambi_fault_second says that it stands in the second text. */
+ * none, as after an acceptance or a refusal of the whole; zorambi_fault_second says that it stands in the second text.
+ * zorambi_check_older_fault is for zorambi_check_older. */
 uint64_t zorambi_check_fault(const uint8_t *schema, size_t schema_len, const uint8_t *proof, size_t proof_len);
+uint64_t zorambi_check_older_fault(const uint8_t *schema, size_t schema_len, const uint8_t *proof, size_t proof_len);
 uint64_t zorambi_model_fault(const uint8_t *schema, size_t schema_len, const uint8_t *model, size_t model_len);
 
-/* The number that comes back from these two: 2 * line, and 1 more in the second text. */
+/* The number that comes back from these three: 2 * line, and 1 more in the second text. */
 static inline unsigned zorambi_fault_line(uint64_t fault) { return (unsigned)(fault >> 1); }
 static inline int zorambi_fault_second(uint64_t fault) { return (int)(fault & 1); }
 
@@ -121,7 +132,8 @@ enum zorambi_answer_number {
   ZORAMBI_WIDTH = 19,           /* n below least or over 9999; place: -1 */
   ZORAMBI_FALSE = 20,           /* the schema is false in the model; place: -1 */
   ZORAMBI_NUMBER = 21,          /* writing: a number beyond 5 digits, or sets that do not follow one another to the last member */
-  ZORAMBI_OUTPUT = 22           /* writing: the output is too short, or the text too long */
+  ZORAMBI_OUTPUT = 22,          /* writing: the output is too short, or the text too long */
+  ZORAMBI_REPEATED = 27         /* a proof row equals an earlier schema or proof row, not in the older check; place: the row */
 };
 
 /* The library's own functions take an empty slice as they take any: with an address, which is not NULL. So each name above stands
@@ -151,6 +163,15 @@ static inline uint64_t zorambi_c_check(const int32_t *schema, size_t schema_len,
   return zorambi_check(zorambi_numbers_of(schema, schema_len), schema_len, schema_rows, zorambi_numbers_of(proof, proof_len),
                        proof_len, proof_rows, root, least, zorambi_numbers_of(nodes, nodes_len), nodes_len, node_rows,
                        zorambi_numbers_of(members, members_len), members_len, member_count);
+}
+static inline uint64_t zorambi_c_check_older(const int32_t *schema, size_t schema_len, size_t schema_rows, const int32_t *proof,
+                                             size_t proof_len, size_t proof_rows, int32_t root, int32_t least,
+                                             const int32_t *nodes, size_t nodes_len, size_t node_rows, const int32_t *members,
+                                             size_t members_len, size_t member_count) {
+  return zorambi_check_older(zorambi_numbers_of(schema, schema_len), schema_len, schema_rows,
+                             zorambi_numbers_of(proof, proof_len), proof_len, proof_rows, root, least,
+                             zorambi_numbers_of(nodes, nodes_len), nodes_len, node_rows,
+                             zorambi_numbers_of(members, members_len), members_len, member_count);
 }
 static inline uint64_t zorambi_c_check_model(const int32_t *schema, size_t schema_len, size_t schema_rows, int32_t root,
                                              int32_t least, int32_t n, const int32_t *pairs, size_t pairs_len,
@@ -241,11 +262,16 @@ static inline void zorambi_c_line(const uint8_t *text, size_t text_len, size_t k
 static inline uint64_t zorambi_c_check_fault(const uint8_t *schema, size_t schema_len, const uint8_t *proof, size_t proof_len) {
   return zorambi_check_fault(zorambi_text_of(schema, schema_len), schema_len, zorambi_text_of(proof, proof_len), proof_len);
 }
+static inline uint64_t zorambi_c_check_older_fault(const uint8_t *schema, size_t schema_len, const uint8_t *proof,
+                                                   size_t proof_len) {
+  return zorambi_check_older_fault(zorambi_text_of(schema, schema_len), schema_len, zorambi_text_of(proof, proof_len), proof_len);
+}
 static inline uint64_t zorambi_c_model_fault(const uint8_t *schema, size_t schema_len, const uint8_t *model, size_t model_len) {
   return zorambi_model_fault(zorambi_text_of(schema, schema_len), schema_len, zorambi_text_of(model, model_len), model_len);
 }
 
 #define zorambi_check zorambi_c_check
+#define zorambi_check_older zorambi_c_check_older
 #define zorambi_check_model zorambi_c_check_model
 #define zorambi_read_schema zorambi_c_read_schema
 #define zorambi_read_proof zorambi_c_read_proof
@@ -261,6 +287,7 @@ static inline uint64_t zorambi_c_model_fault(const uint8_t *schema, size_t schem
 #define zorambi_model_rows_again zorambi_c_model_rows_again
 #define zorambi_line zorambi_c_line
 #define zorambi_check_fault zorambi_c_check_fault
+#define zorambi_check_older_fault zorambi_c_check_older_fault
 #define zorambi_model_fault zorambi_c_model_fault
 
 #ifdef __cplusplus

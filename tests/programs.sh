@@ -1,7 +1,7 @@
 #!/usr/bin/env bash
-# The programs, through ./zorambi check and ./zorambi model: on every record against its `expected` file and the other
-# implementation, and on files that are no texts at all against the other implementation. And that the copies of the
-# records are the records.
+# The programs, through ./zorambi check, ./zorambi check --older and ./zorambi model: on every record against its
+# `expected` file and the other implementation, and on files that are no texts at all against the other implementation.
+# And that the copies of the records are the records.
 set -u
 cd "$(dirname "$0")/.." || exit 2
 here=$PWD
@@ -10,6 +10,10 @@ work=$(mktemp -d) || exit 2
 trap 'rm -rf "$work"' EXIT
 passed=0
 failed=0
+
+# The programs are made first, so that nothing is said of that later.
+./zorambi check records/accepted/rca_zero >/dev/null 2>&1
+./zorambi check --older records/accepted/rca_zero >/dev/null 2>&1
 
 # One run: what is printed, what is expected, and the exit status that goes with it.
 same() { # NAME EXPECTED PRINTED STATUS
@@ -23,11 +27,23 @@ same() { # NAME EXPECTED PRINTED STATUS
   fi
 }
 
+# The check, and the older one, which answers and says the same where the check does not answer 27.
 check_record() { # FOLDER NAME
-  local out status
+  local out status expected
+  expected=$(cd "$1" && "$other")
   out=$(./zorambi check "$1" 2>"$work/err")
   status=$?
-  same "check $2" "$(cd "$1" && "$other")" "$out" "$status"
+  same "check $2" "$expected" "$out" "$status"
+  [[ $expected == *$'\n27 '* ]] && return
+  out=$(./zorambi check --older "$1" 2>"$work/older")
+  status=$?
+  same "check --older $2" "$expected" "$out" "$status"
+  if cmp -s "$work/err" "$work/older"; then
+    passed=$((passed + 1))
+  else
+    failed=$((failed + 1))
+    echo "$2: said by check: $(tr '\n' '|' <"$work/err"); by check --older: $(tr '\n' '|' <"$work/older")"
+  fi
 }
 
 check_model_record() { # FOLDER NAME
@@ -39,11 +55,21 @@ check_model_record() { # FOLDER NAME
 
 # What is said on standard error after the last run.
 said() { # NAME TEXT
-  if grep -qF -- "$2" "$work/err"; then
+  if [[ $(cat "$work/err") == *"$2"* ]]; then
     passed=$((passed + 1))
   else
     failed=$((failed + 1))
     echo "$1: '$2' is not said; what is: $(tr '\n' '|' <"$work/err")"
+  fi
+}
+
+# All that is said on standard error after the last run.
+said_exactly() { # NAME TEXT
+  if [ "$2" = "$(cat "$work/err")" ]; then
+    passed=$((passed + 1))
+  else
+    failed=$((failed + 1))
+    echo "$1: what is said is not '${2//$'\n'/|}' but: $(tr '\n' '|' <"$work/err")"
   fi
 }
 
@@ -55,8 +81,11 @@ record() { # FOLDER: 01's record
 
 # ---- the records, by their own word and by the other implementation's
 
+# A record that holds a file `older` is checked as an older one.
 for r in records/accepted/* records/refused/*; do
-  out=$(./zorambi check "$r" 2>"$work/err")
+  older=()
+  [ -f "$r/older" ] && older=(--older)
+  out=$(./zorambi check "${older[@]}" "$r" 2>"$work/err")
   status=$?
   same "check $r" "answer place nodes links
 $(cat "$r/expected")" "$out" "$status"
@@ -86,6 +115,7 @@ told link_open_to_bounded "$link_bounds 9" "proof.txt:12: 5 8 -1 -1 -1 4 2 0 1 4
 told link_lost_row_other_branch "refused: a link's row without its lowered partner (16) at node 12" \
   "proof.txt:18: 10 8 -1 -1 -1 4 1 0 6"
 told void_above_least "refused: a void's bound (14) at node 3" "proof.txt:8: 2 7 1 -1 -1 -1 0 1"
+told row_written_twice "refused: a proof row written twice (27) at row 130" "proof.txt:84: 6 5 1 2"
 
 # ---- 01's record and its neighbours
 
@@ -124,7 +154,48 @@ neighbour "node 1 by -1" proof.txt 's/^0 2 -1 -1 -1 -1 0 2 3$/0 2 -1 -1 -1 -1 -1
 neighbour "node 6 on 8 with 6" proof.txt 's/^4 6 6 8 -1/4 6 8 6 -1/' "12 6 0 0" "refused: the fields of rule 6, clash (12) at node 6"
 neighbour "last row gone" proof.txt '$d' "17 4 0 0" "refused: the number of children of rule 4, unfold or (17) at node 4"
 
-# Others, whose numbers the other implementation gives.
+# ---- proof rows written twice
+
+# 01's record with rows written after its last proof row, which is row 8 in line 5: the numbers of the check and what is
+# said, then the numbers of the older check and what is said.
+again() { # NAME ROWS NUMBERS WORDS OLDER-NUMBERS OLDER-WORDS
+  local out
+  record "$work/r"
+  sed -i "5s/\$/\\n$2/" "$work/r/proof.txt"
+  out=$(./zorambi check "$work/r" 2>"$work/err")
+  same "$1" "answer place nodes links
+$3" "$out" $?
+  said_exactly "$1" "$4"
+  out=$(./zorambi check --older "$work/r" 2>"$work/err")
+  same "$1, older" "answer place nodes links
+$5" "$out" $?
+  said_exactly "$1, older" "$6"
+}
+twice="refused: a proof row written twice (27) at row 9
+proof.txt:6:"
+ill_formed="refused: an ill-formed formula"
+again "the last proof row twice" '3 0 1 0' "27 9 0 0" "$twice 3 0 1 0" "0 0 7 1" ""
+again "the first proof row twice" '7 0 2 1' "27 9 0 0" "$twice 7 0 2 1" "0 0 7 1" ""
+again "the first schema row again" '2 0 2 0' "27 9 0 0" "$twice 2 0 2 0" "0 0 7 1" ""
+again "the last schema row again" '4 2 3 0' "27 9 0 0" "$twice 4 2 3 0" "0 0 7 1" ""
+again "a row like none" '3 0 1 1' "0 0 7 1" "" "0 0 7 1" ""
+again "a new row, then twice" '3 0 1 1\n3 0 1 1' "27 10 0 0" "refused: a proof row written twice (27) at row 10
+proof.txt:7: 3 0 1 1" "0 0 7 1" ""
+again "a row twice, then an ill-formed one" '3 0 1 0\n9 0 0 0' "27 9 0 0" "$twice 3 0 1 0" \
+  "7 10 0 0" "$ill_formed (7) at row 10
+proof.txt:7: 9 0 0 0"
+again "an ill-formed row, then one twice" '9 0 0 0\n3 0 1 0' "7 9 0 0" "$ill_formed (7) at row 9
+proof.txt:6: 9 0 0 0" "7 9 0 0" "$ill_formed (7) at row 9
+proof.txt:6: 9 0 0 0"
+
+# The shipped one is accepted by the older check, with the counts of the record that it was made of.
+out=$(./zorambi check --older records/refused/row_written_twice 2>"$work/err")
+same "check --older records/refused/row_written_twice" "answer place nodes links
+$(cat records/accepted/rca_zero/expected)" "$out" $?
+said_exactly "check --older records/refused/row_written_twice" ""
+
+# ---- neighbours whose numbers the other implementation gives
+
 other_neighbour() { # NAME FILE SED WORDS
   record "$work/r"
   sed -i "$3" "$work/r/$2"
@@ -214,7 +285,7 @@ missing model model.txt
 # ---- the records as the program `cases` has them
 
 # The texts are the same, and what the program is held to is what the records themselves expect.
-if diff -r --exclude=README.md --exclude=expected --exclude=why records crates/cases/data; then
+if diff -r --exclude=README.md --exclude=expected --exclude=why --exclude=older records crates/cases/data; then
   passed=$((passed + 1))
 else
   failed=$((failed + 1))
@@ -250,6 +321,11 @@ wrong_use check "$work/none"
 wrong_use check ""
 wrong_use model
 wrong_use check records records
+wrong_use check --older
+wrong_use check --older "$work/none"
+wrong_use check --oldest records/accepted/rca_zero
+wrong_use check records/accepted/rca_zero --older
+wrong_use model --older records/accepted/rca_zero
 
 echo "$passed passed, $failed failed"
 [ "$failed" -eq 0 ]

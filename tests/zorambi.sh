@@ -8,10 +8,10 @@ trap 'rm -rf "$work"' EXIT
 passed=0
 failed=0
 
-# A repository of three crates, two of which the program check_proof is made of.
+# A repository of five crates, two of which the program check_proof is made of, and three check_older.
 mkdir -p "$work/kit" "$work/repo/crates/low/src" "$work/repo/crates/low/must-fail" "$work/repo/crates/check_proof/src" "$work/record"
 cp zorambi "$work/repo/zorambi"
-printf '# NAME: what it depends on\nlow:\nother: low\nzorambi: low\ncheck_proof: low io libc\n' >"$work/repo/crates.txt"
+printf '# NAME: what it depends on\nlow:\nother: low\nzorambi: low\ncheck_proof: low io libc\ncheck_older: low other io\n' >"$work/repo/crates.txt"
 echo one >"$work/repo/crates/low/src/lib.rt"
 echo two >"$work/repo/crates/low/src/more.rt"
 echo three >"$work/repo/crates/check_proof/src/main.rt"
@@ -135,6 +135,70 @@ expect "still not proved" ended 2 1
 : >"$work/during"
 changed "proved again"
 
+# ---- the program for older records
+
+# Which of the two programs was run, by its answer.
+either="case \$0 in */check_older) echo 0 0 65 3 ;; */check_proof) echo 27 130 0 0 ;; esac"
+program "echo answer place nodes links; $either"
+older() {
+  use check --older "$work/record"
+}
+older
+expect "first use for older records" ended 0 1
+expect "first use for older records, what is proved" grep -qx 'check check_older' "$work/proofs"
+expect "first use for older records, what is said" said "proving and building check_older first; from nothing this takes some minutes" \
+  "proved 1 of 3 crates" "proved 2 of 3 crates"
+expect "first use for older records, what is printed" grep -qx '0 0 65 3' "$work/out"
+older
+expect "second use for older records" ended 0 0
+expect "second use for older records, what is said" cmp -s "$work/err" /dev/null
+check
+expect "the other program is proved too" ended 1 1
+expect "the other program, what is proved" grep -qx 'check check_proof' "$work/proofs"
+expect "the other program, what is printed" grep -qx '27 130 0 0' "$work/out"
+check
+expect "the other program again" ended 1 0
+older
+expect "older records once more" ended 0 0
+echo six >>"$work/repo/crates/low/src/lib.rt"
+older
+expect "a source edited, for older records" ended 0 1
+echo '# by hand' >>"$work/repo/target/bin/check_older"
+check
+expect "a source edited, for the other program" ended 1 1
+older
+expect "another program in the place of that for older records" ended 0 1
+echo false >"$work/during"
+echo seven >>"$work/repo/crates/low/src/lib.rt"
+older
+expect "not proved for older records" ended 2 1
+expect "not proved for older records, the last line" grep -qx 'check_older is not proved' "$work/err"
+: >"$work/during"
+older
+expect "proved again for older records" ended 0 1
+program ""
+older
+expect "nothing printed for older records" ended 2 1
+expect "nothing printed for older records, the last line" grep -qx 'check_older ended without a verdict, with exit status 0' "$work/err"
+
+# A wrong use proves nothing and says the use.
+misuse() { # WORD...
+  use "$@"
+  expect "./zorambi $*" ended 2 0
+  expect "./zorambi $*, what is said" grep -qF -- './zorambi check [--older] DIR ' "$work/err"
+}
+misuse check
+misuse check --older
+misuse check --older ""
+misuse check --older --older
+misuse check --old "$work/record"
+misuse check --oldest "$work/record"
+misuse check "$work/record" --older
+misuse check --older "$work/record" "$work/record"
+misuse check --older --older "$work/record"
+misuse check -o
+misuse model --older "$work/record"
+
 # Only the library is made here: the repository has no crate of tests, so the command fails after that.
 use bench
 expect "the library" ended 1 1
@@ -158,8 +222,17 @@ ends "another exit status after a refusal" "$refuses; exit 1" 2
 ends "nothing printed" "" 2
 ends "no heading" 'echo "0 0 7 1"' 2
 ends "half a line" 'printf "answer place nodes links\n0 0"' 2
-ends "an answer that there is not" 'printf "answer place nodes links\n23 0 0 0\n"' 2
+for answer in 23 24 25 26 28 99 100 00 027 99999999999999999999; do
+  ends "an answer that there is not: $answer" "printf 'answer place nodes links\n$answer 0 0 0\n'" 2
+done
 ends "a line more" "$accepts; echo 0" 2
+
+# ---- a proof row written twice
+
+twice='printf "answer place nodes links\n27 9 0 0\n"; echo "proof.txt:6: 3 0 1 0" >&2'
+ends "a proof row written twice" "$twice" 1
+expect "a proof row written twice, what is said" said "$first" "proved 1 of 2 crates" "proved 2 of 2 crates" \
+  "refused: a proof row written twice (27) at row 9" "proof.txt:6: 3 0 1 0"
 
 # ---- bytes of a record
 

@@ -1,17 +1,19 @@
-/* Every slice of every entry empty, with the pointer NULL: the answers are those of the paper for an empty table or text. */
+/* Every slice of every entry empty, with the pointer NULL: the answers are those of the paper for an empty table or text. And
+ * proof rows written twice. */
 #include <stdio.h>
 #include <string.h>
 
 #include "zorambi.h"
 
 static int passed, failed;
+static const char *which = "";
 
 static void test(const char *name, int right) {
   if (right) {
     passed++;
   } else {
     failed++;
-    printf("FAILED %s\n", name);
+    printf("FAILED %s%s\n", name, which);
   }
 }
 
@@ -30,20 +32,36 @@ static const int32_t node[] = {-1, 0, 4, -1, -1, -1, 0, 0, 1};
 static const int32_t member[] = {4};
 static const char schema_text[] = "root least\n4 1\nkind a b c\n2 0 2 0\n3 0 2 0\n7 0 2 0\n6 1 2 0\n4 2 3 0\n";
 
-static void check(void) {
-  answers("nothing at all", zorambi_check(NULL, 0, 0, NULL, 0, 0, 0, 0, NULL, 0, 0, NULL, 0, 0), ZORAMBI_ROOT, -1);
-  answers("no proof row, node or member", zorambi_check(schema, 20, 5, NULL, 0, 0, 4, 1, NULL, 0, 0, NULL, 0, 0),
+/* The check or the older one. */
+typedef uint64_t checks(const int32_t *, size_t, size_t, const int32_t *, size_t, size_t, int32_t, int32_t, const int32_t *, size_t,
+                        size_t, const int32_t *, size_t, size_t);
+
+static void check(checks *by) {
+  answers("nothing at all", by(NULL, 0, 0, NULL, 0, 0, 0, 0, NULL, 0, 0, NULL, 0, 0), ZORAMBI_ROOT, -1);
+  answers("no proof row, node or member", by(schema, 20, 5, NULL, 0, 0, 4, 1, NULL, 0, 0, NULL, 0, 0), ZORAMBI_PARENT, -1);
+  answers("no proof row", by(schema, 20, 5, NULL, 0, 0, 4, 1, node, 9, 1, member, 1, 1), ZORAMBI_CHILDREN, 0);
+  answers("no member", by(schema, 20, 5, proof, 16, 4, 4, 1, node, 9, 1, NULL, 0, 0), ZORAMBI_SET, 0);
+  answers("schema rows counted", by(NULL, 0, 5, proof, 16, 4, 4, 1, node, 9, 1, member, 1, 1), ZORAMBI_TABLE_TOO_SHORT, -1);
+  answers("proof rows counted", by(schema, 20, 5, NULL, 0, 4, 4, 1, node, 9, 1, member, 1, 1), ZORAMBI_TABLE_TOO_SHORT, -1);
+  answers("nodes counted", by(schema, 20, 5, proof, 16, 4, 4, 1, NULL, 0, 1, member, 1, 1), ZORAMBI_TABLE_TOO_SHORT, -1);
+  answers("members counted", by(schema, 20, 5, proof, 16, 4, 4, 1, node, 9, 1, NULL, 0, 1), ZORAMBI_TABLE_TOO_SHORT, -1);
+}
+
+/* A proof row that is the row before it, or a schema row: 27 in the check, and no node in the older one. */
+static void repeated(void) {
+  static const int32_t twice[] = {7, 0, 2, 1, 7, 0, 2, 1};
+  answers("a proof row twice", zorambi_check(schema, 20, 5, twice, 8, 2, 4, 1, NULL, 0, 0, NULL, 0, 0), ZORAMBI_REPEATED, 6);
+  answers("a proof row twice, older", zorambi_check_older(schema, 20, 5, twice, 8, 2, 4, 1, NULL, 0, 0, NULL, 0, 0),
           ZORAMBI_PARENT, -1);
-  answers("no proof row", zorambi_check(schema, 20, 5, NULL, 0, 0, 4, 1, node, 9, 1, member, 1, 1), ZORAMBI_CHILDREN, 0);
-  answers("no member", zorambi_check(schema, 20, 5, proof, 16, 4, 4, 1, node, 9, 1, NULL, 0, 0), ZORAMBI_SET, 0);
-  answers("schema rows counted", zorambi_check(NULL, 0, 5, proof, 16, 4, 4, 1, node, 9, 1, member, 1, 1),
-          ZORAMBI_TABLE_TOO_SHORT, -1);
-  answers("proof rows counted", zorambi_check(schema, 20, 5, NULL, 0, 4, 4, 1, node, 9, 1, member, 1, 1),
-          ZORAMBI_TABLE_TOO_SHORT, -1);
-  answers("nodes counted", zorambi_check(schema, 20, 5, proof, 16, 4, 4, 1, NULL, 0, 1, member, 1, 1),
-          ZORAMBI_TABLE_TOO_SHORT, -1);
-  answers("members counted", zorambi_check(schema, 20, 5, proof, 16, 4, 4, 1, node, 9, 1, NULL, 0, 1),
-          ZORAMBI_TABLE_TOO_SHORT, -1);
+  answers("a schema row again", zorambi_check(schema, 20, 5, schema, 20, 5, 4, 1, NULL, 0, 0, NULL, 0, 0), ZORAMBI_REPEATED, 5);
+  answers("a schema row again, older", zorambi_check_older(schema, 20, 5, schema, 20, 5, 4, 1, NULL, 0, 0, NULL, 0, 0),
+          ZORAMBI_PARENT, -1);
+
+  static const uint8_t proof_text[] = "kind a b c\n7 0 2 1\n7 0 2 1\nup rule on with other to by set\n";
+  const uint8_t *text = (const uint8_t *)schema_text;
+  const size_t length = strlen(schema_text);
+  points("a line twice", zorambi_check_fault(text, length, proof_text, sizeof proof_text - 1), 1, 3);
+  points("a line twice, older", zorambi_check_older_fault(text, length, proof_text, sizeof proof_text - 1), 0, 0);
 }
 
 static void check_model(void) {
@@ -174,13 +192,20 @@ static void lines(void) {
   points("no texts", zorambi_check_fault(NULL, 0, NULL, 0), 0, 1);
   points("no schema to point into", zorambi_check_fault(NULL, 0, text, strlen(schema_text)), 0, 1);
   points("no proof to point into", zorambi_check_fault(text, strlen(schema_text), NULL, 0), 1, 1);
+  points("no texts, older", zorambi_check_older_fault(NULL, 0, NULL, 0), 0, 1);
+  points("no schema to point into, older", zorambi_check_older_fault(NULL, 0, text, strlen(schema_text)), 0, 1);
+  points("no proof to point into, older", zorambi_check_older_fault(text, strlen(schema_text), NULL, 0), 1, 1);
   points("no texts of a model", zorambi_model_fault(NULL, 0, NULL, 0), 0, 1);
   points("no schema of a model", zorambi_model_fault(NULL, 0, text, strlen(schema_text)), 0, 1);
   points("no model to point into", zorambi_model_fault(text, strlen(schema_text), NULL, 0), 1, 1);
 }
 
 int main(void) {
-  check();
+  check(zorambi_check);
+  which = ", older";
+  check(zorambi_check_older);
+  which = "";
+  repeated();
   check_model();
   read_schema();
   read_proof();

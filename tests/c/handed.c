@@ -46,6 +46,10 @@ int main(void) {
         AT(a), 11, 12, AT(b), 13, 14, 15, 16, AT(c), 17, 18, AT(d), 19, 20);
   HANDS(zorambi_check(NULL, 0, 12, NULL, 0, 14, 15, 16, NULL, 0, 18, NULL, 0, 20), 1,
         SOME, 0, 12, SOME, 0, 14, 15, 16, SOME, 0, 18, SOME, 0, 20);
+  HANDS(zorambi_check_older(a, 11, 12, b, 13, 14, 15, 16, c, 17, 18, d, 19, 20), 17,
+        AT(a), 11, 12, AT(b), 13, 14, 15, 16, AT(c), 17, 18, AT(d), 19, 20);
+  HANDS(zorambi_check_older(NULL, 0, 12, NULL, 0, 14, 15, 16, NULL, 0, 18, NULL, 0, 20), 17,
+        SOME, 0, 12, SOME, 0, 14, 15, 16, SOME, 0, 18, SOME, 0, 20);
   HANDS(zorambi_check_model(a, 11, 12, 13, 14, 15, b, 16, 17), 2, AT(a), 11, 12, 13, 14, 15, AT(b), 16, 17);
   HANDS(zorambi_check_model(NULL, 0, 12, 13, 14, 15, NULL, 0, 17), 2, SOME, 0, 12, 13, 14, 15, SOME, 0, 17);
   HANDS(zorambi_read_schema(s, 11, a, 12, r), 3, AT(s), 11, AT(a), 12, AT(r));
@@ -64,6 +68,8 @@ int main(void) {
   HANDS((zorambi_line(NULL, 0, 12, span), 0), 0, SOME, 0, 12, AT(span));
   HANDS(zorambi_check_fault(s, 11, t, 12), 9, AT(s), 11, AT(t), 12);
   HANDS(zorambi_check_fault(NULL, 0, NULL, 0), 9, SOME, 0, SOME, 0);
+  HANDS(zorambi_check_older_fault(s, 11, t, 12), 18, AT(s), 11, AT(t), 12);
+  HANDS(zorambi_check_older_fault(NULL, 0, NULL, 0), 18, SOME, 0, SOME, 0);
   HANDS(zorambi_model_fault(s, 11, t, 12), 10, AT(s), 11, AT(t), 12);
   HANDS(zorambi_model_fault(NULL, 0, NULL, 0), 10, SOME, 0, SOME, 0);
   HANDS(zorambi_schema_again(s, 11, a, 12, t, 13), 11, AT(s), 11, AT(a), 12, AT(t), 13);

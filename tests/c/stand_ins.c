@@ -24,6 +24,16 @@ uint64_t zorambi_check(const int32_t *schema, size_t schema_len, size_t schema_r
   return 1;
 }
 
+uint64_t zorambi_check_older(const int32_t *schema, size_t schema_len, size_t schema_rows,
+                             const int32_t *proof, size_t proof_len, size_t proof_rows,
+                             int32_t root, int32_t least,
+                             const int32_t *nodes, size_t nodes_len, size_t node_rows,
+                             const int32_t *members, size_t members_len, size_t member_count) {
+  NOTE(AT(schema), schema_len, schema_rows, AT(proof), proof_len, proof_rows, NUMBER(root), NUMBER(least),
+       AT(nodes), nodes_len, node_rows, AT(members), members_len, member_count);
+  return 17;
+}
+
 uint64_t zorambi_check_model(const int32_t *schema, size_t schema_len, size_t schema_rows,
                              int32_t root, int32_t least, int32_t n,
                              const int32_t *pairs, size_t pairs_len, size_t pair_rows) {
@@ -74,6 +84,11 @@ void zorambi_line(const uint8_t *text, size_t text_len, size_t k, size_t span[2]
 uint64_t zorambi_check_fault(const uint8_t *schema, size_t schema_len, const uint8_t *proof, size_t proof_len) {
   NOTE(AT(schema), schema_len, AT(proof), proof_len);
   return 9;
+}
+
+uint64_t zorambi_check_older_fault(const uint8_t *schema, size_t schema_len, const uint8_t *proof, size_t proof_len) {
+  NOTE(AT(schema), schema_len, AT(proof), proof_len);
+  return 18;
 }
 
 uint64_t zorambi_model_fault(const uint8_t *schema, size_t schema_len, const uint8_t *model, size_t model_len) {

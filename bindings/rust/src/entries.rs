@@ -22,6 +22,22 @@ mod c {
             members_len: usize,
             member_count: usize,
         ) -> u64;
+        pub fn zorambi_check_older(
+            schema: *const i32,
+            schema_len: usize,
+            schema_rows: usize,
+            proof: *const i32,
+            proof_len: usize,
+            proof_rows: usize,
+            root: i32,
+            least: i32,
+            nodes: *const i32,
+            nodes_len: usize,
+            node_rows: usize,
+            members: *const i32,
+            members_len: usize,
+            member_count: usize,
+        ) -> u64;
         pub fn zorambi_check_model(
             schema: *const i32,
             schema_len: usize,
@@ -161,6 +177,12 @@ mod c {
         ) -> u64;
         pub fn zorambi_line(text: *const u8, text_len: usize, k: usize, span: *mut usize);
         pub fn zorambi_check_fault(schema: *const u8, schema_len: usize, proof: *const u8, proof_len: usize) -> u64;
+        pub fn zorambi_check_older_fault(
+            schema: *const u8,
+            schema_len: usize,
+            proof: *const u8,
+            proof_len: usize,
+        ) -> u64;
         pub fn zorambi_model_fault(schema: *const u8, schema_len: usize, model: *const u8, model_len: usize) -> u64;
     }
 }
@@ -184,6 +206,40 @@ pub fn check(
 ) -> u64 {
     unsafe {
         c::zorambi_check(
+            schema.as_ptr(),
+            schema.len(),
+            schema_rows,
+            proof.as_ptr(),
+            proof.len(),
+            proof_rows,
+            root,
+            least,
+            nodes.as_ptr(),
+            nodes.len(),
+            node_rows,
+            members.as_ptr(),
+            members.len(),
+            member_count,
+        )
+    }
+}
+
+/// The check of older records: the same without the refusal of a proof row that is written twice.
+#[allow(clippy::too_many_arguments)]
+pub fn check_older(
+    schema: &[i32],
+    schema_rows: usize,
+    proof: &[i32],
+    proof_rows: usize,
+    root: i32,
+    least: i32,
+    nodes: &[i32],
+    node_rows: usize,
+    members: &[i32],
+    member_count: usize,
+) -> u64 {
+    unsafe {
+        c::zorambi_check_older(
             schema.as_ptr(),
             schema.len(),
             schema_rows,
@@ -433,6 +489,11 @@ pub fn line(text: &[u8], k: usize) -> [usize; 2] {
 /// 1, and 1 more if it is the proof's; line 0 is none.
 pub fn check_fault(schema: &[u8], proof: &[u8]) -> u64 {
     unsafe { c::zorambi_check_fault(schema.as_ptr(), schema.len(), proof.as_ptr(), proof.len()) }
+}
+
+/// The same with the older check.
+pub fn check_older_fault(schema: &[u8], proof: &[u8]) -> u64 {
+    unsafe { c::zorambi_check_older_fault(schema.as_ptr(), schema.len(), proof.as_ptr(), proof.len()) }
 }
 
 /// The same with a model text.

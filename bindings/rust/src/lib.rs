@@ -1,7 +1,8 @@
 //! The proved check of schema tableaux, and the model check, for programs in Rust.
 //!
 //! A record is a propositional schema and a closed tableau with loop links for it. If [`check`] accepts
-//! it, the schema is false at every natural n from its least value up, under every assignment. If
+//! it, the schema is false at every natural n from its least value up, under every assignment. So it is if
+//! [`check_older`] accepts, which is for older records: in these a proof row may repeat an earlier row. If
 //! [`check_model`] accepts a model, the schema is true in it. That these are so is proved of the library
 //! that this crate calls; the crate itself only lends it memory and names its answers.
 //!
@@ -9,7 +10,7 @@
 //! for, or a numbered [`Refusal`] with its place. All functions may be called from several threads.
 //!
 //! ```
-//! use zorambi::{check, Proof, Record, Refusal, Schema, Verdict};
+//! use zorambi::{check, check_older, Proof, Record, Refusal, Schema, Verdict};
 //!
 //! // Some p_i for i from 2 to n, and no p_i for i from 2 to n.
 //! let schema = Schema {
@@ -34,6 +35,12 @@
 //! assert_eq!(verdict, Verdict::Refused { refusal: Refusal::Bound, place: Some(5) });
 //! let words = "a bound, a split's K, a link's L - by or H - by, or the index of a clash";
 //! assert_eq!(verdict.to_string(), format!("refused: 14 at node 5 ({words})"));
+//!
+//! // Row 6 is written again, as row 9.
+//! record.proof.nodes[5][6] = 1;
+//! record.proof.rows.push([2, 0, 1, 0]);
+//! assert_eq!(check(&record).to_string(), "refused: 27 at row 9 (a proof row written twice)");
+//! assert_eq!(check_older(&record), Verdict::Accepted { nodes: 7, links: 1 });
 //! ```
 //!
 //! The same from texts:
@@ -63,9 +70,9 @@ mod record;
 mod text;
 mod verdict;
 
-pub use record::{check, check_model, Model, Node, Pair, Proof, Record, Row, Schema};
+pub use record::{check, check_model, check_older, Model, Node, Pair, Proof, Record, Row, Schema};
 pub use text::{
-    check_fault, check_model_texts, check_texts, line, model_fault, read_model, read_proof, read_schema, write_model,
-    write_proof, write_schema, Text, MAX_TEXT,
+    check_fault, check_model_texts, check_older_fault, check_older_texts, check_texts, line, model_fault, read_model,
+    read_proof, read_schema, write_model, write_proof, write_schema, Text, MAX_TEXT,
 };
 pub use verdict::{Refusal, Refused, Verdict};

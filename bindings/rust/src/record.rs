@@ -1,4 +1,4 @@
-//! Records and models as tables, and the two checks.
+//! Records and models as tables, and their checks.
 
 use crate::entries;
 use crate::verdict::Verdict;
@@ -53,11 +53,12 @@ pub struct Model {
     pub pairs: Vec<Pair>,
 }
 
-/// Checks a record. If it is accepted, its schema is false at every natural n from the least value up,
-/// under every assignment.
-pub fn check(record: &Record) -> Verdict {
+/// The entry of a check: four tables with their counts, the root and the least value.
+type Entry = fn(&[i32], usize, &[i32], usize, i32, i32, &[i32], usize, &[i32], usize) -> u64;
+
+fn check_by(entry: Entry, record: &Record) -> Verdict {
     let Record { schema, proof } = record;
-    Verdict::of_packed(entries::check(
+    Verdict::of_packed(entry(
         schema.rows.as_flattened(),
         schema.rows.len(),
         proof.rows.as_flattened(),
@@ -69,6 +70,18 @@ pub fn check(record: &Record) -> Verdict {
         &proof.members,
         proof.members.len(),
     ))
+}
+
+/// Checks a record. If it is accepted, its schema is false at every natural n from the least value up,
+/// under every assignment. A proof row that equals an earlier schema or proof row is refused.
+pub fn check(record: &Record) -> Verdict {
+    check_by(entries::check, record)
+}
+
+/// Checks an older record: the same, but proof rows may repeat. Where [`check`] says anything else than
+/// [`Refusal::Repeated`](crate::Refusal::Repeated), both say the same.
+pub fn check_older(record: &Record) -> Verdict {
+    check_by(entries::check_older, record)
 }
 
 /// Checks a model. If it is accepted, the schema is true at its n where exactly its pairs are true.

@@ -1,7 +1,7 @@
 //! Texts of schemata, proofs and models: read, written, and checked at once, and the line at fault.
 
 use crate::entries;
-use crate::record::{check, check_model, Model, Proof, Record, Schema};
+use crate::record::{check, check_model, check_older, Model, Proof, Record, Schema};
 use crate::verdict::{refused, Refused, Verdict};
 
 /// A text has at most this many bytes.
@@ -96,11 +96,20 @@ pub fn line(text: &[u8], number: usize) -> &[u8] {
     &text[start..start + length]
 }
 
+fn check_texts_by(check: fn(&Record) -> Verdict, schema: &[u8], proof: &[u8]) -> Verdict {
+    let record = read_schema(schema).and_then(|schema| Ok(Record { schema, proof: read_proof(proof)? }));
+    record.map_or_else(Verdict::from, |record| check(&record))
+}
+
 /// Reads a schema text, then a proof text, and checks the record. A text refused in reading gives its
 /// refusal, and nothing is checked.
 pub fn check_texts(schema: &[u8], proof: &[u8]) -> Verdict {
-    let record = read_schema(schema).and_then(|schema| Ok(Record { schema, proof: read_proof(proof)? }));
-    record.map_or_else(Verdict::from, |record| check(&record))
+    check_texts_by(check, schema, proof)
+}
+
+/// The same with [`check_older`].
+pub fn check_older_texts(schema: &[u8], proof: &[u8]) -> Verdict {
+    check_texts_by(check_older, schema, proof)
 }
 
 /// Reads a schema text, then a model text, and checks the model.
@@ -127,6 +136,11 @@ fn fault(number: u64, second: Text) -> Option<(Text, usize)> {
 /// reading, or that of the row or node at fault. `None` if it accepts, or refuses the whole.
 pub fn check_fault(schema: &[u8], proof: &[u8]) -> Option<(Text, usize)> {
     fault(entries::check_fault(schema, proof), Text::Proof)
+}
+
+/// The same of [`check_older_texts`].
+pub fn check_older_fault(schema: &[u8], proof: &[u8]) -> Option<(Text, usize)> {
+    fault(entries::check_older_fault(schema, proof), Text::Proof)
 }
 
 /// The same of [`check_model_texts`]: the line refused in reading, or that of the row or pair at fault.

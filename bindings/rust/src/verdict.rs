@@ -30,11 +30,12 @@ pub enum Refusal {
     False = 20,
     Number = 21,
     Output = 22,
+    Repeated = 27,
 }
 
 impl Refusal {
     /// All of them, in the order of their numbers.
-    pub const ALL: [Refusal; 22] = [
+    pub const ALL: [Refusal; 23] = [
         Refusal::TextTooLong,
         Refusal::TableTooShort,
         Refusal::Heading,
@@ -57,24 +58,24 @@ impl Refusal {
         Refusal::False,
         Refusal::Number,
         Refusal::Output,
+        Refusal::Repeated,
     ];
 
-    /// 1 to 22.
+    /// 1 to 22, or 27.
     pub fn number(self) -> u8 {
         self as u8
     }
 
     /// The refusal with this number.
     pub fn of_number(number: u64) -> Option<Refusal> {
-        let at = usize::try_from(number).ok()?.checked_sub(1)?;
-        Refusal::ALL.get(at).copied()
+        Refusal::ALL.into_iter().find(|refusal| u64::from(refusal.number()) == number)
     }
 
     /// What a place of this refusal counts; `None` if it is no row, node, pair or line.
     pub fn place_counts(self) -> Option<&'static str> {
         match self.number() {
             3..=5 => Some("line"),
-            7 | 8 => Some("row"),
+            7 | 8 | 27 => Some("row"),
             9..=17 => Some("node"),
             18 => Some("pair"),
             _ => None,
@@ -107,6 +108,7 @@ impl fmt::Display for Refusal {
             Refusal::False => "the schema is false in the model",
             Refusal::Number => "a number beyond five digits, or sets that do not follow one another",
             Refusal::Output => "an output shorter than the text, or a text over 65,536 bytes",
+            Refusal::Repeated => "a proof row written twice",
         })
     }
 }
@@ -130,7 +132,7 @@ impl fmt::Display for Refused {
 
 impl Error for Refused {}
 
-/// What the check and the model check say. A model's acceptance has both counts 0.
+/// What the checks and the model check say. A model's acceptance has both counts 0.
 #[must_use]
 #[derive(Clone, Copy, Debug, PartialEq, Eq, Hash)]
 pub enum Verdict {
@@ -178,7 +180,7 @@ pub(crate) fn refused(packed: u64) -> Option<Refused> {
     if answer == 0 {
         return None;
     }
-    let refusal = Refusal::of_number(answer).expect("the library answers with 0 to 22");
+    let refusal = Refusal::of_number(answer).expect("the library answers with 0 or a refusal's number");
     Some(Refused { refusal, place: (packed >> 26 & 8191).checked_sub(1).map(|place| place as usize) })
 }
 
@@ -204,11 +206,11 @@ mod tests {
     }
 
     #[test]
-    fn every_number_from_1_to_22_is_a_refusal() {
-        for number in 1..=22 {
+    fn numbers_of_refusals() {
+        for number in (1..=22).chain([27]) {
             assert_eq!(Refusal::of_number(number).map(|refusal| u64::from(refusal.number())), Some(number));
         }
-        for number in [0, 23, 255, u64::MAX] {
+        for number in [0, 23, 24, 25, 26, 28, 255, 256 + 27, u64::MAX] {
             assert_eq!(Refusal::of_number(number), None);
         }
     }
@@ -239,6 +241,10 @@ mod tests {
         assert_eq!(
             words(Verdict::Refused { refusal: Refusal::Root, place: None }),
             "refused: 6 (a root that is no outer schema row, or a least value not 0 to 9999)"
+        );
+        assert_eq!(
+            words(Verdict::Refused { refusal: Refusal::Repeated, place: Some(9) }),
+            "refused: 27 at row 9 (a proof row written twice)"
         );
     }
 }

@@ -1,8 +1,9 @@
 //! The paper's record and its neighbours, from texts and from tables.
 
 use zorambi::{
-    check, check_fault, check_model_texts, check_texts, line, model_fault, read_model, read_proof, read_schema,
-    write_model, write_proof, write_schema, Model, Proof, Record, Refusal, Refused, Schema, Text, Verdict,
+    check, check_fault, check_model_texts, check_older, check_older_fault, check_older_texts, check_texts, line,
+    model_fault, read_model, read_proof, read_schema, write_model, write_proof, write_schema, Model, Proof, Record,
+    Refusal, Refused, Schema, Text, Verdict,
 };
 
 const SCHEMA: &str = "root least\n4 1\nkind a b c\n2 0 2 0\n3 0 2 0\n7 0 2 0\n6 1 2 0\n4 2 3 0\n";
@@ -50,6 +51,58 @@ fn the_record_and_its_neighbours() {
     assert_eq!(link_to("5"), refused(Refusal::Target, 5));
     assert_eq!(link_to("6"), refused(Refusal::Target, 5));
     assert_eq!(link_to("-1"), refused(Refusal::Target, 5));
+}
+
+/// What the check and the older one say, and where they point.
+fn both(schema: &str, proof: &str) -> [(Verdict, Option<(Text, usize)>); 2] {
+    let [schema, proof] = [schema, proof].map(str::as_bytes);
+    [
+        (check_texts(schema, proof), check_fault(schema, proof)),
+        (check_older_texts(schema, proof), check_older_fault(schema, proof)),
+    ]
+}
+
+#[test]
+fn proof_rows_written_twice() {
+    let accepted = (ACCEPTED, None);
+    let at = |refusal, place: usize, line| (refused(refusal, place), Some((Text::Proof, line)));
+    let and_rows = |rows: &str| changed(PROOF, "3 0 1 0\nup", &format!("3 0 1 0\n{rows}\nup"));
+    assert_eq!(both(SCHEMA, PROOF), [accepted; 2]);
+    // Row 9 is row 5, 8, 0 or 4 again: proof rows and schema rows, the first and the last of each.
+    for row in ["7 0 2 1", "3 0 1 0", "2 0 2 0", "4 2 3 0"] {
+        assert_eq!(both(SCHEMA, &and_rows(row)), [at(Refusal::Repeated, 9, 6), accepted], "{row}");
+    }
+    // Another number in one column only, each of the four.
+    for row in ["3 0 1 1", "3 0 0 0", "3 1 1 0", "6 0 2 1"] {
+        assert_eq!(both(SCHEMA, &and_rows(row)), [accepted; 2], "{row}");
+    }
+    // Rows 9 and 10 are rows 7 and 8 again, and nodes 3 to 6 use these.
+    let mut used = and_rows("6 1 2 1\n3 0 1 0");
+    for (from, to) in [("1 3 3 7 8 ", "1 3 3 9 10 "), ("0 2 7 8\n", "0 2 9 10\n"), ("1 5 7\n", "1 5 9\n")] {
+        used = changed(&used, from, to);
+    }
+    used = changed(&used, "4 6 6 8 -1 -1 0 6 8\n", "4 6 6 10 -1 -1 0 6 10\n");
+    assert_eq!(both(SCHEMA, &used), [at(Refusal::Repeated, 9, 6), accepted]);
+    // Schema rows may repeat: row 3 is row 0.
+    let schema = "root least\n2 1\nkind a b c\n2 0 1 0\n3 0 1 0\n4 0 1 0\n2 0 1 0\n";
+    let proof = "kind a b c\nup rule on with other to by set\n-1 0 2 -1 -1 -1 0 2\n0 6 0 1 -1 -1 0 0 1\n";
+    assert_eq!(both(schema, proof), [(Verdict::Accepted { nodes: 2, links: 0 }, None); 2]);
+
+    // Row for row: 27 at row 9 comes before 7 at row 10, and 7 at row 9 before 27 at row 10.
+    let first = and_rows("3 0 1 0\n9 0 0 0");
+    assert_eq!(both(SCHEMA, &first), [at(Refusal::Repeated, 9, 6), at(Refusal::IllFormed, 10, 7)]);
+    assert_eq!(both(SCHEMA, &and_rows("9 0 0 0\n3 0 1 0")), [at(Refusal::IllFormed, 9, 6); 2]);
+    assert_eq!(both(SCHEMA, &and_rows("9 0 0 0\n9 0 0 0")), [at(Refusal::IllFormed, 9, 6); 2]);
+    // A root that is not outer comes after, one that is no row before.
+    let (twice, root) = (and_rows("3 0 1 0"), (refused(Refusal::Root, None), None));
+    assert_eq!(both(&changed(SCHEMA, "4 1\n", "0 1\n"), &twice), [at(Refusal::Repeated, 9, 6), root]);
+    assert_eq!(both(&changed(SCHEMA, "4 1\n", "5 1\n"), &twice), [root; 2]);
+
+    // The same as tables.
+    let mut record = record();
+    record.proof.rows.push(record.proof.rows[1]);
+    assert_eq!(check(&record), refused(Refusal::Repeated, 9));
+    assert_eq!(check_older(&record), ACCEPTED);
 }
 
 #[test]

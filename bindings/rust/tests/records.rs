@@ -1,11 +1,11 @@
-//! The shipped records: their verdicts are those of their `expected` files, their models are accepted,
-//! and their texts are written as they were read.
+//! The shipped records: their verdicts are those of their `expected` files, by the older check for those
+//! that hold a file `older`, their models are accepted, and their texts are written as they were read.
 
 use std::fs;
 use std::path::{Path, PathBuf};
 use zorambi::{
-    check_model_texts, check_texts, read_model, read_proof, read_schema, write_model, write_proof, write_schema,
-    Refusal, Verdict,
+    check_fault, check_model_texts, check_older_fault, check_older_texts, check_texts, read_model, read_proof,
+    read_schema, write_model, write_proof, write_schema, Refusal, Text, Verdict,
 };
 
 fn records(sort: &str) -> Vec<PathBuf> {
@@ -26,16 +26,47 @@ fn expected(record: &Path) -> Verdict {
     }
 }
 
+fn texts(record: &Path) -> [Vec<u8>; 2] {
+    ["schema.txt", "proof.txt"].map(|name| fs::read(record.join(name)).unwrap())
+}
+
 #[test]
 fn verdicts() {
     for (sort, accepted) in [("accepted", true), ("refused", false)] {
         for record in records(sort) {
-            let [schema, proof] = ["schema.txt", "proof.txt"].map(|name| fs::read(record.join(name)).unwrap());
-            let verdict = check_texts(&schema, &proof);
+            let [schema, proof] = texts(&record);
+            let older = record.join("older").is_file();
+            let verdict = if older { check_older_texts(&schema, &proof) } else { check_texts(&schema, &proof) };
             assert_eq!(verdict, expected(&record), "{}", record.display());
             assert_eq!(verdict.is_accepted(), accepted, "{}", record.display());
         }
     }
+}
+
+#[test]
+fn both_checks() {
+    let mut repeated = 0;
+    for record in [records("accepted"), records("refused")].concat() {
+        let [schema, proof] = texts(&record);
+        let verdict = check_texts(&schema, &proof);
+        if let Verdict::Refused { refusal: Refusal::Repeated, .. } = verdict {
+            repeated += 1;
+        } else {
+            assert_eq!(check_older_texts(&schema, &proof), verdict, "{}", record.display());
+            assert_eq!(check_older_fault(&schema, &proof), check_fault(&schema, &proof), "{}", record.display());
+        }
+    }
+    assert!(repeated > 0);
+}
+
+#[test]
+fn a_row_written_twice() {
+    let folder = Path::new(env!("CARGO_MANIFEST_DIR")).join("../../records");
+    let [schema, proof] = texts(&folder.join("refused/row_written_twice"));
+    assert_eq!(check_texts(&schema, &proof), Verdict::Refused { refusal: Refusal::Repeated, place: Some(130) });
+    assert_eq!(check_fault(&schema, &proof), Some((Text::Proof, 84)));
+    assert_eq!(check_older_texts(&schema, &proof), expected(&folder.join("accepted/rca_zero")));
+    assert_eq!(check_older_fault(&schema, &proof), None);
 }
 
 #[test]
@@ -55,7 +86,7 @@ fn models() {
 #[test]
 fn round_trips() {
     for record in [records("accepted"), records("refused")].concat() {
-        let [schema, proof] = ["schema.txt", "proof.txt"].map(|name| fs::read(record.join(name)).unwrap());
+        let [schema, proof] = texts(&record);
         assert_eq!(write_schema(&read_schema(&schema).unwrap()).unwrap(), schema, "{}", record.display());
         assert_eq!(write_proof(&read_proof(&proof).unwrap()).unwrap(), proof, "{}", record.display());
     }

@@ -22,15 +22,19 @@ fn case(name: &[u8], model: &[u8]) {
     tell(name, &out[..n]);
 }
 
-// The texts of a record.
-fn record(name: &[u8], schema: &[u8], proof: &[u8]) {
+// The texts of a record, by the check for older records or not.
+fn checked(older: bool, name: &[u8], schema: &[u8], proof: &[u8]) {
     let mut first = files::room();
     let mut second = files::room();
     let s = files::load(schema, &mut first);
     let p = files::load(proof, &mut second);
     let mut out = [0u8; 64];
-    let n = program::check_texts(&first[..s], &second[..p], &mut out);
+    let n = program::check_texts(older, &first[..s], &second[..p], &mut out);
     tell(name, &out[..n]);
+}
+
+fn record(name: &[u8], schema: &[u8], proof: &[u8]) {
+    checked(false, name, schema, proof);
 }
 
 // The model of a record's schema.
@@ -160,6 +164,11 @@ fn refused() {
         b"refused/open_clash/proof.txt",
     );
     record(
+        b"refused/row_written_twice",
+        b"refused/row_written_twice/schema.txt",
+        b"refused/row_written_twice/proof.txt",
+    );
+    record(
         b"refused/size_4097",
         b"refused/size_4097/schema.txt",
         b"refused/size_4097/proof.txt",
@@ -183,6 +192,15 @@ fn refused() {
         b"refused/void_above_least",
         b"refused/void_above_least/schema.txt",
         b"refused/void_above_least/proof.txt",
+    );
+}
+
+fn older() {
+    checked(
+        true,
+        b"refused/row_written_twice, by the older check",
+        b"refused/row_written_twice/schema.txt",
+        b"refused/row_written_twice/proof.txt",
     );
 }
 
@@ -238,5 +256,6 @@ fn main() {
     cases();
     accepted();
     refused();
+    older();
     models();
 }

@@ -9,9 +9,9 @@ fn main() {
     let s = files::load(b"schema.txt", &mut schema);
     let p = files::load(b"proof.txt", &mut proof);
     let mut out = [0u8; 64];
-    let n = program::check_texts(&schema[..s], &proof[..p], &mut out);
+    let n = program::check_texts(false, &schema[..s], &proof[..p], &mut out);
     io::write_all(STDOUT_FILENO, &out[..n]);
-    let fault = program::check_fault(&schema[..s], &proof[..p]);
+    let fault = program::check_fault(false, &schema[..s], &proof[..p]);
     if fault.second {
         let t = shown::tell(b"proof.txt", &proof[..p], fault.line, &mut schema);
         io::write_all(STDERR_FILENO, &schema[..t]);

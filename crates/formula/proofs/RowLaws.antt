@@ -14,7 +14,7 @@ use borrow.Author.Tests.{eqb-true, eqb-false, le-leb, lt-leb, leb-true}
 use Rattle.stab.specs.Basic.{if_then_else_, _and_, _or_, eqZ, within, nat, below, _otherwise_, scan}
 use Rattle.stab.specs.Formula as F
 use Rattle.stab.specs.Formula.{Row, Op, conj, disj, Kind, constant, literal, junction, iteration, unknown, kindOf, Base, nothing, parameter, index, baseOf, Formula, lit, join, iter, decode, tree, onIndex, isOuter, offset, wellFormedAs, wellFormed, smallEnough}
-use Rattle.stab.specs.Check.{atUnless, wholeUnless, rowRefusal, rootFits, formulasRefusal}
+use Rattle.stab.specs.Check.{atUnless, wholeUnless, rowRefusal, rootFits, formulasBy, formulasRefusal}
 use Rattle.stab.specs.declared.Place.the-variants.{Whole, At}
 use Rattle.stab.specs.declared.Refusal.the-variants.{Root, IllFormed, TooLarge}
 use Rattle.stab.specs.declared.Verdict.{Verdict}
@@ -428,12 +428,12 @@ table-stays rows facts r (suc n) {x} s h l =
 
 module _ (rows : ℕ → Row) (n s : ℕ) (root least : ℤ) where
   pub formulas-root : rootFits s root least ≡ false → some (Refused Root Whole) ≡ formulasRefusal rows n s root least
-  unfolding formulasRefusal wholeUnless
+  unfolding formulasRefusal formulasBy wholeUnless
   formulas-root h = sym (otherwise-some _ _ _ (some-unless (rootFits s root least) _ h))
 
   module _ (fits : rootFits s root least ≡ true) where
     after-root : formulasRefusal rows n s root least ≡ (scan (rowRefusal rows) n otherwise wholeUnless (isOuter (tree rows (nat root))) Root)
-    unfolding formulasRefusal wholeUnless
+    unfolding formulasRefusal formulasBy wholeUnless
     after-root = otherwise-none _ _ (none-unless (rootFits s root least) _ fits)
 
     pub formulas-row : {x : Verdict} → some x ≡ scan (rowRefusal rows) n → some x ≡ formulasRefusal rows n s root least

@@ -336,7 +336,7 @@ fn below(m: usize, z: i32) -> bool
 }
 
 // The root is one of s schema rows, and the least value is 0..9999.
-fn root_fits(s: usize, root: i32, least: i32) -> bool
+pub fn root_fits(s: usize, root: i32, least: i32) -> bool
     ensures { λ v. ⌜ v ≡ rootFits s root least ⌝ }
 {
     if !below(s, root) {

@@ -15,7 +15,7 @@ use borrow.Author.Tests.{leb-true, le-leb}
 use Rattle.stab.specs.Basic.{_and_, nat, below, _otherwise_, scan}
 use Rattle.stab.specs.Formula.{Row, rowAt, joined}
 use Rattle.stab.specs.Model.{Model, pairRefusal, modelRefusal, satisfied, assignment, schemaRow}
-use Rattle.stab.specs.Check.{finding, wholeUnless, holds, rootFits, formulasRefusal, verdict}
+use Rattle.stab.specs.Check.{finding, wholeUnless, holds, rootFits, formulasBy, formulasRefusal, verdict}
 use Rattle.stab.specs.declared.Place.{Place}
 use Rattle.stab.specs.declared.Place.the-variants.{Whole}
 use Rattle.stab.specs.declared.Refusal.{Refusal}
@@ -107,7 +107,7 @@ joined-part t s = ap (joined t s) (take-all (length t - 4 * s) (drop (4 * s) t) 
 
 module _ (rows : ℕ → Row) (s : ℕ) (root least : ℤ) (h : formulasRefusal rows s s root least ≡ none) where
   pub passed-root : nat root < s
-  unfolding formulasRefusal wholeUnless rootFits
+  unfolding formulasRefusal formulasBy wholeUnless rootFits
   passed-root = below-nat s root (and-left (below s root) _ (unless-none (rootFits s root least) _ (otherwise-first _ _ h)))
 
 -- ---- the whole check

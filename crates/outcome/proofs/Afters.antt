@@ -1,10 +1,11 @@
 -- What a reader answers and leaves in its tables, as the outcome of two texts.
 use Prim.Native.Nat.{ℕ, _/_}
 use mathlib.Core.Path.{_≡_}
+use mathlib.Core.Bool.{Bool}
 use mathlib.Core.List.{List}
 use lib.IntN.{ℤ}
 use lib.ListN.{length}
-use Rattle.stab.specs.Check.{check}
+use Rattle.stab.specs.Check.{checkAs}
 use Rattle.stab.specs.Model.{checkModel}
 use Rattle.stab.specs.Read.{Reading, read, stopped, SchemaText, ProofText, ModelText, tableOf, schemaAnswer, schemaTable, proofAnswer, proofTable, nodeTable, memberTable, modelAnswer, pairTable}
 use Rattle.stab.specs.declared.Place.{Place}
@@ -19,26 +20,26 @@ use Rattle.outcome.specs.declared.Outcome.the-variants.{First, Second, J
 -- ---- the second text is a proof
 
 -- the check on tables and counts, as the code calls it
-abbrev pub judgedTableau : List ℤ → ℕ → ℤ → ℤ → List ℤ → List ℤ → List ℤ → ℕ → ℕ → ℕ → Outcome
-judgedTableau t n root least rows nodes members p k m =
-    Judged (check (record { schema = t; schemaRows = n; proof = rows; proofRows = p; root = root; least = least; nodes = nodes; nodeRows = k; members = members; memberCount = m })) n p
+abbrev pub judgedTableau : Bool → List ℤ → ℕ → ℤ → ℤ → List ℤ → List ℤ → List ℤ → ℕ → ℕ → ℕ → Outcome
+judgedTableau older t n root least rows nodes members p k m =
+    Judged (checkAs older (record { schema = t; schemaRows = n; proof = rows; proofRows = p; root = root; least = least; nodes = nodes; nodeRows = k; members = members; memberCount = m })) n p
 
-pub proof-read : (r : Reading ProofText) (t : List ℤ) (n : ℕ) (root least : ℤ) (rows nodes members : List ℤ) (p k m : ℕ)
+pub proof-read : (older : Bool) (r : Reading ProofText) (t : List ℤ) (n : ℕ) (root least : ℤ) (rows nodes members : List ℤ) (p k m : ℕ)
     → Proof p k m ≡ proofAnswer r → rows ≡ proofTable 4096 r → nodes ≡ nodeTable 9216 r → members ≡ memberTable 8192 r
-    → judgedTableau t n root least rows nodes members p k m ≡ checkAfter r t n root least
+    → judgedTableau older t n root least rows nodes members p k m ≡ checkAfter older r t n root least
 unfolding proofAnswer proofTable nodeTable memberTable tableOf checkAfter
-proof-read (read a) t n root least rows nodes members p k m e x y z =
+proof-read older (read a) t n root least rows nodes members p k m e x y z =
     let ep : p ≡ length (a .table) / 4 = cc in
     let ek : k ≡ length (a .nodes) / 9 = cc in
     let em : m ≡ length (a .members) = cc in
-    λ i. judgedTableau t n root least (x i) (y i) (z i) (ep i) (ek i) (em i)
-proof-read (stopped why l) t n root least rows nodes members p k m e x y z = cc
+    λ i. judgedTableau older t n root least (x i) (y i) (z i) (ep i) (ek i) (em i)
+proof-read older (stopped why l) t n root least rows nodes members p k m e x y z = cc
 
-pub proof-refused : (r : Reading ProofText) (t : List ℤ) (n : ℕ) (root least : ℤ) (why : Refusal) (place : Place)
-    → ProofRefused why place ≡ proofAnswer r → Second why place ≡ checkAfter r t n root least
+pub proof-refused : (older : Bool) (r : Reading ProofText) (t : List ℤ) (n : ℕ) (root least : ℤ) (why : Refusal) (place : Place)
+    → ProofRefused why place ≡ proofAnswer r → Second why place ≡ checkAfter older r t n root least
 unfolding proofAnswer checkAfter
-proof-refused (read a) t n root least why place e = cc
-proof-refused (stopped w l) t n root least why place e = cc
+proof-refused older (read a) t n root least why place e = cc
+proof-refused older (stopped w l) t n root least why place e = cc
 
 -- ---- it is a model
 

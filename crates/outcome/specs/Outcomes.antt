@@ -1,9 +1,10 @@
 -- What two texts come to, as the code goes: the schema's rows in a table, then the second text.
 use Prim.Native.Nat.{ℕ, _/_}
+use mathlib.Core.Bool.{Bool}
 use mathlib.Core.List.{List}
 use lib.IntN.{ℤ, pos}
 use lib.ListN.{length}
-use Rattle.stab.specs.Check.{check}
+use Rattle.stab.specs.Check.{checkAs}
 use Rattle.stab.specs.Model.{checkModel}
 use Rattle.stab.specs.Text.{padded}
 use Rattle.stab.specs.Read.{Reading, read, stopped, SchemaText, ProofText, ModelText, readSchema, readProof, readModel}
@@ -24,9 +25,9 @@ unfoldable pub afterSchema : (List ℤ → ℕ → ℤ → ℤ → Outcome) → 
 afterSchema next (read s) = next (padded (pos 0) 4096 (s .table)) (length (s .table) / 4) (s .root) (s .least)
 afterSchema next (stopped why k) = First why (At k)
 
-unfoldable pub checkAfter : Reading ProofText → List ℤ → ℕ → ℤ → ℤ → Outcome
-checkAfter (read p) t n root least =
-    Judged (check (record {
+unfoldable pub checkAfter : Bool → Reading ProofText → List ℤ → ℕ → ℤ → ℤ → Outcome
+checkAfter older (read p) t n root least =
+    Judged (checkAs older (record {
       schema = t;
       schemaRows = n;
       proof = padded (pos 0) 4096 (p .table);
@@ -38,10 +39,10 @@ checkAfter (read p) t n root least =
       members = padded (pos 0) 8192 (p .members);
       memberCount = length (p .members);
     })) n (length (p .table) / 4)
-checkAfter (stopped why k) t n root least = Second why (At k)
+checkAfter older (stopped why k) t n root least = Second why (At k)
 
-unfoldable pub checkOutcome : List ℕ → List ℕ → Outcome
-checkOutcome schema proof = afterSchema (checkAfter (readProof 4096 9216 8192 proof)) (readSchema 4096 schema)
+unfoldable pub checkOutcome : Bool → List ℕ → List ℕ → Outcome
+checkOutcome older schema proof = afterSchema (checkAfter older (readProof 4096 9216 8192 proof)) (readSchema 4096 schema)
 
 unfoldable pub modelAfter : Reading ModelText → List ℤ → ℕ → ℤ → ℤ → Outcome
 modelAfter (read m) t n root least =

@@ -42,9 +42,16 @@ pub fn verdict(o: Outcome) -> Verdict
     }
 }
 
-// A proof text, after a schema text whose rows stand in a table.
-fn check_after(table: &[i32], rows: usize, root: i32, least: i32, proof: &[u8]) -> Outcome
-    ensures { λ r. ⌜ r ≡ checkAfter (readProof 4096 9216 8192 (now (proof .entry))) (now (table .entry)) rows root least ⌝ }
+// A proof text, after a schema text whose rows stand in a table; of an older record or not.
+fn check_after(
+    older: bool,
+    table: &[i32],
+    rows: usize,
+    root: i32,
+    least: i32,
+    proof: &[u8],
+) -> Outcome
+    ensures { λ r. ⌜ r ≡ checkAfter older (readProof 4096 9216 8192 (now (proof .entry))) (now (table .entry)) rows root least ⌝ }
 {
     let mut more = [0i32; 4096];
     let mut nodes = [0i32; 9216];
@@ -55,7 +62,8 @@ fn check_after(table: &[i32], rows: usize, root: i32, least: i32, proof: &[u8]) 
             nodes: k,
             members: m,
         } => Outcome::Judged {
-            verdict: tableau::check::check(
+            verdict: tableau::check::check_as(
+                older,
                 table,
                 rows,
                 &more,
@@ -75,12 +83,14 @@ fn check_after(table: &[i32], rows: usize, root: i32, least: i32, proof: &[u8]) 
 }
 
 // A schema text and a proof text.
-pub fn check_outcome(schema: &[u8], proof: &[u8]) -> Outcome
-    ensures { λ r. ⌜ r ≡ checkOutcome (now (schema .entry)) (now (proof .entry)) ⌝ }
+pub fn check_outcome(older: bool, schema: &[u8], proof: &[u8]) -> Outcome
+    ensures { λ r. ⌜ r ≡ checkOutcome older (now (schema .entry)) (now (proof .entry)) ⌝ }
 {
     let mut table = [0i32; 4096];
     match read::read_schema(schema, &mut table) {
-        SchemaRead::Schema { root, least, rows } => check_after(&table, rows, root, least, proof),
+        SchemaRead::Schema { root, least, rows } => {
+            check_after(older, &table, rows, root, least, proof)
+        }
         SchemaRead::Refused { why, place } => Outcome::First { why, place },
     }
 }

@@ -2,28 +2,29 @@
 use Prim.Native.Nat.{ℕ}
 use native.Mathlib.Omega.{arith}
 use mathlib.Core.Path.{_≡_, refl, ap}
+use mathlib.Core.Bool.{Bool}
 use mathlib.Core.List.{List}
-use Rattle.stab.specs.Check.{check}
+use Rattle.stab.specs.Check.{checkAs}
 use Rattle.stab.specs.Model.{checkModel}
 use Rattle.stab.specs.Read.{Reading, read, stopped, SchemaText, ProofText, ModelText, readSchema, readProof, readModel}
 use Rattle.stab.specs.Answer.{verdictNumbers, Packs}
 use Rattle.stab.specs.Program.{printed, tableauOf, modelOf, afterReading, checkProgram, modelProgram}
-use Rattle.stab.proofs.Packed.{check-packs, model-packs}
+use Rattle.stab.proofs.Packed.{checked-packs, model-packs}
 use Rattle.outcome.specs.Outcomes.{verdictOf, afterSchema, checkAfter, checkOutcome, modelAfter, modelOutcome}
 use Rattle.stab.proofs.Entries.{Stops, stops-schema, stops-proof, stops-model}
 
 -- ---- what is printed
 
-check-numbers : (s : Reading SchemaText) (p : Reading ProofText)
-    → afterReading (λ a b. verdictNumbers (check (tableauOf a b))) s p ≡ verdictNumbers (verdictOf (afterSchema (checkAfter p) s))
+check-numbers : (older : Bool) (s : Reading SchemaText) (p : Reading ProofText)
+    → afterReading (λ a b. verdictNumbers (checkAs older (tableauOf a b))) s p ≡ verdictNumbers (verdictOf (afterSchema (checkAfter older p) s))
 unfolding afterReading afterSchema checkAfter tableauOf verdictNumbers
-check-numbers (read a) (read b) = refl
-check-numbers (read a) (stopped why k) = refl
-check-numbers (stopped why k) p = refl
+check-numbers older (read a) (read b) = refl
+check-numbers older (read a) (stopped why k) = refl
+check-numbers older (stopped why k) p = refl
 
-pub check-prints : (schema proof : List ℕ) → checkProgram schema proof ≡ printed (verdictNumbers (verdictOf (checkOutcome schema proof)))
+pub check-prints : (older : Bool) (schema proof : List ℕ) → checkProgram older schema proof ≡ printed (verdictNumbers (verdictOf (checkOutcome older schema proof)))
 unfolding checkProgram checkOutcome
-check-prints schema proof = ap printed (check-numbers (readSchema 4096 schema) (readProof 4096 9216 8192 proof))
+check-prints older schema proof = ap printed (check-numbers older (readSchema 4096 schema) (readProof 4096 9216 8192 proof))
 
 model-numbers : (s : Reading SchemaText) (m : Reading ModelText)
     → afterReading (λ a b. verdictNumbers (checkModel (modelOf a b))) s m ≡ verdictNumbers (verdictOf (afterSchema (modelAfter m) s))
@@ -38,15 +39,15 @@ model-prints schema model = ap printed (model-numbers (readSchema 4096 schema) (
 
 -- ---- how large its numbers are
 
-check-small : (s : Reading SchemaText) (p : Reading ProofText) → Stops 4100 s → Stops 4100 p → Packs (verdictOf (afterSchema (checkAfter p) s))
+check-small : (older : Bool) (s : Reading SchemaText) (p : Reading ProofText) → Stops 4100 s → Stops 4100 p → Packs (verdictOf (afterSchema (checkAfter older p) s))
 unfolding afterSchema checkAfter
-check-small (read a) (read b) u v = check-packs _
-check-small (read a) (stopped why k) u v = omega arith
-check-small (stopped why k) p u v = omega arith
+check-small older (read a) (read b) u v = checked-packs older _
+check-small older (read a) (stopped why k) u v = omega arith
+check-small older (stopped why k) p u v = omega arith
 
-pub check-outcome-packs : (schema proof : List ℕ) → Packs (verdictOf (checkOutcome schema proof))
+pub check-outcome-packs : (older : Bool) (schema proof : List ℕ) → Packs (verdictOf (checkOutcome older schema proof))
 unfolding checkOutcome
-check-outcome-packs schema proof = check-small (readSchema 4096 schema) (readProof 4096 9216 8192 proof) (stops-schema 4096 schema) (stops-proof 4096 9216 8192 proof)
+check-outcome-packs older schema proof = check-small older (readSchema 4096 schema) (readProof 4096 9216 8192 proof) (stops-schema 4096 schema) (stops-proof 4096 9216 8192 proof)
 
 model-small : (s : Reading SchemaText) (m : Reading ModelText) → Stops 4100 s → Stops 4100 m → Packs (verdictOf (afterSchema (modelAfter m) s))
 unfolding afterSchema modelAfter

@@ -81,6 +81,9 @@ fn check_points(s: usize, p: usize, why: Refusal, k: usize) -> Fault
     if among(9, 17, why) {
         return in_second(line::node_line(p, k));
     }
+    if among(27, 27, why) {
+        return row_fault(s, k);
+    }
     none()
 }
 

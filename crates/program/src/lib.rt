@@ -12,13 +12,13 @@ ghost use Rattle.stab.specs.Text.{padded};
 ghost use Rattle.stab.specs.Program.{checkProgram, modelProgram, checkFault, modelFault};
 ghost use Rattle.printing.specs.Printing.{Counts};
 
-// What the check program prints for the bytes of schema.txt and of proof.txt: how many bytes, and those, with 0 past them.
-pub fn check_texts(schema: &[u8], proof: &[u8], out: &mut [u8; 64]) -> usize
-    ensures count { λ r. ⌜ r ≡ length (checkProgram (now (schema .entry)) (now (proof .entry))) ⌝ }
-    ensures text { λ r. ⌜ now (out .exit) ≡ padded 0 64 (checkProgram (now (schema .entry)) (now (proof .entry))) ⌝ }
+// What the check program, or the one for older records, prints for the bytes of schema.txt and of proof.txt: how many bytes, and those, with 0 past them.
+pub fn check_texts(older: bool, schema: &[u8], proof: &[u8], out: &mut [u8; 64]) -> usize
+    ensures count { λ r. ⌜ r ≡ length (checkProgram older (now (schema .entry)) (now (proof .entry))) ⌝ }
+    ensures text { λ r. ⌜ now (out .exit) ≡ padded 0 64 (checkProgram older (now (schema .entry)) (now (proof .entry))) ⌝ }
     ensures within { λ r. ⌜ Counts r (now (out .exit)) ⌝ }
 {
-    print(verdict(check_outcome(schema, proof)), out)
+    print(verdict(check_outcome(older, schema, proof)), out)
 }
 
 // What the model check program prints for the bytes of schema.txt and of model.txt.
@@ -30,11 +30,11 @@ pub fn model_texts(schema: &[u8], model: &[u8], out: &mut [u8; 64]) -> usize
     print(verdict(model_outcome(schema, model)), out)
 }
 
-// Where the check program's refusal points.
-pub fn check_fault(schema: &[u8], proof: &[u8]) -> Fault
-    ensures { λ r. ⌜ r ≡ checkFault (now (schema .entry)) (now (proof .entry)) ⌝ }
+// Where the refusal of either points.
+pub fn check_fault(older: bool, schema: &[u8], proof: &[u8]) -> Fault
+    ensures { λ r. ⌜ r ≡ checkFault older (now (schema .entry)) (now (proof .entry)) ⌝ }
 {
-    fault::checked(check_outcome(schema, proof))
+    fault::checked(check_outcome(older, schema, proof))
 }
 
 // Where the model check program's refusal points.

@@ -70,11 +70,11 @@ module _ (name : List ℕ) (named-short : length name ≤ 10) where
       whole-told name k (lineOf text k) 65600 a (omega arith)
       (omega (arith, told-length name k (lineOf text k), line-most text k, decimal-most (pos k)))
 
-  pub check-whole : (schema proof : List ℕ) →
-      let f = checkFault schema proof in
+  pub check-whole : (older : Bool) (schema proof : List ℕ) →
+      let f = checkFault older schema proof in
       let line = lineOf (named (f .second) schema proof) (f .line) in
       1 ≤ f .line → toldIn 65600 name (f .line) line ≡ told name (f .line) line
-  check-whole schema proof l = line-whole _ _ (unfold checkFault readSchema readProof in fault-short _ _ _ schema proof (limited _ _ schema) (limited _ _ proof) l) l (check-fault-fits schema proof)
+  check-whole older schema proof l = line-whole _ _ (unfold checkFault readSchema readProof in fault-short _ _ _ schema proof (limited _ _ schema) (limited _ _ proof) l) l (check-fault-fits older schema proof)
 
   pub model-whole : (schema model : List ℕ) →
       let f = modelFault schema model in

@@ -1,3 +1,4 @@
 pub mod Signs
 pub mod Tables
 pub mod Makes
+pub mod Ranks

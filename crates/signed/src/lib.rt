@@ -7,7 +7,7 @@ ghost use lib.Signed.{ltZ};
 ghost use Prim.Native.Nat.{_<_, _≤_, _^_};
 ghost use Rattle.stab.specs.Basic.{eqZ, nat};
 ghost use Rattle.stab.specs.Check.{holds as tableHolds};
-ghost use Rattle.signed.specs.Numbers.{signedOf, cleared};
+ghost use Rattle.signed.specs.Numbers.{signedOf, rankOf, cleared};
 
 // What stands at i in a lent table, and 0 past its end.
 pub fn at(t: &[i32], i: usize) -> i32
@@ -54,6 +54,13 @@ pub fn under(z: i32) -> usize
     if z < 0 { natural(mirrored(z)) + 1 } else { 0 }
 }
 
+// How far a whole number lies above the least of 32 bits.
+fn rank(z: i32) -> usize
+    ensures { λ r. ⌜ (r ≡ rankOf z) × (r < 2 ^ 32) ⌝ }
+{
+    (z as i64 + 2147483648) as usize
+}
+
 // The two are the same number.
 pub fn equal(a: i32, b: i32) -> bool
     ensures { λ r. ⌜ r ≡ eqZ a b ⌝ }
@@ -80,6 +87,13 @@ pub fn under_at(t: &[i32], i: usize) -> usize
     ensures { λ r. ⌜ r ≡ nat (negℤ (getD (now (t .entry)) i (pos 0))) ⌝ }
 {
     under(at(t, i))
+}
+
+// How far it lies above the least number.
+pub fn rank_at(t: &[i32], i: usize) -> usize
+    ensures { λ r. ⌜ (r ≡ rankOf (getD (now (t .entry)) i (pos 0))) × (r < 2 ^ 32) ⌝ }
+{
+    rank(at(t, i))
 }
 
 // It is z.

@@ -11,7 +11,7 @@ use lib.Signed.{_≤ℤ_}
 use Rattle.stab.specs.Basic.{eqZ, nat}
 use Rattle.stab.specs.Node.{Tableau, Bound, node, bound}
 use Rattle.stab.specs.Rule.{entry, ruleTable, ruleOf, rule, ofRule, drawn, fieldsFit, targetFits, loopFits, boundFits, partnersFit, loweredFits, childrenFit}
-use Rattle.stab.specs.Check.{nodeRefusal, stepRefusal, refusalBy, checkBy, verdict, check, linkCount}
+use Rattle.stab.specs.Check.{nodeRefusal, stepRefusal, refusalWith, olderFormulas, checkWith, verdict, checkOlder, linkCount}
 use Rattle.stab.specs.AncestorLink.{Ancestor, parent, further, targetAbove, loopAbove, boundAbove, stepRefusalAbove, nodeRefusalAbove, checkAbove}
 use Rattle.stab.specs.Keeps.{KeepsParent}
 use Rattle.stab.specs.declared.Refusal.the-variants.{Drawn, Fields, Target, Bound as BoundWrong, Partner, Lowered, Children}
@@ -169,10 +169,10 @@ module _ (T : Tableau) (parents : (k : ℕ) → k < T .nodeRows → KeepsParent 
 -- ---- the theorem
 
 -- 02, No. 6: tableaux that were accepted are accepted, with the same counts, whatever their numbers
-pub ancestor-links-accepted : (T : Tableau) (n l : ℕ) → checkAbove T ≡ Accepted n l → check T ≡ Accepted n l
-unfolding checkAbove check checkBy nodeRefusalAbove stepRefusalAbove verdict
+pub ancestor-links-accepted : (T : Tableau) (n l : ℕ) → checkAbove T ≡ Accepted n l → checkOlder T ≡ Accepted n l
+unfolding checkAbove checkOlder checkWith nodeRefusalAbove stepRefusalAbove verdict
 ancestor-links-accepted T n l h =
     let a =
-    accepted (refusalBy nodeRefusalAbove T) (T .nodeRows) (linkCount T) n l
+    accepted (refusalWith olderFormulas nodeRefusalAbove T) (T .nodeRows) (linkCount T) n l
     (of-refusal-by nodeRefusalAbove T (λ j. of-tests j _ _ _ _ _ _ _)) h in
     rw (refusal-by-kept nodeRefusalAbove nodeRefusal T (λ parents found j m. node-kept T parents (λ k p. above-clears T k (found k p)) j m) (a .0), a .1, a .2)

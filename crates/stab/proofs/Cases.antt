@@ -3,6 +3,7 @@
 use Prim.Native.Nat.{ℕ}
 use Prim.Native.String.{String}
 use mathlib.Core.Path.{_≡_, refl}
+use mathlib.Core.Bool.{false}
 use mathlib.Core.List.{List, [], _∷_, _++_}
 use Rattle.stab.specs.Text.{bytes}
 use Rattle.stab.specs.Program.{checkProgram, modelProgram}
@@ -38,22 +39,22 @@ answer numbers = bytes "answer place nodes links\n" ++ bytes numbers ++ bytes "\
 
 pub computed : List (List ℕ)
 computed =
-    checkProgram (schema "4 1") (proof node₄ node₅ node₆) ∷
+    checkProgram false (schema "4 1") (proof node₄ node₅ node₆) ∷
     -- least 0, least 2
-    checkProgram (schema "4 0") (proof node₄ node₅ node₆) ∷
-    checkProgram (schema "4 2") (proof node₄ node₅ node₆) ∷
+    checkProgram false (schema "4 0") (proof node₄ node₅ node₆) ∷
+    checkProgram false (schema "4 2") (proof node₄ node₅ node₆) ∷
     -- node 5 by 2; its set 5
-    checkProgram (schema "4 1") (proof node₄ "4 8 -1 -1 -1 1 2 5 7\n" node₆) ∷
-    checkProgram (schema "4 1") (proof node₄ "4 8 -1 -1 -1 1 1 5\n" node₆) ∷
+    checkProgram false (schema "4 1") (proof node₄ "4 8 -1 -1 -1 1 2 5 7\n" node₆) ∷
+    checkProgram false (schema "4 1") (proof node₄ "4 8 -1 -1 -1 1 1 5\n" node₆) ∷
     -- node 6 on 8 with 6
-    checkProgram (schema "4 1") (proof node₄ node₅ "4 6 8 6 -1 -1 0 6 8\n") ∷
+    checkProgram false (schema "4 1") (proof node₄ node₅ "4 6 8 6 -1 -1 0 6 8\n") ∷
     -- node 4's other 8
-    checkProgram (schema "4 1") (proof "3 4 2 5 8 -1 0 2 7 8\n" node₅ node₆) ∷
+    checkProgram false (schema "4 1") (proof "3 4 2 5 8 -1 0 2 7 8\n" node₅ node₆) ∷
     -- last row gone
-    checkProgram (schema "4 1") (proof node₄ node₅ "") ∷
+    checkProgram false (schema "4 1") (proof node₄ node₅ "") ∷
     -- node 6's set 6 7 8; 5 6 8
-    checkProgram (schema "4 1") (proof node₄ node₅ "4 6 6 8 -1 -1 0 6 7 8\n") ∷
-    checkProgram (schema "4 1") (proof node₄ node₅ "4 6 6 8 -1 -1 0 5 6 8\n") ∷
+    checkProgram false (schema "4 1") (proof node₄ node₅ "4 6 6 8 -1 -1 0 6 7 8\n") ∷
+    checkProgram false (schema "4 1") (proof node₄ node₅ "4 6 6 8 -1 -1 0 5 6 8\n") ∷
     -- models with no pair: n = 1; root 3, n = 1
     modelProgram (schema "4 1") (bytes "n\n1\nsymbol index\n") ∷
     modelProgram (schema "3 1") (bytes "n\n1\nsymbol index\n") ∷ []

@@ -15,7 +15,7 @@ use Rattle.stab.specs.Text.{Line, lines, numbers, textLimit}
 use Rattle.stab.specs.Read.{Reading, read, stopped, _andThen_, require, headingAt, valuesOf, values, valuesAt, rowsFrom, nodesFrom, proofRowsFrom, readSchemaLines, readProofLines, readModelLines, readText, readSchema, readProof, readModel, schemaAnswer, proofAnswer, modelAnswer}
 use Rattle.stab.specs.Write.{writingOf, writing, outputRefusal, written}
 use Rattle.stab.specs.Answer.{Numbers, WrittenNumbers, refusedNumbers, verdictNumbers, schemaNumbers, proofNumbers, modelNumbers, writtenNumbers, oneNumber, packed, answerIn, placeIn, numbersIn, Packs}
-use Rattle.stab.specs.Check.{check}
+use Rattle.stab.specs.Check.{checkAs}
 use Rattle.stab.specs.Model.{checkModel}
 use Rattle.stab.specs.LineNumber.{schemaRowLine, proofRowLine, nodeLine, pairLine}
 use Rattle.stab.specs.Program.{tableauOf, modelOf, noFault, inFirst, inSecond, rowFault, among, checkPoints, modelPoints, verdictFault, faultAfterReading, checkFault, modelFault}
@@ -36,7 +36,7 @@ use Rattle.stab.specs.declared.ModelRead.{ModelRead}
 use Rattle.stab.specs.declared.ModelRead.the-variants.{Model, Refused as ModelRefused}
 use Rattle.stab.proofs.Bools.{and-left, and-right, unless-none, otherwise-second}
 use Rattle.stab.proofs.Texts.{schema-counts, proof-counts, model-counts}
-use Rattle.stab.proofs.Packed.{check-packs, model-packs, packed-refusal, read-back}
+use Rattle.stab.proofs.Packed.{checked-packs, model-packs, packed-refusal, read-back}
 
 -- ---- a refusal in reading is at line b or above it
 
@@ -243,7 +243,8 @@ unfolding checkPoints rowFault noFault inFirst inSecond schemaRowLine proofRowLi
 check-points-fit S P few why k h =
     if-fits 16384 (among 7 8 why) _ _
     (if-fits 16384 _ _ _ (omega arith) (omega arith))
-    (if-fits 16384 (among 9 17 why) _ _ (omega arith) (omega arith))
+    (if-fits 16384 (among 9 17 why) _ _ (omega arith)
+    (if-fits 16384 (among 27 27 why) _ _ (if-fits 16384 _ _ _ (omega arith) (omega arith)) (omega arith)))
 
 model-points-fit : (why : Refusal) (k : ℕ) → k + 1 < 8192 → modelPoints why k .line < 16384
 unfolding modelPoints noFault inFirst inSecond schemaRowLine pairLine
@@ -263,13 +264,13 @@ after-fits judge (read a) (read b) h g j = j a b refl
 after-fits judge (read a) (stopped why k) h g j = omega arith
 after-fits judge (stopped why k) s h g j = omega arith
 
-pub check-fault-fits : (schema proof : List ℕ) → checkFault schema proof .line < 16384
+pub check-fault-fits : (older : Bool) (schema proof : List ℕ) → checkFault older schema proof .line < 16384
 unfolding checkFault
-check-fault-fits schema proof =
+check-fault-fits older schema proof =
     after-fits _ (readSchema 4096 schema) (readProof 4096 9216 8192 proof) (stops-schema 4096 schema) (stops-proof 4096 9216 8192 proof)
     (λ a b e.
     let c = proof-counts 4096 9216 8192 proof b e in
-    verdict-fits _ (check-points-fit (length (a .table) / 4) (length (b .table) / 4) (omega (arith, c .0, c .1))) (check (tableauOf a b)) (check-packs _))
+    verdict-fits _ (check-points-fit (length (a .table) / 4) (length (b .table) / 4) (omega (arith, c .0, c .1))) (checkAs older (tableauOf a b)) (checked-packs older _))
 
 pub model-fault-fits : (schema model : List ℕ) → modelFault schema model .line < 16384
 unfolding modelFault

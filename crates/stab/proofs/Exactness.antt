@@ -8,22 +8,33 @@ pub mod Refusals
 use Prim.Native.Nat.{ℕ}
 use mathlib.Core.Path.{_≡_}
 use mathlib.Core.Logic.{_↔_}
-use mathlib.Core.Option.{none}
 use Rattle.stab.specs.Node.{Tableau}
-use Rattle.stab.specs.Check.{refusal, linkCount, verdict, checkBy, check}
+use Rattle.stab.specs.Check.{linkCount, verdict, nodeRefusal, refusalWith, olderFormulas, presentFormulas, checkWith, check, checkOlder}
 use Rattle.stab.specs.Model.{Model, modelRefusal, checkModel}
-use Rattle.stab.specs.Keeps.{Keeps, KeepsModel}
+use Rattle.stab.specs.Keeps.{KeepsOlder, Keeps, KeepsModel}
 use Rattle.stab.specs.declared.Verdict.the-variants.{Accepted}
-use Checked.{tableau-clears}
+use Checked.{older-clears, tableau-clears}
 use Models.{model-clears}
-use Refusals.{of-refusal, of-model-refusal, accepted}
+use Refusals.{of-older-refusal, of-refusal, of-model-refusal, accepted}
 
 -- the check accepts exactly the records that keep the rules, and says how many nodes and links they have
 pub accepts-exactly : (T : Tableau) (n l : ℕ) → (check T ≡ Accepted n l) ↔ (Keeps T × (n ≡ T .nodeRows) × (l ≡ linkCount T))
-unfolding check checkBy refusal verdict
+unfolding check checkWith verdict
 accepts-exactly T n l = (
-  λ h. let a = accepted (refusal T) (T .nodeRows) (linkCount T) n l (of-refusal T) h in (tableau-clears T .0 (a .0), a .1, a .2),
+  λ h.
+      let a = accepted (refusalWith presentFormulas nodeRefusal T) (T .nodeRows) (linkCount T) n l (of-refusal T) h in
+      (tableau-clears T .0 (a .0), a .1, a .2),
   λ p. rw (tableau-clears T .1 (p .0), p .1, p .2),
+)
+
+-- the older check exactly those that keep document 01's rules, as 02, Nos. 3 to 6 amend them
+pub older-accepts-exactly : (T : Tableau) (n l : ℕ) → (checkOlder T ≡ Accepted n l) ↔ (KeepsOlder T × (n ≡ T .nodeRows) × (l ≡ linkCount T))
+unfolding checkOlder checkWith verdict
+older-accepts-exactly T n l = (
+  λ h.
+      let a = accepted (refusalWith olderFormulas nodeRefusal T) (T .nodeRows) (linkCount T) n l (of-older-refusal T) h in
+      (older-clears T .0 (a .0), a .1, a .2),
+  λ p. rw (older-clears T .1 (p .0), p .1, p .2),
 )
 
 -- the model check accepts exactly the models that are right
@@ -38,7 +49,3 @@ model-accepts-exactly M = (
 pub model-counts-zero : (M : Model) (n l : ℕ) → checkModel M ≡ Accepted n l → (n ≡ 0) × (l ≡ 0)
 unfolding checkModel
 model-counts-zero M n l h = let a = accepted (modelRefusal M) 0 0 n l (of-model-refusal M) h in (a .1, a .2)
-
--- where nothing is found, the rules are kept
-pub keeps-of : (T : Tableau) → refusal T ≡ none → Keeps T
-keeps-of T = tableau-clears T .0

@@ -11,7 +11,7 @@ use Rattle.stab.specs.Formula.{Formula, const, lit, join, iter}
 use Rattle.stab.specs.Alike.{lower, eqOp, alike}
 use Rattle.stab.specs.Node.{Tableau, row, formula, node, set}
 use Rattle.stab.specs.Rule.{shortened, isInstance, partnersFit, isLowered, hasLowered, loweredFits}
-use Rattle.stab.specs.Check.{atUnless, stepRefusal, nodeRefusal, refusalBy, checkBy, verdict, check, linkCount}
+use Rattle.stab.specs.Check.{atUnless, stepRefusal, nodeRefusal, refusalWith, olderFormulas, checkWith, verdict, checkOlder, linkCount}
 use Rattle.stab.specs.InOrder.{agree, partnersInOrder, hasLoweredInOrder, loweredInOrder, stepRefusalInOrder, nodeRefusalInOrder, checkInOrder}
 use Rattle.stab.specs.declared.Refusal.{Refusal}
 use Rattle.stab.specs.declared.Verdict.{Verdict}
@@ -97,16 +97,16 @@ node-kept : (T : Tableau) (j : ℕ) → nodeRefusalInOrder T j clears-too nodeRe
 unfolding nodeRefusalInOrder nodeRefusal
 node-kept T j = step-kept T j both (λ h. h)
 
-refusal-kept : (T : Tableau) → refusalBy nodeRefusalInOrder T clears-too refusalBy nodeRefusal T
+refusal-kept : (T : Tableau) → refusalWith olderFormulas nodeRefusalInOrder T clears-too refusalWith olderFormulas nodeRefusal T
 refusal-kept T = refusal-by-kept nodeRefusalInOrder nodeRefusal T (λ parents found j l. node-kept T j (found j l))
 
 -- ---- the theorem
 
 -- 02, No. 4: links and unfoldings that were accepted are accepted, for every tableau, whatever its numbers
-pub in-order-accepted : (T : Tableau) (n l : ℕ) → checkInOrder T ≡ Accepted n l → check T ≡ Accepted n l
-unfolding checkInOrder check checkBy nodeRefusalInOrder stepRefusalInOrder verdict
+pub in-order-accepted : (T : Tableau) (n l : ℕ) → checkInOrder T ≡ Accepted n l → checkOlder T ≡ Accepted n l
+unfolding checkInOrder checkOlder checkWith nodeRefusalInOrder stepRefusalInOrder verdict
 in-order-accepted T n l h =
     let a =
-    accepted (refusalBy nodeRefusalInOrder T) (T .nodeRows) (linkCount T) n l
+    accepted (refusalWith olderFormulas nodeRefusalInOrder T) (T .nodeRows) (linkCount T) n l
     (of-refusal-by nodeRefusalInOrder T (λ j. of-tests j _ _ _ _ _ _ _)) h in
     rw (refusal-kept T (a .0), a .1, a .2)

@@ -16,6 +16,7 @@ pub mod Ranges
 -- The theorems of docs/THEOREMS.md.
 pub mod Soundness
 pub mod Exactness
+pub mod Olders
 pub mod AncestorLinks
 pub mod OpenTargets
 pub mod InOrders

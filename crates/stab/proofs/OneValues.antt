@@ -13,7 +13,7 @@ use Rattle.stab.specs.Formula.{Row}
 use Rattle.stab.specs.Node.{Tableau, Node, Bound, row, nodeAt, node, rank, isUpper, isExact, splitAt, splitBound, childBound, firstBound, boundOf, bound}
 use Rattle.stab.specs.Rule.{ofRule, fieldsFit, staysBelow, splitFits, unfoldFits, clashFits, voidFits, boundFits}
 use Rattle.stab.specs.AncestorLink.{targetAbove, loopAbove, boundAbove, stepRefusalAbove, nodeRefusalAbove, checkAbove}
-use Rattle.stab.specs.Check.{atUnless, checkBy, verdict, linkCount}
+use Rattle.stab.specs.Check.{atUnless, checkWith, verdict, linkCount}
 use Rattle.stab.specs.OneValue.{OpenOrExact, splitOne, childOne, firstOne, boundOne, fieldsFitOne, splitFitsOne, voidFitsOne, boundFitsOne, stepRefusalOne, nodeRefusalOne, checkOne}
 use Rattle.stab.specs.Keeps.{KeepsParent, Splits}
 use Rattle.stab.specs.declared.Refusal.the-variants.{Bound as BoundWrong, Fields, Target}
@@ -206,7 +206,7 @@ module _ (T : Tableau) (parents : (k : ℕ) → k < T .nodeRows → KeepsParent 
 
 -- 02, No. 5: "by 0 stands for K = L, so stored tableaux read as before", for every tableau, whatever its numbers
 pub stored-as-before : (T : Tableau) → ((j : ℕ) → j < T .nodeRows → node T j .rule ≡ pos 2 → node T j .by ≡ pos 0) → checkAbove T ≡ checkOne T
-unfolding checkAbove checkOne checkBy
+unfolding checkAbove checkOne checkWith
 stored-as-before T zeros =
     ap (λ (x : Option Verdict). verdict x (Accepted (T .nodeRows) (linkCount T)))
     (sym (refusal-by-same nodeRefusalOne nodeRefusalAbove T (λ parents j l before. same-node T parents zeros j l before)))

@@ -11,7 +11,7 @@ use lib.Signed.{leZ, _≤ℤ_}
 use Rattle.stab.specs.Basic.{_and_, nat}
 use Rattle.stab.specs.Node.{Tableau, Bound, node, isExact, bound}
 use Rattle.stab.specs.Rule.{fieldsFit}
-use Rattle.stab.specs.Check.{atUnless, checkBy, verdict, linkCount}
+use Rattle.stab.specs.Check.{atUnless, checkWith, verdict, linkCount}
 use Rattle.stab.specs.AncestorLink.{Ancestor, targetAbove, loopAbove, boundAbove, stepRefusalAbove, nodeRefusalAbove, checkAbove}
 use Rattle.stab.specs.OpenTarget.{targetOpen, stepRefusalOpen, nodeRefusalOpen, checkOpen}
 use Rattle.stab.specs.Keeps.{KeepsParent, KeepsStep}
@@ -105,7 +105,7 @@ module _ (T : Tableau) (parents : (k : ℕ) → k < T .nodeRows → KeepsParent 
 
 -- 02, No. 3: "Every verdict and place is the same.", for every tableau, whatever its numbers
 pub open-needless : (T : Tableau) → checkOpen T ≡ checkAbove T
-unfolding checkOpen checkAbove checkBy
+unfolding checkOpen checkAbove checkWith
 open-needless T =
     ap (λ (x : Option Verdict). verdict x (Accepted (T .nodeRows) (linkCount T)))
     (refusal-by-same nodeRefusalOpen nodeRefusalAbove T (same-node T))

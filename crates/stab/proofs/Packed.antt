@@ -3,29 +3,30 @@
 use Prim.Native.Nat.{ℕ, _+_, _*_, _/_, _%_, _<_, _≤_}
 use native.Mathlib.Omega.{arith}
 use mathlib.Core.Path.{_≡_, refl, sym, _∙_, ap, subst}
+use mathlib.Core.Bool.{Bool, true, false}
 use mathlib.Core.Option.{Option, none, some}
 use lib.IntN.{pos, _+ℤ_, _-ℤ_}
-use Rattle.stab.specs.Basic.{nat}
+use Rattle.stab.specs.Basic.{if_then_else_, nat}
 use Rattle.stab.specs.Node.{Tableau}
-use Rattle.stab.specs.Check.{refusal, checkBy, check, verdict, linkCount}
+use Rattle.stab.specs.Check.{nodeRefusal, refusalWith, olderFormulas, presentFormulas, checkWith, check, checkOlder, checkAs, verdict, linkCount}
 use Rattle.stab.specs.Model.{Model, modelRefusal, checkModel}
 use Rattle.stab.specs.Answer.{Numbers, refusalNumber, placeNumber, refusedNumbers, verdictNumbers, oneNumber, packed, answerIn, numbersIn, placeCode, Packs}
 use Rattle.stab.specs.Refuted.{Refuted, SameSchema, Irrefutable}
 use Rattle.stab.specs.declared.Place.{Place}
 use Rattle.stab.specs.declared.Place.the-variants.{Whole, At}
 use Rattle.stab.specs.declared.Refusal.{Refusal}
-use Rattle.stab.specs.declared.Refusal.the-variants.{TextTooLong, TableTooShort, Heading, Line, TooMany, Root, IllFormed, TooLarge, Set, Parent, Drawn, Fields, Target, Bound, Partner, Lowered, Children, Pair, Width, False, Number, Output}
+use Rattle.stab.specs.declared.Refusal.the-variants.{TextTooLong, TableTooShort, Heading, Line, TooMany, Root, IllFormed, TooLarge, Set, Parent, Drawn, Fields, Target, Bound, Partner, Lowered, Children, Pair, Width, False, Number, Output, Repeated}
 use Rattle.stab.specs.declared.Verdict.{Verdict}
 use Rattle.stab.specs.declared.Verdict.the-variants.{Accepted, Refused}
 use Rattle.stab.proofs.Whole.{num, _⊖_, eq-of}
 use Rattle.stab.proofs.Scans.{count-le}
-use Rattle.stab.proofs.Soundness.{sound, no-model}
-use Rattle.stab.proofs.Exactness.{keeps-of}
-use Rattle.stab.proofs.Exactness.Refusals.{Near, IsRefused, of-refusal, of-model-refusal}
+use Rattle.stab.proofs.Soundness.{sound, sound-older, no-model}
+use Rattle.stab.proofs.Exactness.Checked.{older-clears, tableau-clears}
+use Rattle.stab.proofs.Exactness.Refusals.{Near, IsRefused, of-older-refusal, of-refusal, of-model-refusal}
 
--- ---- a refusal's number is from 1 to 22
+-- ---- a refusal's number is from 1 to 27
 
-pub number-range : (w : Refusal) → (1 ≤ refusalNumber w) × (refusalNumber w ≤ 22)
+pub number-range : (w : Refusal) → (1 ≤ refusalNumber w) × (refusalNumber w ≤ 27)
 number-range TextTooLong = (omega arith, omega arith)
 number-range TableTooShort = (omega arith, omega arith)
 number-range Heading = (omega arith, omega arith)
@@ -48,6 +49,7 @@ number-range Width = (omega arith, omega arith)
 number-range False = (omega arith, omega arith)
 number-range Number = (omega arith, omega arith)
 number-range Output = (omega arith, omega arith)
+number-range Repeated = (omega arith, omega arith)
 
 -- ---- the verdicts pack
 
@@ -58,15 +60,27 @@ near-packs why (At k) h = omega arith
 found-packs : (v : Verdict) → IsRefused v → Packs v
 found-packs v r = subst Packs (sym (r .2)) (near-packs (r .0) (r .1) (r .3))
 
+-- whatever is found packs, and an acceptance where few nodes are kept
+packs-of : (T : Tableau) (x : Option Verdict) → (x ≡ none → T .nodeRows ≤ 1024) → ((v : Verdict) → x ≡ some v → IsRefused v) → Packs (verdict x (Accepted (T .nodeRows) (linkCount T)))
+unfolding verdict linkCount
+packs-of T none few found =
+    (omega (arith, few refl), omega (arith, few refl, count-le (Rattle.stab.specs.Check.isLink (T .nodes)) (T .nodeRows)))
+packs-of T (some v) few found = found-packs v (found v refl)
+
 pub check-packs : (T : Tableau) → Packs (check T)
-unfolding check checkBy refusal verdict linkCount
-check-packs T = go (refusal T) refl
-  where
-    go : (x : Option Verdict) → refusal T ≡ x → Packs (verdict x (Accepted (T .nodeRows) (linkCount T)))
-    go none e =
-        let k = keeps-of T e in
-        (omega (arith, k .tables .nodeLimit), omega (arith, k .tables .nodeLimit, count-le (Rattle.stab.specs.Check.isLink (T .nodes)) (T .nodeRows)))
-    go (some v) e = found-packs v (of-refusal T v e)
+unfolding check checkWith
+check-packs T =
+    packs-of T (refusalWith presentFormulas nodeRefusal T) (λ e. tableau-clears T .0 e .older .tables .nodeLimit) (of-refusal T)
+
+pub older-packs : (T : Tableau) → Packs (checkOlder T)
+unfolding checkOlder checkWith
+older-packs T =
+    packs-of T (refusalWith olderFormulas nodeRefusal T) (λ e. older-clears T .0 e .tables .nodeLimit) (of-older-refusal T)
+
+pub checked-packs : (older : Bool) (T : Tableau) → Packs (checkAs older T)
+unfolding checkAs if_then_else_
+checked-packs true T = older-packs T
+checked-packs false T = check-packs T
 
 pub model-packs : (M : Model) → Packs (checkModel M)
 unfolding checkModel verdict
@@ -131,13 +145,18 @@ accepted-packed n l p = omega (arith, packed-acceptance n l, p .0, p .1)
 pub packed-sound : (T : Tableau) → answerIn (packed (check T)) ≡ 0 → Refuted (T .schema) (T .root) (T .least)
 packed-sound T h = let a = packed-accepted (check T) (check-packs T) h in sound T (a .0) (a .1) (a .2)
 
+pub packed-sound-older : (T : Tableau) → answerIn (packed (checkOlder T)) ≡ 0 → Refuted (T .schema) (T .root) (T .least)
+packed-sound-older T h = let a = packed-accepted (checkOlder T) (older-packs T) h in sound-older T (a .0) (a .1) (a .2)
+
 -- If the model check's answer is 0, no tableau of the same schema rows, root and least value is accepted.
 pub packed-no-model : (M : Model) → answerIn (packed (checkModel M)) ≡ 0 → Irrefutable (M .schema) (M .schemaRows) (M .root) (M .least)
 packed-no-model M h = let a = packed-accepted (checkModel M) (model-packs M) h in no-model M (a .0) (a .1) (a .2)
 
 -- The two numbers of a tableau and a model of the same schema rows, root and least value do not both have answer 0.
+-- Nor do those of the older check and a model.
 pub packed-not-both : (T : Tableau) (M : Model) → SameSchema T (M .schema) (M .schemaRows) (M .root) (M .least)
-    → answerIn (packed (check T)) ≡ 0 → answerIn (packed (checkModel M)) ≡ 0 → ⊥
-packed-not-both T M same h g =
-    let a = packed-accepted (check T) (check-packs T) h in
-    packed-no-model M g T same (a .0) (a .1) (a .2)
+    → answerIn (packed (checkModel M)) ≡ 0 → (answerIn (packed (check T)) ≡ 0 → ⊥) × (answerIn (packed (checkOlder T)) ≡ 0 → ⊥)
+packed-not-both T M same g = (
+  λ h. let a = packed-accepted (check T) (check-packs T) h in packed-no-model M g T same (a .0) (a .1) .0 (a .2),
+  λ h. let a = packed-accepted (checkOlder T) (older-packs T) h in packed-no-model M g T same (a .0) (a .1) .1 (a .2),
+)

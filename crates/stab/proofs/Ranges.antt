@@ -8,7 +8,7 @@ use mathlib.Core.Option.{Option, none, some, Option·none-ne-some, Option·some-
 use lib.IntN.{ℤ, pos}
 use Rattle.stab.specs.Basic.{eqZ, nat, below}
 use Rattle.stab.specs.Node.{Tableau, Node, Bound, node, nodeAt, rank, AtMost, Satisfies, splitAt, splitBound, childBound, firstBound, boundOf, bound}
-use Rattle.stab.specs.Keeps.{KeepsParent, Splits, Keeps}
+use Rattle.stab.specs.Keeps.{KeepsParent, Splits, KeepsOlder}
 use Rattle.stab.proofs.Bools.{decide, if-true, if-false}
 use Rattle.stab.proofs.Whole.{eqZ-true}
 use Rattle.stab.proofs.Trees.{below-nat, below-pos, below-of}
@@ -117,7 +117,7 @@ module _ (T : Tableau) (parents : (k : ℕ) → k < T .nodeRows → KeepsParent 
 
 -- ---- 02, No. 5: in a tableau that keeps the rules
 
-module _ (T : Tableau) (K : Keeps T) where
+module _ (T : Tableau) (K : KeepsOlder T) where
   right-splits : (j : ℕ) → j < T .nodeRows → RightSplits T (λ x y. K .nodes x y .parent) j
   right-splits j l k p r = K .nodes k (omega arith) .step .split r
 

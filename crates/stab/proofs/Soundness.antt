@@ -13,23 +13,23 @@ use Rattle.stab.specs.Basic.{_and_, nat, below}
 use Rattle.stab.specs.Formula.{rowAt, joined, tree}
 use Rattle.stab.specs.Meaning.{Assignment, truth}
 use Rattle.stab.specs.Node.{Tableau, Bound, rows, formula, node, bound, firstBound, AtMost, Satisfies}
-use Rattle.stab.specs.Check.{check}
+use Rattle.stab.specs.Check.{check, checkOlder}
 use Rattle.stab.specs.Model.{Model, schemaRow, assignment, satisfied, checkModel}
-use Rattle.stab.specs.Keeps.{Keeps}
-use Rattle.stab.specs.Refuted.{Refuted, Irrefutable}
+use Rattle.stab.specs.Keeps.{KeepsOlder}
+use Rattle.stab.specs.Refuted.{Refuted, SameSchema, Irrefutable}
 use Rattle.stab.specs.declared.Verdict.the-variants.{Accepted}
 use Rattle.stab.proofs.Bools.{decide, if-true}
 use Rattle.stab.proofs.Whole.{atom, num, of-le, le-of, leZ-of, of-leZ, nat-pos, nonneg-minus, plus-nat}
 use Rattle.stab.proofs.Trees.{tree-agrees, below-nat}
 use Rattle.stab.proofs.Bounds.{bound-first}
 use Rattle.stab.proofs.Tests.{below-tests}
-use Rattle.stab.proofs.Exactness.{accepts-exactly, model-accepts-exactly, model-counts-zero}
+use Rattle.stab.proofs.Exactness.{accepts-exactly, older-accepts-exactly, model-accepts-exactly, model-counts-zero}
 use Steps.{Holds, refuted, mem-one}
 mod Steps
 
 -- ---- every node is refuted at every n that satisfies its bound: by induction on n, and for one n on the nodes that come after
 
-module _ (T : Tableau) (K : Keeps T) (σ : Assignment) where
+module _ (T : Tableau) (K : KeepsOlder T) (σ : Assignment) where
   abbrev Refutes : ℕ → ℕ → Type 0
   Refutes m i = i < T .nodeRows → Satisfies (bound T i) m → Holds T K σ m i → ⊥
 
@@ -62,27 +62,31 @@ schema-tree T schema same p =
     tree-agrees (rows T) (rowAt schema) (nat (T .root))
     (λ a l. if-true (ltb a (T .schemaRows)) _ _ (lt-ltb a (T .schemaRows) (omega arith)) ∙ same a (omega arith))
 
-root-below : (T : Tableau) → Keeps T → nat (T .root) < T .schemaRows
+root-below : (T : Tableau) → KeepsOlder T → nat (T .root) < T .schemaRows
 root-below T K = below-nat (T .schemaRows) (T .root) (below-tests (T .schemaRows) (T .root) .1 (K .formulas .rootRow))
 
 -- ---- the theorems
 
--- If the check accepts, the schema is false at every natural n from its least value up, under every assignment.
-pub sound : (T : Tableau) (nodes links : ℕ) → check T ≡ Accepted nodes links → Refuted (T .schema) (T .root) (T .least)
+refuted-by : (T : Tableau) → KeepsOlder T → Refuted (T .schema) (T .root) (T .least)
 unfolding formula
-sound T nodes links a n σ h =
-    let K = accepts-exactly T nodes links .0 a .0 in
+refuted-by T K n σ h =
     let e = schema-tree T (T .schema) (λ r l. refl) (root-below T K) in
     ⊎-elim
     (λ t. absurd (root-false T K σ n h (ap (truth σ n) e ∙ t)))
     (λ f. f)
     (decide (truth σ n (tree (rowAt (T .schema)) (nat (T .root)))))
 
--- If the check accepts a tableau, the model check accepts no model of the same schema rows, root and least value.
-pub no-model : (M : Model) (n l : ℕ) → checkModel M ≡ Accepted n l → Irrefutable (M .schema) (M .schemaRows) (M .root) (M .least)
+-- If the check accepts, the schema is false at every natural n from its least value up, under every assignment.
+pub sound : (T : Tableau) (nodes links : ℕ) → check T ≡ Accepted nodes links → Refuted (T .schema) (T .root) (T .least)
+sound T nodes links a = refuted-by T (accepts-exactly T nodes links .0 a .0 .older)
+
+-- So it is if the older check accepts.
+pub sound-older : (T : Tableau) (nodes links : ℕ) → checkOlder T ≡ Accepted nodes links → Refuted (T .schema) (T .root) (T .least)
+sound-older T nodes links a = refuted-by T (older-accepts-exactly T nodes links .0 a .0)
+
+no-model-of : (M : Model) (n l : ℕ) → checkModel M ≡ Accepted n l → (T : Tableau) → SameSchema T (M .schema) (M .schemaRows) (M .root) (M .least) → KeepsOlder T → ⊥
 unfolding satisfied schemaRow
-no-model M n l b T same nodes links a =
-    let K = accepts-exactly T nodes links .0 a .0 in
+no-model-of M n l b T same K =
     let c = model-counts-zero M n l b in
     let KM = model-accepts-exactly M .0 (b ∙ ap₂ Accepted (c .0) (c .1)) in
     let least≥0 : leZ (pos 0) (T .least) ≡ true = leZ-of (K .formulas .leastRange .0) in
@@ -92,9 +96,16 @@ no-model M n l b T same nodes links a =
     let t : tree (rowAt (T .schema)) (nat (T .root)) ≡ tree (rowAt (M .schema)) (nat (T .root)) =
     tree-agrees (rowAt (T .schema)) (rowAt (M .schema)) (nat (T .root)) (λ r q. same .rows r (omega (arith, root-below T K, same .count))) in
     let f : truth (assignment M) (nat (M .n)) (tree (rowAt (T .schema)) (nat (T .root))) ≡ false =
-    sound T nodes links a (nat (M .n)) (assignment M) (of-leZ (ap (leZ (T .least)) e ∙ in-range)) in
+    refuted-by T K (nat (M .n)) (assignment M) (of-leZ (ap (leZ (T .least)) e ∙ in-range)) in
     true≢false
     (sym (KM .holds)
     ∙ ap (λ (z : ℤ). truth (assignment M) (nat (M .n)) (tree (rowAt (M .schema)) (nat z))) (sym (same .sameRoot))
     ∙ ap (truth (assignment M) (nat (M .n))) (sym t)
     ∙ f)
+
+-- If the check or the older check accepts a tableau, the model check accepts no model of the same schema rows, root and least value.
+pub no-model : (M : Model) (n l : ℕ) → checkModel M ≡ Accepted n l → Irrefutable (M .schema) (M .schemaRows) (M .root) (M .least)
+no-model M n l b T same nodes links = (
+  λ a. no-model-of M n l b T same (accepts-exactly T nodes links .0 a .0 .older),
+  λ a. no-model-of M n l b T same (older-accepts-exactly T nodes links .0 a .0),
+)

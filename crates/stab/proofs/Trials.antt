@@ -2,6 +2,7 @@
 use Prim.Native.Nat.{ℕ}
 use Prim.Native.String.{String}
 use mathlib.Core.Path.{_≡_, refl}
+use mathlib.Core.Bool.{Bool, true, false}
 use mathlib.Core.List.{List, [], _∷_, _++_}
 use lib.IntN.{pos, negsuc}
 use lib.ListN.{length, replicate}
@@ -44,32 +45,32 @@ nodes rest = bytes "kind a b c\nup rule on with other to by set\n" ++ bytes rest
 
 -- a link that lowers n by 0
 byZero : List ℕ
-byZero = checkProgram
+byZero = checkProgram false
     (bytes "root least\n3 1\nkind a b c\n2 0 2 0\n6 0 1 0\n2 1 1 0\n4 1 2 0\n")
     (bytes "kind a b c\n6 0 1 1\n2 0 1 0\nup rule on with other to by set\n-1 0 3 -1 -1 -1 0 3\n0 3 1 4 5 -1 0 1 2\n1 8 -1 -1 -1 1 0 1 2\n")
 
 -- n + 2 and index 5 at an open node
 openClash : List ℕ
-openClash = checkProgram
+openClash = checkProgram false
     (bytes "root least\n2 3\nkind a b c\n2 0 1 2\n3 0 0 5\n4 0 1 0\n")
     (nodes "-1 0 2 -1 -1 -1 0 2\n0 2 -1 -1 -1 -1 0 0 1\n1 6 0 1 -1 -1 0 0 1\n1 6 0 1 -1 -1 0 0 1\n")
 
 -- the same where the two name one index at the least n of the node
 openClashAtLeast : List ℕ
 openClashAtLeast =
-    checkProgram
+    checkProgram false
     (bytes "root least\n2 3\nkind a b c\n2 0 1 2\n3 0 0 5\n4 0 1 0\n")
     (nodes "-1 0 2 -1 -1 -1 0 2\n0 6 0 1 -1 -1 0 0 1\n")
 
 -- an iteration from 2 unfolded where only n ≥ 1 is known
 emptyUnfolded : List ℕ
-emptyUnfolded = checkProgram
+emptyUnfolded = checkProgram false
     (bytes "root least\n1 1\nkind a b c\n1 0 0 0\n6 0 2 0\n")
     (bytes "kind a b c\n6 0 2 1\nup rule on with other to by set\n-1 3 1 2 0 -1 0 1\n0 5 0 -1 -1 -1 0 0\n")
 
 -- a link from n ≥ 1 by 1 to a node that knows n ≥ 1
 leafBound : List ℕ
-leafBound = checkProgram
+leafBound = checkProgram false
     (bytes "root least\n4 1\nkind a b c\n2 0 2 0\n7 0 0 0\n3 0 2 0\n6 2 1 0\n4 1 3 0\n")
     (bytes "kind a b c\n6 2 1 1\n3 0 1 0\n7 0 0 1\n2 0 1 0\nup rule on with other to by set\n-1 0 4 -1 -1 -1 0 4\n0 3 3 5 6 -1 0 1 3\n1 4 1 7 8 -1 0 1 5 6\n2 8 -1 -1 -1 1 1 5 7\n2 6 8 6 -1 -1 0 6 8\n")
 
@@ -108,31 +109,31 @@ inOrderProgram schema proof =
 
 -- 0..9 within n ≥ 0, 5..9 within that, and a split of 5..9
 ranges : String → List ℕ
-ranges by = checkProgram schemaFalse
+ranges by = checkProgram false schemaFalse
     (nodes "-1 2 -1 -1 -1 -1 9 0\n0 2 -1 -1 -1 -1 4 0\n0 5 0 -1 -1 -1 0 0\n1 5 0 -1 -1 -1 0 0\n1 2 -1 -1 -1 -1 " ++
     bytes by ++
     bytes " 0\n4 5 0 -1 -1 -1 0 0\n4 5 0 -1 -1 -1 0 0\n")
 
 -- a split at an open node
 openSplit : String → List ℕ
-openSplit by = checkProgram schemaFalse
+openSplit by = checkProgram false schemaFalse
     (nodes "-1 2 -1 -1 -1 -1 " ++ bytes by ++ bytes " 0\n0 5 0 -1 -1 -1 0 0\n0 5 0 -1 -1 -1 0 0\n")
 
 -- n + 2 and index 5, where n is 3 or 4
 rangeClash : List ℕ
-rangeClash = checkProgram
+rangeClash = checkProgram false
     (bytes "root least\n2 3\nkind a b c\n2 0 1 2\n3 0 0 5\n4 0 1 0\n")
     (nodes "-1 0 2 -1 -1 -1 0 2\n0 2 -1 -1 -1 -1 4 0 1\n1 6 0 1 -1 -1 0 0 1\n1 6 0 1 -1 -1 0 0 1\n")
 
 -- an iteration from 5, void up to K
 rangeVoid : String → List ℕ
-rangeVoid by = checkProgram
+rangeVoid by = checkProgram false
     (bytes "root least\n1 0\nkind a b c\n2 0 2 0\n7 0 5 0\n")
     (nodes "-1 2 -1 -1 -1 -1 " ++ bytes by ++ bytes " 1\n0 7 1 -1 -1 -1 0 1\n0 7 1 -1 -1 -1 0 1\n")
 
 -- a link from 1..5 to the ancestor that knows 0..5
 rangeLink : String → List ℕ
-rangeLink by = checkProgram schemaFalse
+rangeLink by = checkProgram false schemaFalse
     (nodes "-1 2 -1 -1 -1 -1 5 0\n0 2 -1 -1 -1 -1 0 0\n0 5 0 -1 -1 -1 0 0\n1 5 0 -1 -1 -1 0 0\n1 8 -1 -1 -1 1 " ++
     bytes by ++
     bytes " 0\n")
@@ -141,14 +142,14 @@ rangeLink by = checkProgram schemaFalse
 
 -- 0..4, 5..9 and n ≥ 10 in three branches; the link stands in the second
 crossLink : String → List ℕ
-crossLink link = checkProgram schemaFalse
+crossLink link = checkProgram false schemaFalse
     (nodes "-1 2 -1 -1 -1 -1 4 0\n0 5 0 -1 -1 -1 0 0\n0 2 -1 -1 -1 -1 9 0\n2 8 -1 -1 -1 " ++
     bytes link ++
     bytes " 0\n2 5 0 -1 -1 -1 0 0\n")
 
 -- a link from n ≥ 10 to 0..4
 openCross : List ℕ
-openCross = checkProgram schemaFalse
+openCross = checkProgram false schemaFalse
     (nodes "-1 2 -1 -1 -1 -1 4 0\n0 5 0 -1 -1 -1 0 0\n0 2 -1 -1 -1 -1 9 0\n2 5 0 -1 -1 -1 0 0\n2 8 -1 -1 -1 1 9 0\n")
 
 -- ---- the wires that occur
@@ -170,6 +171,13 @@ shared : List ℕ
 shared =
     bytes "root least\n9 0\nkind a b c\n2 0 2 0\n2 0 2 1\n3 1 2 -1\n4 0 1 0\n4 2 0 0\n6 3 0 0\n7 4 -1 1\n5 6 5 0\n2 0 0 2\n4 7 8 0\n"
 
+-- ---- proof rows written twice
+
+-- rows after false, the schema's only row, and the node that closes it
+rewritten : Bool → String → List ℕ
+rewritten older more = checkProgram older schemaFalse
+    (bytes "kind a b c\n" ++ bytes more ++ bytes "up rule on with other to by set\n-1 5 0 -1 -1 -1 0 0\n")
+
 -- ---- the trials
 
 pub computed : List (List ℕ)
@@ -186,34 +194,34 @@ computed =
     -- n over 9999
     modelProgram schemaTrue (model "10000\nsymbol index\n") ∷
     -- a text without its last byte 10, in a heading and in a row; -0, 007, six digits, two spaces, an empty line
-    checkProgram (bytes "root least") [] ∷
-    checkProgram (bytes "root least\n0 0\nkind a b c\n1 0 0 0") [] ∷
-    checkProgram (bytes "root least\n0 -0\nkind a b c\n") [] ∷
-    checkProgram (bytes "root least\n007 0\nkind a b c\n") [] ∷
-    checkProgram (bytes "root least\n0 100000\nkind a b c\n") [] ∷
-    checkProgram (bytes "root least\n0  0\nkind a b c\n") [] ∷
-    checkProgram (bytes "root least\n0 0\nkind a b c\n1 0 0 0\n\n") [] ∷
+    checkProgram false (bytes "root least") [] ∷
+    checkProgram false (bytes "root least\n0 0\nkind a b c\n1 0 0 0") [] ∷
+    checkProgram false (bytes "root least\n0 -0\nkind a b c\n") [] ∷
+    checkProgram false (bytes "root least\n007 0\nkind a b c\n") [] ∷
+    checkProgram false (bytes "root least\n0 100000\nkind a b c\n") [] ∷
+    checkProgram false (bytes "root least\n0  0\nkind a b c\n") [] ∷
+    checkProgram false (bytes "root least\n0 0\nkind a b c\n1 0 0 0\n\n") [] ∷
     -- no proof text; a proof whose second heading is missing, or misspelt; a node row with six numbers
-    checkProgram schemaFalse [] ∷
-    checkProgram schemaFalse (bytes "kind a b c\n1 0 0 0\n") ∷
-    checkProgram schemaFalse (bytes "kind a b c\nup\n") ∷
-    checkProgram schemaFalse (nodes "-1 5 0 -1 -1 -1\n") ∷
+    checkProgram false schemaFalse [] ∷
+    checkProgram false schemaFalse (bytes "kind a b c\n1 0 0 0\n") ∷
+    checkProgram false schemaFalse (bytes "kind a b c\nup\n") ∷
+    checkProgram false schemaFalse (nodes "-1 5 0 -1 -1 -1\n") ∷
     -- no node; the one node that closes false; node 0 with an empty set; a later node with an empty set
-    checkProgram schemaFalse (nodes "") ∷
-    checkProgram schemaFalse (nodes "-1 5 0 -1 -1 -1 0 0\n") ∷
-    checkProgram schemaFalse (nodes "-1 5 0 -1 -1 -1 0\n") ∷
-    checkProgram schemaFalse (nodes "-1 2 -1 -1 -1 -1 0 0\n0 5 0 -1 -1 -1 0 0\n0 5 0 -1 -1 -1 0\n") ∷
+    checkProgram false schemaFalse (nodes "") ∷
+    checkProgram false schemaFalse (nodes "-1 5 0 -1 -1 -1 0 0\n") ∷
+    checkProgram false schemaFalse (nodes "-1 5 0 -1 -1 -1 0\n") ∷
+    checkProgram false schemaFalse (nodes "-1 2 -1 -1 -1 -1 0 0\n0 5 0 -1 -1 -1 0 0\n0 5 0 -1 -1 -1 0\n") ∷
     -- every 9 comes before any 10: node 0's up is wrong, node 1's set is no row
-    checkProgram schemaFalse (nodes "0 5 0 -1 -1 -1 0 0\n0 5 0 -1 -1 -1 0 1\n") ∷
+    checkProgram false schemaFalse (nodes "0 5 0 -1 -1 -1 0 0\n0 5 0 -1 -1 -1 0 1\n") ∷
     -- 11 comes before 12: the set is not drawn from the parent's, and no such rule
-    checkProgram (bytes "root least\n0 0\nkind a b c\n1 0 0 0\n0 0 0 0\n") (nodes "-1 2 -1 -1 -1 -1 0 0\n0 9 0 -1 -1 -1 0 1\n0 5 0 -1 -1 -1 0 0\n") ∷
+    checkProgram false (bytes "root least\n0 0\nkind a b c\n1 0 0 0\n0 0 0 0\n") (nodes "-1 2 -1 -1 -1 -1 0 0\n0 9 0 -1 -1 -1 0 1\n0 5 0 -1 -1 -1 0 0\n") ∷
     -- symbol 256; a body with a literal on n; an and of a literal on i and one on n; a pointer to itself
-    checkProgram (bytes "root least\n0 0\nkind a b c\n2 256 1 0\n") (nodes "") ∷
-    checkProgram (bytes "root least\n0 0\nkind a b c\n2 0 1 0\n6 0 0 0\n") (nodes "") ∷
-    checkProgram (bytes "root least\n0 0\nkind a b c\n2 0 1 0\n2 0 2 0\n4 0 1 0\n") (nodes "") ∷
-    checkProgram (bytes "root least\n0 0\nkind a b c\n4 0 0 0\n") (nodes "") ∷
+    checkProgram false (bytes "root least\n0 0\nkind a b c\n2 256 1 0\n") (nodes "") ∷
+    checkProgram false (bytes "root least\n0 0\nkind a b c\n2 0 1 0\n6 0 0 0\n") (nodes "") ∷
+    checkProgram false (bytes "root least\n0 0\nkind a b c\n2 0 1 0\n2 0 2 0\n4 0 1 0\n") (nodes "") ∷
+    checkProgram false (bytes "root least\n0 0\nkind a b c\n4 0 0 0\n") (nodes "") ∷
     -- a root that is not outer
-    checkProgram (bytes "root least\n0 0\nkind a b c\n2 0 2 0\n") (nodes "") ∷
+    checkProgram false (bytes "root least\n0 0\nkind a b c\n2 0 2 0\n") (nodes "") ∷
     -- "Plausible, and false"
     byZero ∷
     openClash ∷
@@ -221,14 +229,14 @@ computed =
     emptyUnfolded ∷
     leafBound ∷
     -- swapped bodies, with the instance (p and q) and r: accepted; in order the instance is wrong, and with r and (q and p) the link
-    sided checkProgram swapped "4 15 16 0\n4 18 17 0\n" "18 20" ∷
+    sided (checkProgram false) swapped "4 15 16 0\n4 18 17 0\n" "18 20" ∷
     sided inOrderProgram swapped "4 15 16 0\n4 18 17 0\n" "18 20" ∷
     sided inOrderProgram swapped "4 16 15 0\n4 17 18 0\n" "18 20" ∷
     -- "with still names the same body row": the bodies of on and with are alike, and two rows
-    sided checkProgram oneBody "4 15 16 0\n4 18 17 0\n" "18 20" ∷
+    sided (checkProgram false) oneBody "4 15 16 0\n4 18 17 0\n" "18 20" ∷
     -- regrouped bodies: the instance (p and q) and r is wrong, and with p and (q and r) the link
-    sided checkProgram regrouped "4 15 16 0\n4 18 17 0\n" "18 20" ∷
-    sided checkProgram regrouped "4 16 17 0\n4 15 18 0\n" "15 18 20" ∷
+    sided (checkProgram false) regrouped "4 15 16 0\n4 18 17 0\n" "18 20" ∷
+    sided (checkProgram false) regrouped "4 16 17 0\n4 15 18 0\n" "15 18 20" ∷
     -- K = H - 1, K = L by 0; K = L - 1, K = H, and a negative by
     ranges "8" ∷
     ranges "0" ∷
@@ -254,6 +262,17 @@ computed =
     crossLink "4 5" ∷
     crossLink "-1 5" ∷
     openCross ∷
+    -- a proof row that repeats the schema's, and one that repeats a proof row; the same for an older record; rows that differ in one column
+    rewritten false "1 0 0 0\n" ∷
+    rewritten false "2 0 1 0\n2 0 0 0\n2 0 1 0\n" ∷
+    rewritten true "1 0 0 0\n" ∷
+    rewritten false "2 0 1 0\n2 0 1 1\n2 0 0 0\n2 1 1 0\n3 0 1 0\n" ∷
+    -- 27 at row 1 before 7 at row 2, and 7 at row 1 before 27 at row 2
+    rewritten false "1 0 0 0\n8 0 0 0\n" ∷
+    rewritten false "8 0 0 0\n1 0 0 0\n" ∷
+    -- a schema row may repeat; 27 comes before 6 for a root that is not outer
+    checkProgram false (bytes "root least\n0 0\nkind a b c\n1 0 0 0\n1 0 0 0\n") (nodes "-1 5 0 -1 -1 -1 0 0\n") ∷
+    checkProgram false (bytes "root least\n0 0\nkind a b c\n2 0 2 0\n") (bytes "kind a b c\n2 0 2 0\nup rule on with other to by set\n") ∷
     -- the one number
     (packed (Accepted 7 1) ∷ packed (Refused Bound (At 5)) ∷ packed (Refused False Whole) ∷ []) ∷
     -- line 2 of a text; line 3, which is unfinished; line 0
@@ -332,6 +351,14 @@ stated =
     answer "13 3 0 0" ∷
     answer "13 3 0 0" ∷
     answer "14 4 0 0" ∷
+    answer "27 1 0 0" ∷
+    answer "27 3 0 0" ∷
+    answer "0 0 1 0" ∷
+    answer "0 0 1 0" ∷
+    answer "27 1 0 0" ∷
+    answer "7 1 0 0" ∷
+    answer "0 0 1 0" ∷
+    answer "27 1 0 0" ∷
     -- 1 * 8192 * 8192 + 7 * 8192 + 1; (14 * 8192 + 6) * 8192 * 8192; 20 * 8192 * 8192 * 8192
     (67166209 ∷ 7696984047616 ∷ 10995116277760 ∷ []) ∷
     bytes "cd" ∷
@@ -346,5 +373,5 @@ stated =
     model "1\nsymbol index\n0 -1\n0 0\n0 1\n0 2\n1 -2\n1 -1\n" ∷ []
 
 pub trials : computed ≡ stated
-unfolding evaluated crossLink openCross ranges openSplit rangeClash rangeVoid rangeLink schema₂₅₅ schemaTrue model schemaFalse nodes byZero openClash openClashAtLeast emptyUnfolded leafBound agree partnersInOrder hasLoweredInOrder loweredInOrder stepRefusalInOrder nodeRefusalInOrder checkInOrder sided swapped oneBody regrouped inOrderProgram wireBefore insert gathered inserted occurring table wiresAt wires fromTwo shared answer computed stated
+unfolding evaluated rewritten crossLink openCross ranges openSplit rangeClash rangeVoid rangeLink schema₂₅₅ schemaTrue model schemaFalse nodes byZero openClash openClashAtLeast emptyUnfolded leafBound agree partnersInOrder hasLoweredInOrder loweredInOrder stepRefusalInOrder nodeRefusalInOrder checkInOrder sided swapped oneBody regrouped inOrderProgram wireBefore insert gathered inserted occurring table wiresAt wires fromTwo shared answer computed stated
 trials = refl

@@ -1,5 +1,5 @@
 -- The check after 02, No. 5 and before No. 6: a link goes to a proper ancestor, and its lower bound alone counts. What it accepts the
--- check accepts, with the same counts (`ancestor-links-accepted`).
+-- older check accepts, with the same counts (`ancestor-links-accepted`).
 use Prim.Native.Nat.{ℕ, zero, suc}
 use mathlib.Core.Path.{_≡_}
 use mathlib.Core.Bool.{Bool, true, false}
@@ -10,7 +10,7 @@ use lib.Signed.{leZ}
 use Rattle.stab.specs.Basic.{if_then_else_, _or_, _implies_, eqZ, nat, below, _otherwise_}
 use Rattle.stab.specs.Node.{Tableau, nodeAt, node, bound}
 use Rattle.stab.specs.Rule.{ofRule, drawn, fieldsFit, boundFits, partnersFit, loweredFits, childrenFit}
-use Rattle.stab.specs.Check.{atUnless, checkBy}
+use Rattle.stab.specs.Check.{atUnless, olderFormulas, checkWith}
 use Rattle.stab.specs.declared.Refusal.the-variants.{Drawn, Fields, Target, Bound, Partner, Lowered, Children}
 use Rattle.stab.specs.declared.Verdict.{Verdict}
 
@@ -58,4 +58,4 @@ unfoldable pub nodeRefusalAbove : Tableau → ℕ → Option Verdict
 nodeRefusalAbove T j = stepRefusalAbove T j otherwise atUnless (childrenFit T j) Children j
 
 unfoldable pub checkAbove : Tableau → Verdict
-checkAbove T = checkBy nodeRefusalAbove T
+checkAbove T = checkWith olderFormulas nodeRefusalAbove T

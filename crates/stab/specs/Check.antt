@@ -1,18 +1,18 @@
--- 01, "Turning records away": checking tables. The order of refusals is the order of the lines below.
-use Prim.Native.Nat.{ℕ, suc, _*_}
-use mathlib.Core.Bool.{Bool}
+-- 01, "Turning records away": checking tables; 02, No. 9. The order of refusals is the order of the lines below.
+use Prim.Native.Nat.{ℕ, zero, suc, _*_}
+use mathlib.Core.Bool.{Bool, false, not}
 use mathlib.Core.List.{List}
 use mathlib.Core.Option.{Option, none, some}
 use lib.Dec.{leb, eqb, ltb}
 use lib.IntN.{ℤ, pos}
 use lib.ListN.{length}
-use Rattle.stab.specs.Basic.{_and_, _implies_, eqZ, within, nat, below, count, _otherwise_, scan, unless}
+use Rattle.stab.specs.Basic.{if_then_else_, _and_, _or_, _implies_, eqZ, within, nat, below, count, _otherwise_, scan, unless}
 use Rattle.stab.specs.Formula.{Row, tree, isOuter, wellFormed, smallEnough}
 use Rattle.stab.specs.Node.{Tableau, rows, rowCount, setEnd, setFits, parentFits, nodeAt}
 use Rattle.stab.specs.Rule.{ofRule, drawn, fieldsFit, targetFits, boundFits, partnersFit, loweredFits, childrenFit}
 use Rattle.stab.specs.declared.Place.the-variants.{Whole, At}
 use Rattle.stab.specs.declared.Refusal.{Refusal}
-use Rattle.stab.specs.declared.Refusal.the-variants.{TableTooShort, TooMany, Root, IllFormed, TooLarge, Set, Parent, Drawn, Fields, Target, Bound, Partner, Lowered, Children}
+use Rattle.stab.specs.declared.Refusal.the-variants.{TableTooShort, TooMany, Root, IllFormed, TooLarge, Set, Parent, Drawn, Fields, Target, Bound, Partner, Lowered, Children, Repeated}
 use Rattle.stab.specs.declared.Finding.{Finding}
 use Rattle.stab.specs.declared.Finding.the-variants.{Nothing, Found}
 use Rattle.stab.specs.declared.Verdict.{Verdict}
@@ -40,16 +40,38 @@ holds t w n = leb (w * n) (length t)
 unfoldable pub rowRefusal : (ℕ → Row) → ℕ → Option Verdict
 rowRefusal rows r = atUnless (wellFormed rows r) IllFormed r otherwise atUnless (smallEnough rows r) TooLarge r
 
+-- the four columns of two rows are equal
+unfoldable pub sameRow : Row → Row → Bool
+sameRow v w = eqZ (v .kind) (w .kind) and eqZ (v .a) (w .a) and eqZ (v .b) (w .b) and eqZ (v .c) (w .c)
+
+-- a row with the columns of w stands among the rows 0 .. r - 1
+unfoldable pub standsBefore : (ℕ → Row) → ℕ → Row → Bool
+standsBefore rows zero w = false
+standsBefore rows (suc r) w = standsBefore rows r w or sameRow (rows r) w
+
+-- 02, No. 9: "a proof row whose four columns equal those of an earlier schema or proof row", where s rows are schema rows, which "may
+-- still repeat"
+unfoldable pub repeatRefusal : (ℕ → Row) → ℕ → ℕ → Option Verdict
+repeatRefusal rows s r = atUnless (ltb r s or not (standsBefore rows r (rows r))) Repeated r
+
+-- "27, for a formula row, after 8"
+unfoldable pub freshRowRefusal : (ℕ → Row) → ℕ → ℕ → Option Verdict
+freshRowRefusal rows s r = rowRefusal rows r otherwise repeatRefusal rows s r
+
 -- "6 root no schema row, or least not 0..9999 (-1)"
 unfoldable pub rootFits : ℕ → ℤ → ℤ → Bool
 rootFits schemaRows root least = below schemaRows root and within (pos 0) (pos 9999) least
 
--- 6, 7, 8 and 6 again "if the root is not outer", for n formula rows of which s are schema rows: the part that check and model check share
-unfoldable pub formulasRefusal : (ℕ → Row) → ℕ → ℕ → ℤ → ℤ → Option Verdict
-formulasRefusal rows n s root least =
+-- 6, what `judge` finds of each row, and 6 again "if the root is not outer", for n formula rows of which s are schema rows
+unfoldable pub formulasBy : (ℕ → Option Verdict) → (ℕ → Row) → ℕ → ℕ → ℤ → ℤ → Option Verdict
+formulasBy judge rows n s root least =
     wholeUnless (rootFits s root least) Root otherwise
-    scan (rowRefusal rows) n otherwise
+    scan judge n otherwise
     wholeUnless (isOuter (tree rows (nat root))) Root
+
+-- 6, 7, 8 and 6 again: the part that the older check and the model check share
+unfoldable pub formulasRefusal : (ℕ → Row) → ℕ → ℕ → ℤ → ℤ → Option Verdict
+formulasRefusal rows n s root least = formulasBy (rowRefusal rows) rows n s root least
 
 -- ---- nodes
 
@@ -89,19 +111,25 @@ tablesHold T =
 unfoldable pub withinLimits : Tableau → Bool
 withinLimits T = leb (rowCount T) 1024 and leb (T .nodeRows) 1024 and leb (T .memberCount) 8192
 
--- what is found, where `judge` says what is found of a node once tables, formulas, sets and parents are right
-unfoldable pub refusalBy : (Tableau → ℕ → Option Verdict) → Tableau → Option Verdict
-refusalBy judge T =
+-- what is found, where `formulas` says what is found of the formulas, and `judge` what is found of a node once tables, formulas, sets and
+-- parents are right
+unfoldable pub refusalWith : (Tableau → Option Verdict) → (Tableau → ℕ → Option Verdict) → Tableau → Option Verdict
+refusalWith formulas judge T =
     wholeUnless (tablesHold T) TableTooShort otherwise
     wholeUnless (withinLimits T) TooMany otherwise
-    formulasRefusal (rows T) (rowCount T) (T .schemaRows) (T .root) (T .least) otherwise
+    formulas T otherwise
     scan (setRefusal T) (T .nodeRows) otherwise
     wholeUnless (ltb 0 (T .nodeRows)) Parent otherwise
     scan (parentRefusal T) (T .nodeRows) otherwise
     scan (judge T) (T .nodeRows)
 
-unfoldable pub refusal : Tableau → Option Verdict
-refusal T = refusalBy nodeRefusal T
+-- proof rows may repeat
+unfoldable pub olderFormulas : Tableau → Option Verdict
+olderFormulas T = formulasRefusal (rows T) (rowCount T) (T .schemaRows) (T .root) (T .least)
+
+-- 02, No. 9: "From now on the check refuses a proof row" that repeats
+unfoldable pub presentFormulas : Tableau → Option Verdict
+presentFormulas T = formulasBy (freshRowRefusal (rows T) (T .schemaRows)) (rows T) (rowCount T) (T .schemaRows) (T .root) (T .least)
 
 -- node j is a rule 8 row
 unfoldable pub isLink : List ℤ → ℕ → Bool
@@ -116,9 +144,18 @@ unfoldable pub verdict : Option Verdict → Verdict → Verdict
 verdict none v = v
 verdict (some w) v = w
 
--- the check by such a judge; "Acceptance gives the number of nodes and of rule 8 rows"
-unfoldable pub checkBy : (Tableau → ℕ → Option Verdict) → Tableau → Verdict
-checkBy judge T = verdict (refusalBy judge T) (Accepted (T .nodeRows) (linkCount T))
+-- the check by such findings; "Acceptance gives the number of nodes and of rule 8 rows"
+unfoldable pub checkWith : (Tableau → Option Verdict) → (Tableau → ℕ → Option Verdict) → Tableau → Verdict
+checkWith formulas judge T = verdict (refusalWith formulas judge T) (Accepted (T .nodeRows) (linkCount T))
 
+-- the check
 unfoldable pub check : Tableau → Verdict
-check T = checkBy nodeRefusal T
+check T = checkWith presentFormulas nodeRefusal T
+
+-- 02, No. 9: "a separate entry checks them without this test"
+unfoldable pub checkOlder : Tableau → Verdict
+checkOlder T = checkWith olderFormulas nodeRefusal T
+
+-- the check, or the older one if `older` holds
+unfoldable pub checkAs : Bool → Tableau → Verdict
+checkAs older T = if older then checkOlder T else check T

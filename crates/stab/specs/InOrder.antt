@@ -1,5 +1,5 @@
 -- The check with formulas compared as before 02, No. 4: with sides in order, by document 01's "agree in shape and in all numbers"; all
--- else is the check's. What it accepts the check accepts, with the same counts (`in-order-accepted`).
+-- else is the older check's. What it accepts the older check accepts, with the same counts (`in-order-accepted`).
 use Prim.Native.Nat.{ℕ}
 use mathlib.Core.Bool.{Bool, false}
 use mathlib.Core.List.{List, [], _∷_}
@@ -10,7 +10,7 @@ use Rattle.stab.specs.Formula.{Formula, const, lit, join, iter}
 use Rattle.stab.specs.Alike.{lower, instance, eqBool, eqOp, eqBase}
 use Rattle.stab.specs.Node.{Tableau, row, formula, node, set}
 use Rattle.stab.specs.Rule.{ofRule, drawn, fieldsFit, targetFits, boundFits, shortened, childrenFit}
-use Rattle.stab.specs.Check.{atUnless, checkBy}
+use Rattle.stab.specs.Check.{atUnless, olderFormulas, checkWith}
 use Rattle.stab.specs.declared.Refusal.the-variants.{Drawn, Fields, Target, Bound, Partner, Lowered, Children}
 use Rattle.stab.specs.declared.Verdict.{Verdict}
 
@@ -62,4 +62,4 @@ unfoldable pub nodeRefusalInOrder : Tableau → ℕ → Option Verdict
 nodeRefusalInOrder T j = stepRefusalInOrder T j otherwise atUnless (childrenFit T j) Children j
 
 unfoldable pub checkInOrder : Tableau → Verdict
-checkInOrder T = checkBy nodeRefusalInOrder T
+checkInOrder T = checkWith olderFormulas nodeRefusalInOrder T

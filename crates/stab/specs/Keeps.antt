@@ -188,12 +188,22 @@ pub record KeepsTables (T : Tableau) : Type 0 where
   pub nodeLimit : T .nodeRows ≤ 1024
   pub memberLimit : T .memberCount ≤ 8192
 
--- demand 2: a tableau is accepted exactly when "it has a node and all its rows keep document 01's rules"
-pub record Keeps (T : Tableau) : Type 0 where
+-- what the older check asks: there is a node, and all rows keep document 01's rules, as 02, Nos. 3 to 6 amend them
+pub record KeepsOlder (T : Tableau) : Type 0 where
   pub tables : KeepsTables T
   pub formulas : KeepsFormulas (rows T) (rowCount T) (T .schemaRows) (T .root) (T .least)
   pub hasNode : 0 < T .nodeRows
   pub nodes : (j : ℕ) → j < T .nodeRows → KeepsNode T j
+
+-- 02, No. 9: no proof row's "four columns equal those of an earlier schema or proof row"
+abbrev pub Fresh : Tableau → Type 0
+Fresh T = (r q : ℕ) → T .schemaRows ≤ r → r < rowCount T → q < r → rows T q ≢ rows T r
+
+-- demand 2: a tableau is accepted exactly when "it has a node and all its rows keep document 01's rules"; 02, No. 9: "Demand 2 gains this
+-- as a rule, for the check alone."
+pub record Keeps (T : Tableau) : Type 0 where
+  pub older : KeepsOlder T
+  pub fresh : Fresh T
 
 -- ---- a model
 

@@ -11,7 +11,7 @@ use Rattle.stab.specs.Formula.{Row}
 use Rattle.stab.specs.Node.{Tableau, Node, row, node, inherited}
 use Rattle.stab.specs.Rule.{ofRule, drawn, fieldsFit, unfoldFits, clashFits, partnersFit, loweredFits, childrenFit}
 use Rattle.stab.specs.AncestorLink.{targetAbove, loopAbove}
-use Rattle.stab.specs.Check.{atUnless, checkBy}
+use Rattle.stab.specs.Check.{atUnless, olderFormulas, checkWith}
 use Rattle.stab.specs.declared.Refusal.the-variants.{Drawn, Fields, Target, Bound, Partner, Lowered, Children}
 use Rattle.stab.specs.declared.Verdict.{Verdict}
 
@@ -69,4 +69,4 @@ unfoldable pub nodeRefusalOne : Tableau → ℕ → Option Verdict
 nodeRefusalOne T j = stepRefusalOne T j otherwise atUnless (childrenFit T j) Children j
 
 unfoldable pub checkOne : Tableau → Verdict
-checkOne T = checkBy nodeRefusalOne T
+checkOne T = checkWith olderFormulas nodeRefusalOne T

@@ -8,7 +8,7 @@ use Rattle.stab.specs.Basic.{_and_, _implies_, nat, _otherwise_}
 use Rattle.stab.specs.Node.{Tableau, node, isExact, bound}
 use Rattle.stab.specs.Rule.{ofRule, drawn, fieldsFit, partnersFit, loweredFits, childrenFit}
 use Rattle.stab.specs.AncestorLink.{targetAbove, boundAbove}
-use Rattle.stab.specs.Check.{atUnless, checkBy}
+use Rattle.stab.specs.Check.{atUnless, olderFormulas, checkWith}
 use Rattle.stab.specs.declared.Refusal.the-variants.{Drawn, Fields, Target, Bound, Partner, Lowered, Children}
 use Rattle.stab.specs.declared.Verdict.{Verdict}
 
@@ -30,4 +30,4 @@ unfoldable pub nodeRefusalOpen : Tableau → ℕ → Option Verdict
 nodeRefusalOpen T j = stepRefusalOpen T j otherwise atUnless (childrenFit T j) Children j
 
 unfoldable pub checkOpen : Tableau → Verdict
-checkOpen T = checkBy nodeRefusalOpen T
+checkOpen T = checkWith olderFormulas nodeRefusalOpen T

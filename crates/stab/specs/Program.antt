@@ -7,7 +7,7 @@ use lib.IntN.{pos}
 use lib.ListN.{length}
 use Rattle.stab.specs.Basic.{if_then_else_, _and_}
 use Rattle.stab.specs.Node.{Tableau}
-use Rattle.stab.specs.Check.{check}
+use Rattle.stab.specs.Check.{checkAs}
 use Rattle.stab.specs.Model.{Model, checkModel}
 use Rattle.stab.specs.Text.{bytes, headingLine, rowLine, padded}
 use Rattle.stab.specs.Read.{Reading, read, stopped, SchemaText, ProofText, ModelText, readSchema, readProof, readModel}
@@ -55,10 +55,10 @@ afterReading judge (read a) (read b) = judge a b
 afterReading judge (read a) (stopped why k) = refusedNumbers why (At k)
 afterReading judge (stopped why k) r = refusedNumbers why (At k)
 
--- what the check program prints for the bytes of schema.txt and of proof.txt
-unfoldable pub checkProgram : List ℕ → List ℕ → List ℕ
-checkProgram schema proof =
-    printed (afterReading (λ s p. verdictNumbers (check (tableauOf s p))) (readSchema 4096 schema) (readProof 4096 9216 8192 proof))
+-- what the check program prints for the bytes of schema.txt and of proof.txt, or the one for older records if `older` holds
+unfoldable pub checkProgram : Bool → List ℕ → List ℕ → List ℕ
+checkProgram older schema proof =
+    printed (afterReading (λ s p. verdictNumbers (checkAs older (tableauOf s p))) (readSchema 4096 schema) (readProof 4096 9216 8192 proof))
 
 -- what the model check program prints for the bytes of schema.txt and of model.txt
 unfoldable pub modelProgram : List ℕ → List ℕ → List ℕ
@@ -84,9 +84,13 @@ rowFault S r = if ltb r S then inFirst (schemaRowLine r) else inSecond (proofRow
 unfoldable pub among : ℕ → ℕ → Refusal → Bool
 among a b why = leb a (refusalNumber why) and leb (refusalNumber why) b
 
--- at place k of a tableau: 7 and 8 name a formula row, 9 to 17 a node, "node j line 3 + P + j"
+-- at place k of a tableau: 7, 8 and 27 name a formula row, 9 to 17 a node, "node j line 3 + P + j"
 unfoldable pub checkPoints : ℕ → ℕ → Refusal → ℕ → Fault
-checkPoints S P why k = if among 7 8 why then rowFault S k else if among 9 17 why then inSecond (nodeLine P k) else noFault
+checkPoints S P why k =
+    if among 7 8 why then rowFault S k else
+    if among 9 17 why then inSecond (nodeLine P k) else
+    if among 27 27 why then rowFault S k else
+    noFault
 
 -- at place k of a model: 7 and 8 name a schema row, 18 a pair
 unfoldable pub modelPoints : Refusal → ℕ → Fault
@@ -104,10 +108,10 @@ faultAfterReading judge (read a) (stopped why k) = inSecond k
 faultAfterReading judge (stopped why k) r = inFirst k
 
 -- where the check program's refusal of the bytes of schema.txt and of proof.txt points
-unfoldable pub checkFault : List ℕ → List ℕ → Fault
-checkFault schema proof =
+unfoldable pub checkFault : Bool → List ℕ → List ℕ → Fault
+checkFault older schema proof =
     faultAfterReading
-    (λ s p. verdictFault (checkPoints (length (s .table) / 4) (length (p .table) / 4)) (check (tableauOf s p)))
+    (λ s p. verdictFault (checkPoints (length (s .table) / 4) (length (p .table) / 4)) (checkAs older (tableauOf s p)))
     (readSchema 4096 schema)
     (readProof 4096 9216 8192 proof)
 

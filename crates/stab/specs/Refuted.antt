@@ -9,7 +9,7 @@ use Rattle.stab.specs.Basic.{nat}
 use Rattle.stab.specs.Formula.{rowAt, tree}
 use Rattle.stab.specs.Meaning.{Assignment, truth}
 use Rattle.stab.specs.Node.{Tableau}
-use Rattle.stab.specs.Check.{check}
+use Rattle.stab.specs.Check.{check, checkOlder}
 use Rattle.stab.specs.declared.Verdict.the-variants.{Accepted}
 
 -- demand 3: "the schema is false at EVERY natural n from its least value up, under every assignment to every symbol at every whole-number index"
@@ -23,6 +23,8 @@ pub record SameSchema (T : Tableau) (schema : List ℤ) (schemaRows : ℕ) (root
   pub sameRoot : T .root ≡ root
   pub sameLeast : T .least ≡ least
 
--- no tableau of it is accepted: what an accepted model says of its schema
+-- no tableau of it is accepted, by the check or by the older one: what an accepted model says of its schema
 abbrev pub Irrefutable : List ℤ → ℕ → ℤ → ℤ → Type 0
-Irrefutable schema schemaRows root least = (T : Tableau) → SameSchema T schema schemaRows root least → (nodes links : ℕ) → check T ≡ Accepted nodes links → ⊥
+Irrefutable schema schemaRows root least =
+    (T : Tableau) → SameSchema T schema schemaRows root least → (nodes links : ℕ) →
+    (check T ≡ Accepted nodes links → ⊥) × (checkOlder T ≡ Accepted nodes links → ⊥)

@@ -8,7 +8,7 @@ pub enum Place {
     At(usize),
 }
 
-// Why a record is turned away: refusals 1 to 22.
+// Why a record is turned away: refusals 1 to 22, and those of document 02.
 pub enum Refusal {
     TextTooLong,
     TableTooShort,
@@ -32,6 +32,7 @@ pub enum Refusal {
     False,
     Number,
     Output,
+    Repeated,
 }
 
 // The check's answer and the model check's. An accepted model has both counts 0.

@@ -7,7 +7,7 @@ use lib.Dec.{ltb}
 use lib.IntN.{pos}
 use Rattle.stab.specs.Basic.{within, below, _otherwise_, scan}
 use Rattle.stab.specs.Node.{Tableau, setFits, parentFits}
-use Rattle.stab.specs.Check.{finding, wholeUnless, atUnless, rootFits, formulasRefusal, setRefusal, parentRefusal, nodeRefusal, tablesHold, withinLimits, refusal, refusalBy, linkCount, verdict, check, checkBy}
+use Rattle.stab.specs.Check.{finding, wholeUnless, atUnless, rootFits, formulasRefusal, setRefusal, parentRefusal, nodeRefusal, tablesHold, withinLimits, formulasBy, refusalWith, olderFormulas, presentFormulas}
 use Rattle.stab.specs.declared.Place.{Place}
 use Rattle.stab.specs.declared.Place.the-variants.{Whole}
 use Rattle.stab.specs.declared.Refusal.{Refusal}
@@ -19,7 +19,7 @@ use Rattle.stab.specs.declared.Verdict.the-variants.{Accepted, Refused}
 use Rattle.stab.proofs.Bools.{and-left, and-right, some-unless, none-unless, unless-none, otherwise-some, otherwise-first, otherwise-second}
 use Rattle.stab.proofs.Scans.{none-scan}
 use Rattle.stab.proofs.Findings.{otherwise-assoc}
-use Rattle.stab.proofs.Exactness.{keeps-of}
+use Rattle.stab.proofs.Exactness.Checked.{older-clears, tableau-clears}
 use Rattle.tableau.specs.Passes.{rowsRefusal, nodesRefusal}
 
 -- ---- `if !r`: r is the answer to t
@@ -43,7 +43,7 @@ found-some f why p e h = absurd (Option·some-ne-none (Refused why p) (sym (ap f
 
 module _ (T : Tableau) where
   pub least-fits : rowsRefusal T ≡ none → within (pos 0) (pos 9999) (T .least) ≡ true
-  unfolding rowsRefusal formulasRefusal rootFits wholeUnless
+  unfolding rowsRefusal formulasRefusal formulasBy rootFits wholeUnless
   least-fits h =
       and-right (below (T .schemaRows) (T .root)) _ (unless-none (rootFits (T .schemaRows) (T .root) (T .least)) _ (otherwise-first _ _ h))
 
@@ -64,8 +64,8 @@ module _ (T : Tableau) where
   parent-fits h j l = unless-none _ _ (none-scan (parentRefusal T) (T .nodeRows) (nodes-parents h) j l)
 
   -- the whole refusal, by its groups
-  pub refusal-is : refusal T ≡ (wholeUnless (tablesHold T) TableTooShort otherwise (wholeUnless (withinLimits T) TooMany otherwise ((rowsRefusal T otherwise nodesRefusal T) otherwise scan (nodeRefusal T) (T .nodeRows))))
-  unfolding refusal refusalBy rowsRefusal nodesRefusal
+  pub refusal-is : refusalWith olderFormulas nodeRefusal T ≡ (wholeUnless (tablesHold T) TableTooShort otherwise (wholeUnless (withinLimits T) TooMany otherwise ((rowsRefusal T otherwise nodesRefusal T) otherwise scan (nodeRefusal T) (T .nodeRows))))
+  unfolding refusalWith olderFormulas rowsRefusal nodesRefusal
   refusal-is =
       let R = rowsRefusal T in
       let A = scan (setRefusal T) (T .nodeRows) in
@@ -79,15 +79,9 @@ module _ (T : Tableau) where
 
 -- ---- the verdict from what was found
 
-pub refused-is : (T : Tableau) (f : Finding) (why : Refusal) (p : Place) → finding f ≡ refusal T → f ≡ Found why p → Refused why p ≡ check T
-unfolding check checkBy refusal verdict finding
-refused-is T f why p e h = ap (λ (x : Option Verdict). verdict x (Accepted (T .nodeRows) (linkCount T))) (sym (ap finding h) ∙ e)
-
-pub accepted-is : (T : Tableau) (f : Finding) (links : ℕ) → finding f ≡ refusal T → f ≡ Nothing → links ≡ linkCount T → Accepted (T .nodeRows) links ≡ check T
-unfolding check checkBy refusal verdict finding
-accepted-is T f links e h l =
-    ap (Accepted (T .nodeRows)) l ∙ ap (λ (x : Option Verdict). verdict x (Accepted (T .nodeRows) (linkCount T))) (sym (ap finding h) ∙ e)
-
 -- a record in which nothing is found has at most 1,024 nodes
-pub few-nodes : (T : Tableau) → refusal T ≡ none → T .nodeRows ≤ 1024
-few-nodes T h = keeps-of T h .tables .nodeLimit
+pub few-older : (T : Tableau) → refusalWith olderFormulas nodeRefusal T ≡ none → T .nodeRows ≤ 1024
+few-older T h = older-clears T .0 h .tables .nodeLimit
+
+pub few-present : (T : Tableau) → refusalWith presentFormulas nodeRefusal T ≡ none → T .nodeRows ≤ 1024
+few-present T h = tableau-clears T .0 h .older .tables .nodeLimit

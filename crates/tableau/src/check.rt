@@ -9,9 +9,9 @@ ghost use Prim.Native.Nat.{ℕ, _+_, _*_, _≤_};
 ghost use mathlib.Core.Option.{none};
 ghost use lib.Dec.{leb};
 ghost use lib.ListN.{length};
-ghost use Rattle.stab.specs.Basic.{_and_, _otherwise_, scan};
+ghost use Rattle.stab.specs.Basic.{if_then_else_, _and_, count, _otherwise_, scan};
 ghost use Rattle.stab.specs.Formula.{joined};
-ghost use Rattle.stab.specs.Check.{finding, holds, refusal, nodeRefusal};
+ghost use Rattle.stab.specs.Check.{finding, holds, repeatRefusal, rootFits, nodeRefusal, refusalWith, olderFormulas, isLink, verdict, checkOlder, checkAs};
 ghost use Rattle.stab.specs.Check.{check as checked};
 ghost use Rattle.stab.specs.Refuted.{Refuted};
 ghost use Rattle.stab.specs.declared.Verdict.the-variants.{Accepted};
@@ -19,6 +19,7 @@ ghost use Rattle.formula.specs.Facts.{AllKnown, AllFormed};
 ghost use Rattle.classes.specs.Class.{AllWorked as AllClassed};
 ghost use Rattle.branch.specs.Work.{tableau};
 ghost use Rattle.tableau.specs.Passes.{rowsRefusal, nodesRefusal};
+ghost use Rattle.tableau.specs.Fresh.{atRow, reached, countIn};
 
 // The tables hold what their counts say.
 fn hold(
@@ -295,7 +296,7 @@ fn first_refusal(
     members: &[i32],
     m: usize,
 ) -> Finding
-    ensures { λ r. ⌜ finding r ≡ refusal (tableau (now (schema .entry)) s (now (proof .entry)) p root least (now (nodes .entry)) k (now (members .entry)) m) ⌝ }
+    ensures { λ r. ⌜ finding r ≡ refusalWith olderFormulas nodeRefusal (tableau (now (schema .entry)) s (now (proof .entry)) p root least (now (nodes .entry)) k (now (members .entry)) m) ⌝ }
 {
     if !hold(schema, s, proof, p, nodes, k, members, m) {
         return Finding::Found {
@@ -315,6 +316,88 @@ fn first_refusal(
         }
     }
     large_record(schema, s, proof, p, root, least, nodes, k, members, m)
+}
+
+// The rows before a place, of n.
+fn at_row(place: Place, n: usize) -> usize
+    ensures { λ r. ⌜ r ≡ atRow place n ⌝ }
+{
+    match place {
+        Place::Whole => n,
+        Place::At(r) => { if r < n { r } else { n } }
+    }
+}
+
+// n or none.
+fn rows_if(fits: bool, n: usize) -> usize
+    ensures { λ r. ⌜ r ≡ (if fits then n else 0) ⌝ }
+{
+    if fits { n } else { 0 }
+}
+
+// How many of n formula rows come before what was found.
+fn rows_reached(found: Finding, fits: bool, n: usize) -> usize
+    ensures { λ r. ⌜ r ≡ reached (finding found) fits n ⌝ }
+{
+    let Finding::Found { why, place } = found else {
+        return n;
+    };
+    let k = answer::number(why);
+    if k <= 5 {
+        return 0;
+    }
+    if k <= 6 {
+        return rows_if(fits, n);
+    }
+    if k <= 8 {
+        return at_row(place, n);
+    }
+    n
+}
+
+// The number of rows, where it is within the limits.
+fn count_in(s: usize, p: usize) -> usize
+    ensures { λ r. ⌜ r ≡ countIn s p ⌝ }
+{
+    if few(s, p, 0, 0) {
+        return s + p;
+    }
+    0
+}
+
+// What is found first where proof rows may not repeat, by what is found where they may.
+fn fresh(
+    found: Finding,
+    schema: &[i32],
+    s: usize,
+    proof: &[i32],
+    p: usize,
+    root: i32,
+    least: i32,
+) -> Finding
+    ensures { λ r. ⌜ finding r ≡ (scan (repeatRefusal (joined (now (schema .entry)) s (now (proof .entry))) s) (reached (finding found) (rootFits s root least) (countIn s p)) otherwise finding found) ⌝ }
+{
+    let fits = formula::rows::root_fits(s, root, least);
+    let n = rows_reached(found, fits, count_in(s, p));
+    let again = repeats::repeats(schema, s, proof, s, n);
+    let Finding::Nothing = again else {
+        return again;
+    };
+    found
+}
+
+// The verdict on what was found in a record of k nodes.
+fn verdict_on(found: Finding, nodes: &[i32], k: usize) -> Verdict
+    requires { ⌜ (finding found ≡ none → k ≤ 1024) ⌝ }
+    ensures { λ r. ⌜ r ≡ verdict (finding found) (Accepted k (count (isLink (now (nodes .entry))) k)) ⌝ }
+{
+    match found {
+        Finding::Found { why, place } => Verdict::Refused { why, place },
+        Finding::Nothing => Verdict::Accepted {
+            nodes: k,
+            links: branch::links::links(nodes, k),
+        },
+    }
 }
 
 // The check's answer. Where it accepts, the schema is false at every natural n from its least value up, under every assignment.
@@ -345,11 +428,81 @@ pub fn check(
         members,
         member_count,
     );
-    match found {
-        Finding::Found { why, place } => Verdict::Refused { why, place },
-        Finding::Nothing => Verdict::Accepted {
-            nodes: node_rows,
-            links: branch::links::links(nodes, node_rows),
-        },
+    let first = fresh(found, schema, schema_rows, proof, proof_rows, root, least);
+    verdict_on(first, nodes, node_rows)
+}
+
+// The same for an older record, whose proof rows may repeat.
+pub fn check_older(
+    schema: &[i32],
+    schema_rows: usize,
+    proof: &[i32],
+    proof_rows: usize,
+    root: i32,
+    least: i32,
+    nodes: &[i32],
+    node_rows: usize,
+    members: &[i32],
+    member_count: usize,
+) -> Verdict
+    ensures { λ r. ⌜ r ≡ checkOlder (record { schema = now (schema .entry); schemaRows = «schema_rows»; proof = now (proof .entry); proofRows = «proof_rows»; root = root; least = least; nodes = now (nodes .entry); nodeRows = «node_rows»; members = now (members .entry); memberCount = «member_count» }) ⌝ }
+    ensures { λ r. ⌜ ((n l : ℕ) → r ≡ Accepted n l → Refuted (now (schema .entry)) root least) ⌝ }
+{
+    let found = first_refusal(
+        schema,
+        schema_rows,
+        proof,
+        proof_rows,
+        root,
+        least,
+        nodes,
+        node_rows,
+        members,
+        member_count,
+    );
+    verdict_on(found, nodes, node_rows)
+}
+
+// The one or the other.
+pub fn check_as(
+    older: bool,
+    schema: &[i32],
+    schema_rows: usize,
+    proof: &[i32],
+    proof_rows: usize,
+    root: i32,
+    least: i32,
+    nodes: &[i32],
+    node_rows: usize,
+    members: &[i32],
+    member_count: usize,
+) -> Verdict
+    ensures { λ r. ⌜ r ≡ checkAs older (record { schema = now (schema .entry); schemaRows = «schema_rows»; proof = now (proof .entry); proofRows = «proof_rows»; root = root; least = least; nodes = now (nodes .entry); nodeRows = «node_rows»; members = now (members .entry); memberCount = «member_count» }) ⌝ }
+{
+    if older {
+        return check_older(
+            schema,
+            schema_rows,
+            proof,
+            proof_rows,
+            root,
+            least,
+            nodes,
+            node_rows,
+            members,
+            member_count,
+        );
     }
+    check(
+        schema,
+        schema_rows,
+        proof,
+        proof_rows,
+        root,
+        least,
+        nodes,
+        node_rows,
+        members,
+        member_count,
+    )
 }

@@ -1,6 +1,7 @@
 // The entries that say where a refusal points: which of two texts, and the line there, as one number.
 use stab::Fault;
 ghost use mathlib.Core.Path.{_≡_};
+ghost use mathlib.Core.Bool.{true, false};
 ghost use Prim.Native.Nat.{_<_};
 ghost use Rattle.stab.specs.Program.{checkFault, modelFault};
 ghost use Rattle.stab.specs.Entry.{faultNumber};
@@ -20,9 +21,17 @@ fn numbered(f: Fault) -> u64
 // Where the check's refusal of a schema text and a proof text points.
 #[no_mangle]
 pub extern "C" fn zorambi_check_fault(schema: &[u8], proof: &[u8]) -> u64
-    ensures { λ r. ⌜ r ≡ faultNumber (checkFault (now (schema .entry)) (now (proof .entry))) ⌝ }
+    ensures { λ r. ⌜ r ≡ faultNumber (checkFault false (now (schema .entry)) (now (proof .entry))) ⌝ }
 {
-    numbered(program::check_fault(schema, proof))
+    numbered(program::check_fault(false, schema, proof))
+}
+
+// The same of an older record.
+#[no_mangle]
+pub extern "C" fn zorambi_check_older_fault(schema: &[u8], proof: &[u8]) -> u64
+    ensures { λ r. ⌜ r ≡ faultNumber (checkFault true (now (schema .entry)) (now (proof .entry))) ⌝ }
+{
+    numbered(program::check_fault(true, schema, proof))
 }
 
 // Where the model check's refusal of a schema text and a model text points.

@@ -6,7 +6,7 @@ pub mod texts;
 use stab::Verdict;
 use stab::Written;
 ghost use mathlib.Core.Path.{_≡_};
-ghost use Rattle.stab.specs.Check.{check};
+ghost use Rattle.stab.specs.Check.{check, checkOlder};
 ghost use Rattle.stab.specs.Model.{checkModel};
 ghost use Rattle.stab.specs.Answer.{packed, answerIn};
 ghost use Rattle.stab.specs.Entry.{writtenPacked, WrittenFits};
@@ -44,7 +44,39 @@ pub extern "C" fn zorambi_check(
     ))
 }
 
-// The model check. An answer of 0 says that no tableau of the same schema rows, root and least value is accepted.
+// The check of an older record, whose proof rows may repeat. An answer of 0 says of the schema what the check's does.
+#[no_mangle]
+pub extern "C" fn zorambi_check_older(
+    schema: &[i32],
+    schema_rows: usize,
+    proof: &[i32],
+    proof_rows: usize,
+    root: i32,
+    least: i32,
+    nodes: &[i32],
+    node_rows: usize,
+    members: &[i32],
+    member_count: usize,
+) -> u64
+    ensures { λ r. ⌜ r ≡ packed (checkOlder (record { schema = now (schema .entry); schemaRows = «schema_rows»; proof = now (proof .entry); proofRows = «proof_rows»; root = root; least = least; nodes = now (nodes .entry); nodeRows = «node_rows»; members = now (members .entry); memberCount = «member_count» })) ⌝ }
+    ensures { λ r. ⌜ (answerIn r ≡ 0 → Refuted (now (schema .entry)) root least) ⌝ }
+{
+    answer::pack(tableau::check::check_older(
+        schema,
+        schema_rows,
+        proof,
+        proof_rows,
+        root,
+        least,
+        nodes,
+        node_rows,
+        members,
+        member_count,
+    ))
+}
+
+// The model check. An answer of 0 says that no tableau of the same schema rows, root and least value is accepted, by the check or by
+// the older one.
 #[no_mangle]
 pub extern "C" fn zorambi_check_model(
     schema: &[i32],

@@ -1,6 +1,7 @@
 //! One case put to the library and to the other implementation.
 
 use zorambi::entries;
+use zorambi::entries::{check_older, check_older_fault};
 use zorambi_reference::generate::models::ModelTables;
 use zorambi_reference::generate::rng::mix;
 use zorambi_reference::generate::tables::Tables;
@@ -97,9 +98,12 @@ pub(crate) fn exact<T: Clone>(table: &[T]) -> Box<[T]> {
     table.to_vec().into_boxed_slice()
 }
 
-pub fn check(t: &Tables) -> u64 {
+/// An entry for tableaux: the check, or the older check.
+pub type CheckEntry = fn(&[i32], usize, &[i32], usize, i32, i32, &[i32], usize, &[i32], usize) -> u64;
+
+fn check(entry: CheckEntry, t: &Tables) -> u64 {
     let [schema, proof, nodes, members] = [&t.schema, &t.proof, &t.nodes, &t.members].map(|table| exact(table));
-    entries::check(
+    entry(
         &schema,
         t.schema_count,
         &proof,
@@ -156,7 +160,8 @@ fn written(length: usize, write: impl FnOnce(&mut [u8]) -> u64) -> Seen {
 /// The library on a case; `None` if no entry does what is asked.
 pub fn of_library(input: &Input) -> Option<Seen> {
     Some(match input {
-        Input::Check(t) => Seen::number(check(t)),
+        Input::Check(t) => Seen::number(check(entries::check, t)),
+        Input::CheckOlder(t) => Seen::number(check(check_older, t)),
         Input::Model(m) => Seen::number(check_model(m)),
         Input::ReadSchema { text, length, .. } => read_schema(text, *length),
         Input::ReadProof { text, lengths, .. } => read_proof(text, *lengths),
@@ -178,8 +183,12 @@ pub fn of_library(input: &Input) -> Option<Seen> {
             Seen { span: entries::line(&exact(text), *number), ..Seen::default() }
         }
         Input::Texts { schema, proof } => Seen::number(check_texts(schema, proof)),
+        Input::TextsOlder { schema, proof } => Seen::number(check_texts_older(schema, proof)),
         Input::CheckFault { schema, proof } => {
             Seen { fault: entries::check_fault(&exact(schema), &exact(proof)), ..Seen::default() }
+        }
+        Input::CheckOlderFault { schema, proof } => {
+            Seen { fault: check_older_fault(&exact(schema), &exact(proof)), ..Seen::default() }
         }
         Input::ModelFault { schema, model } => {
             Seen { fault: entries::model_fault(&exact(schema), &exact(model)), ..Seen::default() }
@@ -190,6 +199,15 @@ pub fn of_library(input: &Input) -> Option<Seen> {
 
 /// The check program over the library: the schema's text first, then the proof's, then the check.
 pub fn check_texts(schema: &[u8], proof: &[u8]) -> u64 {
+    check_texts_by(entries::check, schema, proof)
+}
+
+/// The same with the older check.
+pub fn check_texts_older(schema: &[u8], proof: &[u8]) -> u64 {
+    check_texts_by(check_older, schema, proof)
+}
+
+fn check_texts_by(entry: CheckEntry, schema: &[u8], proof: &[u8]) -> u64 {
     let s = read_schema(schema, 4096);
     if s.answer() != 0 {
         return s.packed;
@@ -199,7 +217,7 @@ pub fn check_texts(schema: &[u8], proof: &[u8]) -> u64 {
         return p.packed;
     }
     let count = |number: i32| number as usize;
-    entries::check(
+    entry(
         &s.tables[0],
         count(s.results[2]),
         &p.tables[0],

@@ -5,6 +5,7 @@ use crate::tally::Tally;
 use zorambi_reference::formula::{Row, AND, BIG_AND, BIG_OR, FALSE, LITERAL, NEGATED, ON_I, ON_N, OR, PLAIN, TRUE};
 use zorambi_reference::generate::models::ModelTables;
 use zorambi_reference::generate::tables::{Tables, Tree, TreeNode};
+use zorambi_reference::generate::twice::rows_of_one_key;
 use zorambi_reference::generate::{Input, Rng};
 
 /// Each sort of them, as deep and with sets, sizes and ranges as large as they come, but fewer nodes.
@@ -26,6 +27,8 @@ pub fn test(tally: &mut Tally) {
         ("unfoldings with instances in either order", swapped_unfoldings(40)),
         ("1,024 rows of one class", one_class()),
         ("1,024 rows, 970 ors of one shape, no two alike", no_two_alike()),
+        ("1,024 rows of all kinds, none twice", rows(1024)),
+        ("1,024 rows of one key", one_key()),
         ("511 ranges in one another", nested_ranges()),
         ("510 links in a row, each to the one before", links_in_a_row()),
     ];
@@ -72,6 +75,17 @@ pub fn tableaux() -> Vec<(&'static str, Tables)> {
         ("1,024 rows, half of them ors of one class", ors_of_one_class()),
         ("1,024 rows, no two of one class", no_two_of_one_class()),
         ("1,024 rows, 970 ors of one shape, no two alike", no_two_alike()),
+    ]
+}
+
+/// Tableaux of 1,024 rows that show what it takes to find that none is written twice, all of them accepted.
+pub fn none_twice() -> Vec<(&'static str, Tables)> {
+    vec![
+        ("1,024 rows of all kinds, none twice", rows(1024)),
+        ("1,024 rows of one class", one_class()),
+        ("1,024 rows of one key", one_key()),
+        ("1,024 rows, no two of one class", no_two_of_one_class()),
+        ("1,024 rows, 1,024 nodes, 8,192 members", largest()),
     ]
 }
 
@@ -168,7 +182,7 @@ pub enum Part {
     None,
     /// Constants, in the same rows for all instances.
     Shared,
-    /// Constants, in other rows for each instance.
+    /// Constants, in other rows for each instance, over a row of the schema that is written there as often.
     Own,
     /// Literals on the index too, so that instances are told apart at once.
     OnIndex,
@@ -199,7 +213,11 @@ pub fn links(held: usize, count: usize, part: Part) -> Tables {
             let yes = b.row([TRUE, 0, 0, 0]);
             (0..8).map(|_| b.large_twins(yes, no)).collect()
         }
-        Part::Shared | Part::Own => vec![b.large(no)],
+        Part::Shared => vec![b.large(no)],
+        Part::Own => {
+            let large = b.large(no);
+            [vec![large], (0..=held).map(|_| b.row([FALSE, 0, 0, 0])).collect()].concat()
+        }
     };
     let body = if part == Part::None { first } else { b.row([OR, shared[0], first, 0]) };
     let mut iteration = b.row([BIG_AND, body, -9999, 0]);
@@ -210,7 +228,7 @@ pub fn links(held: usize, count: usize, part: Part) -> Tables {
         let before = match part {
             Part::None => return literal,
             Part::Shared => shared[0],
-            Part::Own => b.large(no),
+            Part::Own => b.large(shared[1 + limit as usize]),
             Part::OnIndex => b.large(literal),
             Part::Twins | Part::Leaning | Part::Levels(_) => {
                 let second = b.row([LITERAL, 1, ON_N, -limit]);
@@ -282,17 +300,20 @@ pub fn unfoldings(count: usize) -> Tables {
 pub fn swapped_unfoldings(count: usize) -> Tables {
     let mut b = Builder::default();
     let no = b.row([FALSE, 0, 0, 0]);
-    let instance = |b: &mut Builder, base: i32| {
-        let [first, second] = [0, 1].map(|symbol| b.row([LITERAL, symbol, base, 0]));
+    let literals = |b: &mut Builder, base: i32| [0, 1].map(|symbol| b.row([LITERAL, symbol, base, 0]));
+    let instance = |b: &mut Builder, [first, second]: [i32; 2]| {
         let large = b.large_twins(first, second);
         b.either(large, first)
     };
-    let body = instance(&mut b, ON_I);
+    let of_body = literals(&mut b, ON_I);
+    let body = instance(&mut b, of_body);
+    // Literals in rows of their own for each instance; in the schema they may be written so often.
+    let own: Vec<[i32; 2]> = (0..30).map(|_| literals(&mut b, ON_N)).collect();
     let iteration = b.row([BIG_AND, body, 0, 0]);
     let root = b.row([AND, no, iteration, 0]);
     let schema_count = b.rows.len();
     let with = b.row([BIG_AND, body, 0, 1]);
-    let others: Vec<i32> = (0..30).map(|_| instance(&mut b, ON_N)).collect();
+    let others: Vec<i32> = own.into_iter().map(|literals| instance(&mut b, literals)).collect();
     let mut up = b.node([-1, 0, root, -1, -1, -1, 0], &[root]);
     for at in 0..count {
         up = b.node([up, 3, iteration, with, others[at % 30], -1, 0], &[no, iteration]);
@@ -306,11 +327,17 @@ pub fn swapped_unfoldings(count: usize) -> Tables {
 pub fn one_shape(held: usize, count: usize) -> Tables {
     let mut b = Builder::default();
     let no = b.row([FALSE, 0, 0, 0]);
-    let formula = |b: &mut Builder, at: usize, base: i32, offset: i32| {
-        let [first, second] = [0, at as i32 + 1].map(|symbol| b.row([LITERAL, symbol, base, offset]));
-        b.twins(first, second, 7)[7]
+    let literals = |b: &mut Builder, at: usize, base: i32, offset: i32| {
+        [0, at as i32 + 1].map(|symbol| b.row([LITERAL, symbol, base, offset]))
     };
-    let bodies: Vec<i32> = (0..held).map(|at| formula(&mut b, at, ON_I, 0)).collect();
+    let bodies: Vec<i32> = (0..held)
+        .map(|at| {
+            let [first, second] = literals(&mut b, at, ON_I, 0);
+            b.twins(first, second, 7)[7]
+        })
+        .collect();
+    // The literals of both rounds' instances, each in rows of its own, which the schema may repeat.
+    let own = [0, 1].map(|limit| (0..held).map(|at| literals(&mut b, at, ON_N, -limit)).collect::<Vec<_>>());
     let iterations: Vec<i32> = bodies.iter().map(|body| b.row([BIG_AND, *body, -9999, 0])).collect();
     let mut ands = vec![no];
     for iteration in &iterations {
@@ -332,7 +359,8 @@ pub fn one_shape(held: usize, count: usize) -> Tables {
             let on = set.iter().copied().find(|row| b.rows[*row as usize] == [BIG_AND, *body, -9999, limit]);
             let on = on.expect("an iteration");
             let with = b.row([BIG_AND, *body, -9999, limit + 1]);
-            let other = formula(b, at, ON_N, -limit);
+            let [first, second] = own[limit as usize][at];
+            let other = b.twins(first, second, 7)[7];
             up = b.node([up, 3, on, with, other, -1, 0], set);
             set.retain(|row| *row != on);
             set.extend([with, other]);
@@ -434,6 +462,11 @@ fn no_two_of_one_class() -> Tables {
     })
 }
 
+/// Literals whose columns give one sum modulo 1021: a table that finds rows by such a sum has them all in one place.
+fn one_key() -> Tables {
+    filled(|b| b.rows.extend(rows_of_one_key(0).step_by(5).take(1023)))
+}
+
 /// Ors of any two of 45 literals.
 fn no_two_alike() -> Tables {
     filled(|b| {
@@ -477,7 +510,7 @@ fn deep(left: bool) -> Tables {
 fn largest() -> Tables {
     let mut t = splits(1024, 8);
     let left = 1024 - t.schema_count - t.proof_count;
-    t.proof.extend([LITERAL, 9, ON_N, 0].repeat(left));
+    t.proof.extend((0..left as i32).flat_map(|offset| [LITERAL, 9, ON_N, offset]));
     t.proof_count += left;
     t
 }
@@ -545,7 +578,7 @@ fn links_in_a_row() -> Tables {
     b.tables(no, 1)
 }
 
-/// `count` formula rows, and false as the root's first part.
+/// `count` formula rows, none of them twice, and false as the root's first part.
 pub fn rows(count: usize) -> Tables {
     let mut b = Builder::default();
     let no = b.row([FALSE, 0, 0, 0]);
@@ -555,11 +588,12 @@ pub fn rows(count: usize) -> Tables {
     let schema_count = b.rows.len();
     let mut last = iteration;
     while b.rows.len() < count {
-        last = match b.rows.len() % 4 {
-            0 => b.row([NEGATED, 7, ON_N, 1]),
+        let at = b.rows.len() as i32;
+        last = match at % 4 {
+            0 => b.row([NEGATED, 7, ON_N, at]),
             1 => b.row([OR, iteration, last, 0]),
             2 => b.row([AND, last, last, 0]),
-            _ => b.row([BIG_AND, literal, -5, 5]),
+            _ => b.row([BIG_AND, literal, -5, at]),
         };
     }
     b.node([-1, 0, root, -1, -1, -1, 0], &[root]);

@@ -4,7 +4,7 @@ use std::path::Path;
 use std::process::exit;
 use zorambi_compare::tally::Tally;
 use zorambi_compare::{edges, heavy, paper, records, sides};
-use zorambi_reference::generate::{across, case, ranges, Case};
+use zorambi_reference::generate::{across, case, ranges, twice, Case};
 
 const USE: &str = "\
 use: zorambi-compare SEED COUNT RECORDS        the paper's cases, the records below RECORDS, texts and tables at the
@@ -23,7 +23,8 @@ fn generated(tally: &mut Tally, seed: u64, count: u64) {
     }
 }
 
-/// Splits at every edge of K, or links at every edge of their bounds and with every target.
+/// Splits at every edge of K, links at every edge of their bounds and with every target, or rows written again at
+/// every place.
 fn made(tally: &mut Tally, what: &str, cases: &[Case]) {
     for (number, case) in cases.iter().enumerate() {
         tally.compare_generated(&format!("edge {number} of {what}"), case);
@@ -56,6 +57,7 @@ fn main() {
             sides::test(&mut tally, Path::new(folder), 20);
             made(&mut tally, "K", &ranges::edges());
             made(&mut tally, "links", &across::edges());
+            made(&mut tally, "rows again", &twice::edges());
             generated(&mut tally, number(seed), number(count));
             tally.test_cover();
         }

@@ -1,7 +1,8 @@
 //! The paper's record, its neighbours and its models, with the answers that the paper gives.
 
-use crate::calls::{check_model_texts, check_texts};
+use crate::calls::{check_model_texts, check_texts, check_texts_older};
 use crate::tally::Tally;
+use zorambi::entries::{check_fault, check_older_fault};
 use zorambi_reference::generate::Input;
 use zorambi_reference::text::Named;
 
@@ -74,6 +75,8 @@ pub fn test(tally: &mut Tally) {
         tally.compare(&format!("{name}, line at fault"), &Input::CheckFault { schema, proof });
     }
 
+    rows_again(tally);
+
     let root_3 = schema("4 1\n", "3 1\n");
     let models = [
         ("no pair, n = 1", SCHEMA, "n\n1\nsymbol index\n", "20 -1 0 0"),
@@ -97,4 +100,44 @@ pub fn test(tally: &mut Tally) {
             tally.compare(&format!("line {number}"), &Input::Line { named, schema, proof, number });
         }
     }
+}
+
+/// Document 02, No. 9: further rows at the end of the proof's, from row 9 on, which is line 6 of the proof. Verdict and
+/// line at fault of the check, and of the older check.
+fn rows_again(tally: &mut Tally) {
+    const ACCEPTED: (&str, u64) = ("0 0 7 1", 0);
+    let again = ("27 9 0 0", 6);
+    let rows = [
+        ("schema row 0 again", "4 1\n", "2 0 2 0\n", again, ACCEPTED),
+        ("schema row 4 again", "4 1\n", "4 2 3 0\n", again, ACCEPTED),
+        ("proof row 5 again", "4 1\n", "7 0 2 1\n", again, ACCEPTED),
+        ("proof row 8 again", "4 1\n", "3 0 1 0\n", again, ACCEPTED),
+        ("proof row 8, another kind", "4 1\n", "2 0 1 1\n", ACCEPTED, ACCEPTED),
+        ("proof row 8, another a", "4 1\n", "3 1 1 0\n", ACCEPTED, ACCEPTED),
+        ("proof row 8, another b", "4 1\n", "3 0 0 0\n", ACCEPTED, ACCEPTED),
+        ("proof row 8, another c", "4 1\n", "3 0 1 1\n", ACCEPTED, ACCEPTED),
+        ("schema row 4, sides swapped", "4 1\n", "4 3 2 0\n", ACCEPTED, ACCEPTED),
+        ("a new row twice", "4 1\n", "0 0 0 0\n1 0 0 0\n0 0 0 0\n", ("27 11 0 0", 8), ACCEPTED),
+        ("a row again, then an ill-formed one", "4 1\n", "2 0 1 0\n8 0 0 0\n", again, ("7 10 0 0", 7)),
+        ("an ill-formed row, then one again", "4 1\n", "8 0 0 0\n2 0 1 0\n", ("7 9 0 0", 6), ("7 9 0 0", 6)),
+        ("a row again, root not outer", "0 1\n", "2 0 1 0\n", again, ("6 -1 0 0", 0)),
+        ("a row again, root no schema row", "5 1\n", "2 0 1 0\n", ("6 -1 0 0", 0), ("6 -1 0 0", 0)),
+        ("a row again, least -1", "4 -1\n", "2 0 1 0\n", ("6 -1 0 0", 0), ("6 -1 0 0", 0)),
+    ];
+    for (name, root, rows, present, older) in rows {
+        let schema = changed(SCHEMA, "4 1\n", root).into_bytes();
+        let proof = changed(PROOF, "3 0 1 0\n", &["3 0 1 0\n", rows].concat()).into_bytes();
+        tally.test(name, equal(&printed(check_texts(&schema, &proof)), present.0));
+        tally.test(&format!("{name}, older"), equal(&printed(check_texts_older(&schema, &proof)), older.0));
+        let line = |fault: u64| if fault & 1 == 1 { fault / 2 } else { fault };
+        let lines = [check_fault(&schema, &proof), check_older_fault(&schema, &proof)].map(line);
+        tally.test(&format!("{name}, lines"), equal(&format!("{lines:?}"), &format!("{:?}", [present.1, older.1])));
+        tally.compare(name, &Input::Texts { schema: schema.clone(), proof: proof.clone() });
+        tally.compare(&format!("{name}, line at fault"), &Input::CheckFault { schema, proof });
+    }
+    // Schema rows may be written twice.
+    let proof = b"kind a b c\nup rule on with other to by set\n-1 5 0 -1 -1 -1 0 0\n";
+    let schema = b"root least\n0 0\nkind a b c\n1 0 0 0\n0 0 0 0\n1 0 0 0\n1 0 0 0\n";
+    tally.test("schema rows twice", equal(&printed(check_texts(schema, proof)), "0 0 1 0"));
+    tally.test("schema rows twice, older", equal(&printed(check_texts_older(schema, proof)), "0 0 1 0"));
 }

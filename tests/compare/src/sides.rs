@@ -22,8 +22,9 @@ pub fn test(tally: &mut Tally, folder: &Path, times: u64) {
         let tree = tables(&file("schema.txt"), &file("proof.txt")).tree();
         for seed in 0..times {
             for (kind, _) in KINDS {
-                let Some((tree, aim)) = swapped(&tree, kind, &mut Rng::new(seed)) else { continue };
-                let case = Case { sort: SORT, input: Input::Check(tree.tables()), aim: Some(aim) };
+                let rng = &mut Rng::new(seed);
+                let Some((tree, aim)) = swapped(&tree, kind, rng) else { continue };
+                let case = Case { sort: SORT, input: Input::Check(tree.mostly_once(rng).tables()), aim: Some(aim) };
                 tally.compare_generated(&format!("{}, {kind}, seed {seed}", folder.display()), &case);
             }
         }

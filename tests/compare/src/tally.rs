@@ -1,28 +1,35 @@
 //! What passed and failed, and how often each answer occurred.
 
 use crate::again::ways;
-use crate::calls::{of_library, of_reference};
+use crate::calls::{of_library, of_reference, Seen};
 use crate::sides as of_records;
 use crate::soundness::Soundness;
 use std::collections::BTreeMap;
-use zorambi_reference::generate::cases::{ACROSS, EXACT_ANCESTOR, RANGES, SIDES};
+use zorambi_reference::generate::cases::{ACROSS, EXACT_ANCESTOR, RANGES, SIDES, TWICE};
 use zorambi_reference::generate::sides::{self, Comes};
-use zorambi_reference::generate::{across, exact, ranges, Aim, Case, Input};
+use zorambi_reference::generate::{across, exact, ranges, twice, Aim, Case, Input};
 
 /// The entries by what they do, as columns of the table of answers.
-const GROUPS: [&str; 6] = ["check", "model", "read", "write", "program", "again"];
-const AGAIN: usize = 5;
+const GROUPS: [&str; 7] = ["check", "older", "model", "read", "write", "program", "again"];
+const OLDER: usize = 1;
+const AGAIN: usize = 6;
 
-/// How often something was checked, accepted, and accepted with links.
+/// The answers that there are.
+const ANSWERS: [usize; 24] = [0, 1, 2, 3, 4, 5, 6, 7, 8, 9, 10, 11, 12, 13, 14, 15, 16, 17, 18, 19, 20, 21, 22, 27];
+
+/// How often something was checked, accepted, and accepted with links; how often a proof row is written twice in it, and
+/// how often the older check accepts that.
 #[derive(Clone, Copy, Default)]
 struct Accepted {
     cases: u64,
     accepted: u64,
     linked: u64,
+    twice: u64,
+    older: u64,
 }
 
-/// How often cases of one kind were compared, and what came of them at the node that they are about, at
-/// an earlier and at a later one.
+/// How often cases of one kind were compared, and what came of them under the older check at the node that they are
+/// about, at an earlier and at a later one; how often the check answers 27.
 #[derive(Clone, Copy, Default)]
 struct Aimed {
     cases: u64,
@@ -30,6 +37,7 @@ struct Aimed {
     at: u64,
     earlier: u64,
     later: u64,
+    twice: u64,
 }
 
 #[derive(Default)]
@@ -37,7 +45,7 @@ pub struct Tally {
     pub passed: u64,
     pub failed: u64,
     /// By group and answer.
-    answers: [[u64; 23]; GROUPS.len()],
+    answers: [[u64; 28]; GROUPS.len()],
     /// Generated tableaux by sort.
     tableaux: BTreeMap<&'static str, Accepted>,
     /// Generated tableaux that are made to show one thing, by their sort and kind.
@@ -48,11 +56,12 @@ pub struct Tally {
 fn group(input: &Input) -> Option<usize> {
     match input {
         Input::Check(_) => Some(0),
-        Input::Model(_) => Some(1),
-        Input::ReadSchema { .. } | Input::ReadProof { .. } | Input::ReadModel { .. } => Some(2),
-        Input::WriteSchema { .. } | Input::WriteProof { .. } | Input::WriteModel { .. } => Some(3),
-        Input::Texts { .. } => Some(4),
-        Input::CheckFault { .. } | Input::ModelFault { .. } => None,
+        Input::CheckOlder(_) => Some(1),
+        Input::Model(_) => Some(2),
+        Input::ReadSchema { .. } | Input::ReadProof { .. } | Input::ReadModel { .. } => Some(3),
+        Input::WriteSchema { .. } | Input::WriteProof { .. } | Input::WriteModel { .. } => Some(4),
+        Input::Texts { .. } | Input::TextsOlder { .. } => Some(5),
+        Input::CheckFault { .. } | Input::CheckOlderFault { .. } | Input::ModelFault { .. } => None,
         Input::Line { .. } | Input::LineNumbers { .. } | Input::Compare { .. } => None,
     }
 }
@@ -76,9 +85,32 @@ impl Tally {
         }
     }
 
-    /// Puts a case to both implementations; false if the library has no entry for it.
+    /// Puts a case to both implementations, one for the check to the older check too; false if the library has no
+    /// entry for it.
     pub fn compare(&mut self, what: &str, input: &Input) -> bool {
-        let Some(ours) = of_library(input) else { return false };
+        self.compare_both(what, input).is_some()
+    }
+
+    /// The same; gives what the library does, and under the older check.
+    fn compare_both(&mut self, what: &str, input: &Input) -> Option<(Seen, Option<Seen>)> {
+        let ours = self.put(what, input)?;
+        let older = input.older().and_then(|older| self.put(&format!("{what}, older"), &older));
+        if let (Some(older), Some(_)) = (&older, group(input)) {
+            // The two agree but for 27, which the older check does not know.
+            let fits = if ours.answer() == 27 { older.answer() != 27 } else { ours == *older };
+            let why = || format!("check {:#x}, older check {:#x}", ours.packed, older.packed);
+            self.test(what, if fits { Ok(()) } else { Err(why()) });
+        }
+        // What the check accepts, the older one accepts too.
+        if let (Input::Check(tables), Some(older)) = (input, older.as_ref().filter(|older| older.answer() == 0)) {
+            let result = self.soundness.try_accepted(tables, older.packed);
+            self.test(what, result);
+        }
+        Some((ours, older))
+    }
+
+    fn put(&mut self, what: &str, input: &Input) -> Option<Seen> {
+        let ours = of_library(input)?;
         let difference = ours.difference(&of_reference(input));
         self.test(what, difference.map_or(Ok(()), Err));
         if let Some(group) = group(input) {
@@ -89,50 +121,54 @@ impl Tally {
             self.test(&format!("{what}, {}", way.what), difference.map_or(Ok(()), Err));
             self.count(AGAIN, way.library.answer());
         }
-        if let (Input::Check(tables), 0) = (input, ours.answer()) {
-            let result = self.soundness.try_accepted(tables, ours.packed);
-            self.test(what, result);
-        }
-        true
+        Some(ours)
     }
 
     /// The same with a generated case; tableaux are counted by their sort.
     pub fn compare_generated(&mut self, what: &str, case: &Case) -> bool {
-        let before = self.answers[0][0];
-        if !self.compare(what, &case.input) {
-            return false;
-        }
-        if let Input::Check(t) = &case.input {
-            let accepted = self.answers[0][0] > before;
+        let Some((ours, older)) = self.compare_both(what, &case.input) else { return false };
+        if let (Input::Check(t), Some(older)) = (&case.input, older) {
+            let accepted = ours.answer() == 0;
             let links = t.nodes.chunks_exact(9).take(t.node_count).filter(|node| node[1] == 8).count();
             let counts = self.tableaux.entry(case.sort).or_default();
             counts.cases += 1;
             counts.accepted += u64::from(accepted);
             counts.linked += u64::from(accepted && links > 0);
-        }
-        if let Some(aim) = &case.aim {
-            self.judge_aim(what, case, aim);
+            counts.twice += u64::from(ours.answer() == 27);
+            counts.older += u64::from(ours.answer() == 27 && older.answer() == 0);
+            if let Some(aim) = &case.aim {
+                let expected = aim.answers(t);
+                self.judge_aim(what, case.sort, aim, expected, [&ours, &older]);
+            }
         }
         true
     }
 
     /// A case that is made to show one thing: what is expected of it, and its counts.
-    fn judge_aim(&mut self, what: &str, case: &Case, aim: &Aim) {
-        let Some(ours) = of_library(&case.input) else { return };
-        let (answer, place) = (ours.answer(), ours.place());
-        if let Some((expected, at)) = aim.expected {
-            let fits = (answer, place) == (u64::from(expected), i64::from(at));
-            let why = || format!("answer {answer} place {place}, made for {expected} {at}");
+    fn judge_aim(
+        &mut self,
+        what: &str,
+        sort: &'static str,
+        aim: &Aim,
+        expected: Option<[(u8, i32); 2]>,
+        seen: [&Seen; 2],
+    ) {
+        let found = seen.map(|seen| (seen.answer(), seen.place()));
+        if let Some(expected) = expected {
+            let fits = found == expected.map(|(answer, at)| (u64::from(answer), i64::from(at)));
+            let why = || format!("answers and places {found:?}, made for {expected:?}");
             self.test(what, if fits { Ok(()) } else { Err(why()) });
         }
+        let [(present, _), (answer, place)] = found;
         for kind in &aim.kinds {
-            let counts = self.aimed.entry((case.sort, kind)).or_default();
+            let counts = self.aimed.entry((sort, kind)).or_default();
             let node = i64::from(aim.node);
             counts.cases += 1;
             counts.accepted += u64::from(answer == 0);
             counts.at += u64::from(answer > 0 && place == node);
             counts.earlier += u64::from(answer > 0 && place < node);
             counts.later += u64::from(answer > 0 && place > node);
+            counts.twice += u64::from(present == 27);
         }
     }
 
@@ -149,13 +185,15 @@ impl Tally {
             cases: sum.cases + counts.cases,
             accepted: sum.accepted + counts.accepted,
             linked: sum.linked + counts.linked,
+            twice: sum.twice + counts.twice,
+            older: sum.older + counts.older,
         })
     }
 
     /// Every answer has occurred; a fifth of the generated tableaux are accepted, and half of those
     /// have links.
     pub fn test_cover(&mut self) {
-        for answer in 0..23 {
+        for answer in ANSWERS {
             let result = if self.times(answer) > 0 { Ok(()) } else { Err("never occurred".to_string()) };
             self.test(&format!("answer {answer}"), result);
         }
@@ -164,13 +202,21 @@ impl Tally {
             let result = if self.answers[AGAIN][answer] > 0 { Ok(()) } else { Err("never occurred".to_string()) };
             self.test(&format!("answer {answer} there and back"), result);
         }
-        let Accepted { cases, accepted, linked } = self.all_tableaux();
+        // What the older check can answer has occurred there.
+        for answer in [0, 2, 5, 6, 7, 8, 9, 10, 11, 12, 13, 14, 15, 16, 17] {
+            let result = if self.answers[OLDER][answer] > 0 { Ok(()) } else { Err("never occurred".to_string()) };
+            self.test(&format!("answer {answer} of the older check"), result);
+        }
+        let Accepted { cases, accepted, linked, .. } = self.all_tableaux();
         let enough = |fits: bool| if fits { Ok(()) } else { Err("too few".to_string()) };
         self.test("a fifth of the tableaux accepted", enough(cases > 0 && accepted * 5 >= cases));
         self.test("half of those with links", enough(accepted > 0 && linked * 2 >= accepted));
         for (kind, at, earlier) in exact::KINDS {
             let counts = self.aimed(EXACT_ANCESTOR, kind);
-            let fits = (counts.at > 0) == at && (counts.earlier > 0) == earlier && counts.later + counts.accepted == 0;
+            let fits = (counts.at > 0) == at
+                && (counts.earlier > 0) == earlier
+                && counts.later + counts.accepted == 0
+                && counts.twice < counts.cases;
             self.test(&format!("link to an exact ancestor, {kind}"), enough(fits));
         }
         for (kind, comes) in sides::KINDS {
@@ -181,40 +227,51 @@ impl Tally {
                 Comes::Refused => refused > 0 && counts.accepted == 0,
                 Comes::MostlyRefused => refused > counts.accepted,
             };
-            self.test(&format!("sides, {kind}"), enough(fits));
+            self.test(&format!("sides, {kind}"), enough(fits && counts.twice < counts.cases));
         }
         let of_ranges = ranges::kinds().map(|(kind, answer)| (RANGES, kind, answer));
         let of_across = across::kinds().map(|(kind, answer)| (ACROSS, kind, answer));
         for (sort, kind, answer) in of_ranges.chain(of_across) {
             let counts = self.aimed(sort, kind);
             let as_made = if answer == 0 { counts.accepted } else { counts.at };
-            self.test(&format!("{sort}, {kind}"), enough(counts.cases > 0 && as_made == counts.cases));
+            self.test(&format!("{sort}, {kind}"), enough(as_made == counts.cases && counts.twice < counts.cases));
+        }
+        for (kind, [present, older]) in twice::kinds() {
+            let counts = self.aimed(TWICE, kind);
+            let of_older = if older == 0 { counts.accepted } else { counts.at };
+            let twice = if present == 27 { counts.cases } else { 0 };
+            let fits = counts.cases > 0 && of_older == counts.cases && counts.twice == twice;
+            self.test(&format!("{TWICE}, {kind}"), enough(fits));
         }
         for (kind, accepted) in of_records::KINDS {
             let counts = self.aimed(of_records::SORT, kind);
-            let fits = counts.cases > 0 && counts.accepted == if accepted { counts.cases } else { 0 };
+            let fits = counts.twice < counts.cases && counts.accepted == if accepted { counts.cases } else { 0 };
             self.test(&format!("sides of a record, {kind}"), enough(fits));
         }
     }
 
     pub fn print(&self) {
         println!("answer{}      all", GROUPS.map(|group| format!("{group:>9}")).concat());
-        for answer in 0..23 {
+        for answer in ANSWERS {
             let row: String = self.answers.iter().map(|group| format!("{:>9}", group[answer])).collect();
             println!("{answer:>6}{row}{:>9}", self.times(answer));
         }
-        println!("{:26}{:>9}{:>10}{:>12}", "generated tableaux", "cases", "accepted", "with links");
-        for (sort, counts) in &self.tableaux {
-            println!("{sort:26}{:>9}{:>10}{:>12}", counts.cases, counts.accepted, counts.linked);
-        }
+        let heads = ["cases", "accepted", "with links", "row twice", "older yes"];
+        println!("{:26}{}", "generated tableaux", heads.map(|head| format!("{head:>12}")).concat());
         let all = self.all_tableaux();
-        println!("{:26}{:>9}{:>10}{:>12}", "all", all.cases, all.accepted, all.linked);
+        for (sort, counts) in self.tableaux.iter().chain([(&"all", &all)]) {
+            let Accepted { cases, accepted, linked, twice, older } = *counts;
+            let numbers = [cases, accepted, linked, twice, older].map(|number| format!("{number:>12}"));
+            println!("{sort:26}{}", numbers.concat());
+        }
         let Aimed { cases, at, earlier, .. } = self.aimed(EXACT_ANCESTOR, exact::ANY);
         println!("links to an exact ancestor: {cases} compared, {at} with 14 at the link, {earlier} with 14 earlier");
-        println!("{:56}{:>7}{:>10}{:>8}{:>9}{:>7}", "made for", "cases", "accepted", "there", "earlier", "later");
+        let heads = ["cases", "accepted", "there", "earlier", "later", "twice"];
+        println!("{:66}{}", "made for", heads.map(|head| format!("{head:>9}")).concat());
         for ((sort, kind), counts) in &self.aimed {
-            let Aimed { cases, accepted, at, earlier, later } = counts;
-            println!("{:56}{cases:>7}{accepted:>10}{at:>8}{earlier:>9}{later:>7}", format!("{sort}: {kind}"));
+            let Aimed { cases, accepted, at, earlier, later, twice } = *counts;
+            let numbers = [cases, accepted, at, earlier, later, twice].map(|number| format!("{number:>9}"));
+            println!("{:66}{}", format!("{sort}: {kind}"), numbers.concat());
         }
         self.soundness.print();
         println!("{} passed, {} failed", self.passed, self.failed);

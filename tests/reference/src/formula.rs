@@ -4,7 +4,7 @@
 
 use crate::{holds, refuse, Refusal, MAX_DEPTH, MAX_N, MAX_OFFSET, MAX_SIZE, MAX_SYMBOL, ROW_WIDTH};
 use std::cell::RefCell;
-use std::collections::HashMap;
+use std::collections::{HashMap, HashSet};
 use std::hash::{BuildHasherDefault, Hasher};
 
 /// kind a b c
@@ -297,7 +297,7 @@ impl Change {
     }
 }
 
-/// A quick hash of a form.
+/// A quick hash of a form or a row.
 #[derive(Clone, Debug, Default)]
 struct Mixer(u64);
 
@@ -315,9 +315,19 @@ impl Hasher for Mixer {
     }
 }
 
+/// Whether proof rows may be written twice: the check refuses them, the older check and the model check
+/// do not.
+#[derive(Clone, Copy, Debug, PartialEq, Eq)]
+pub enum Twice {
+    Refused,
+    Allowed,
+}
+
 /// What the check and the model check say first of the schema and of all formula rows, once the
-/// tables are long enough and the counts allowed: 6, then row by row 7 and 8, then 6 again.
+/// tables are long enough and the counts allowed: 6, then row by row 7, 8 and, where it is refused, 27 for
+/// a proof row whose four columns are those of an earlier schema or proof row, then 6 again.
 pub fn judge_rows(
+    twice: Twice,
     root: i32,
     least: i32,
     schema: &[i32],
@@ -332,11 +342,16 @@ pub fn judge_rows(
     let Some(formulas) = Formulas::new(schema, schema_count, proof, proof_count) else {
         return refuse(2, -1);
     };
-    for (number, facts) in formulas.facts.iter().enumerate() {
+    let room = if twice == Twice::Refused { formulas.len() } else { 0 };
+    let mut earlier: HashSet<Row, _> = HashSet::with_capacity_and_hasher(room, BuildHasherDefault::<Mixer>::default());
+    for (number, (row, facts)) in formulas.rows.iter().zip(&formulas.facts).enumerate() {
         match facts {
             None => return refuse(7, number as i32),
             Some(facts) if !facts.within_limits() => return refuse(8, number as i32),
             Some(_) => {}
+        }
+        if twice == Twice::Refused && !earlier.insert(*row) && number >= schema_count {
+            return refuse(27, number as i32);
         }
     }
     if !formulas.outer(root) {

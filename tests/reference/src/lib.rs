@@ -1,10 +1,10 @@
 //! A second implementation of document 01 ("Schema tableaux: formulas, nodes, links
 //! and texts") with document 02's changes No. 4 ("Sides in either order"), No. 5 ("Bounds from
-//! both sides") and No. 6 ("Links to any node"), written from the papers alone, to be run beside
-//! another implementation.
+//! both sides"), No. 6 ("Links to any node") and No. 9 ("Proof rows written twice"), written from the
+//! papers alone, to be run beside another implementation.
 //!
 //! * [`formula`]: rows, well-formedness, size, depth, outer rows, "lowered by k", "instance at n - c"
-//! * [`tableau`]: the check, with every refusal in the paper's order
+//! * [`tableau`]: the check, and the older check, with every refusal in the paper's order
 //! * [`model`]: the model check and the value of a formula
 //! * [`text`]: reading and writing of the three texts, lines by number
 //! * [`again`]: a text read and written again, rows written and read again
@@ -74,7 +74,7 @@ impl Verdict {
     }
 }
 
-/// A refusal's number (1 to 22) and place.
+/// A refusal's number (1 to 22, or 27) and place.
 #[derive(Clone, Copy, Debug, PartialEq, Eq)]
 pub struct Refusal {
     pub answer: u8,

@@ -1,6 +1,6 @@
 //! The model check, and the value of a formula.
 
-use crate::formula::{judge_rows, Formulas, Row, AND, BIG_AND, BIG_OR, LITERAL, NEGATED, ON_I, ON_N, OR, TRUE};
+use crate::formula::{judge_rows, Formulas, Row, Twice, AND, BIG_AND, BIG_OR, LITERAL, NEGATED, ON_I, ON_N, OR, TRUE};
 use crate::{
     holds, refuse, Refusal, Verdict, MAX_INDEX, MAX_N, MAX_PAIRS, MAX_ROWS, MAX_SYMBOL, PAIR_WIDTH, ROW_WIDTH,
 };
@@ -21,7 +21,7 @@ pub fn check_model(
     if schema_count > MAX_ROWS || pair_count > MAX_PAIRS {
         return Verdict::refused(Refusal { answer: 5, place: -1 });
     }
-    let answer = judge_rows(root, least, schema, schema_count, &[], 0).and_then(|formulas| {
+    let answer = judge_rows(Twice::Allowed, root, least, schema, schema_count, &[], 0).and_then(|formulas| {
         let pairs = judge_pairs(&pairs[..pair_count * PAIR_WIDTH])?;
         if n < least || n > MAX_N {
             return refuse(19, -1);

@@ -55,6 +55,34 @@ pub fn check(
     ))
 }
 
+/// The older check's verdict as one number.
+#[allow(clippy::too_many_arguments)]
+pub fn check_older(
+    root: i32,
+    least: i32,
+    schema: &[i32],
+    schema_count: usize,
+    proof: &[i32],
+    proof_count: usize,
+    nodes: &[i32],
+    node_count: usize,
+    members: &[i32],
+    member_count: usize,
+) -> i64 {
+    pack(tableau::check_older(
+        root,
+        least,
+        schema,
+        schema_count,
+        proof,
+        proof_count,
+        nodes,
+        node_count,
+        members,
+        member_count,
+    ))
+}
+
 /// The model check's verdict as one number.
 pub fn check_model(
     root: i32,

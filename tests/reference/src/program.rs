@@ -9,9 +9,21 @@ fn refused(answer: u8, place: i32) -> Verdict {
     Verdict { answer, place, nodes: 0, links: 0 }
 }
 
+/// A check of tables, present or older.
+type Check = fn(i32, i32, &[i32], usize, &[i32], usize, &[i32], usize, &[i32], usize) -> Verdict;
+
 /// Reads the schema text, then the proof text, and checks. A text refused in reading gives its answer
 /// and place with counts 0, and nothing is checked.
 pub fn check_texts(schema_text: &[u8], proof_text: &[u8]) -> Verdict {
+    check_texts_by(tableau::check, schema_text, proof_text)
+}
+
+/// The same with the older check.
+pub fn check_texts_older(schema_text: &[u8], proof_text: &[u8]) -> Verdict {
+    check_texts_by(tableau::check_older, schema_text, proof_text)
+}
+
+fn check_texts_by(check: Check, schema_text: &[u8], proof_text: &[u8]) -> Verdict {
     let mut schema = vec![0; MAX_ROWS * ROW_WIDTH];
     let s = text::read_schema(schema_text, &mut schema);
     if s.answer != 0 {
@@ -24,7 +36,7 @@ pub fn check_texts(schema_text: &[u8], proof_text: &[u8]) -> Verdict {
     if p.answer != 0 {
         return refused(p.answer, p.place);
     }
-    tableau::check(s.root, s.least, &schema, s.rows, &proof, p.rows, &nodes, p.nodes, &members, p.members)
+    check(s.root, s.least, &schema, s.rows, &proof, p.rows, &nodes, p.nodes, &members, p.members)
 }
 
 /// The same with a model text and the model check.
@@ -60,7 +72,15 @@ impl Fault {
 /// have the lines that the paper gives: "Schema row r is line 4 + r; with S schema and P proof rows,
 /// proof row r is line 2 + r - S and node j line 3 + P + j."
 pub fn check_fault(schema_text: &[u8], proof_text: &[u8]) -> Fault {
-    let Verdict { answer, place, .. } = check_texts(schema_text, proof_text);
+    fault_of(check_texts(schema_text, proof_text), schema_text, proof_text)
+}
+
+/// The same of [`check_texts_older`]'s refusal.
+pub fn check_older_fault(schema_text: &[u8], proof_text: &[u8]) -> Fault {
+    fault_of(check_texts_older(schema_text, proof_text), schema_text, proof_text)
+}
+
+fn fault_of(Verdict { answer, place, .. }: Verdict, schema_text: &[u8], proof_text: &[u8]) -> Fault {
     let place = usize::try_from(place).ok();
     let s = text::read_schema(schema_text, &mut [0; MAX_ROWS * ROW_WIDTH]);
     let mut tables = (vec![0; MAX_ROWS * ROW_WIDTH], vec![0; MAX_NODES * NODE_WIDTH], vec![0; MAX_MEMBERS]);
@@ -68,7 +88,7 @@ pub fn check_fault(schema_text: &[u8], proof_text: &[u8]) -> Fault {
     let line = match answer {
         _ if s.answer != 0 => place.map(|line| (Named::Schema, line)),
         _ if p.answer != 0 => place.map(|line| (Named::Proof, line)),
-        7 | 8 => place.and_then(|row| text::row_line(s.rows, p.rows, row)),
+        7 | 8 | 27 => place.and_then(|row| text::row_line(s.rows, p.rows, row)),
         9..=17 => place.and_then(|node| Some((Named::Proof, text::node_line(p.rows, node)?))),
         _ => None,
     };

@@ -1,6 +1,6 @@
 //! The check of a tableau.
 
-use crate::formula::{judge_rows, Formulas, AND, BIG_AND, BIG_OR, FALSE, LITERAL, NEGATED, ON_N, OR};
+use crate::formula::{judge_rows, Formulas, Twice, AND, BIG_AND, BIG_OR, FALSE, LITERAL, NEGATED, ON_N, OR};
 use crate::{holds, refuse, Refusal, Verdict, MAX_MEMBERS, MAX_N, MAX_NODES, MAX_ROWS, NODE_WIDTH, ROW_WIDTH};
 
 const RULE_AND: usize = 0;
@@ -101,6 +101,37 @@ pub fn check(
     members: &[i32],
     member_count: usize,
 ) -> Verdict {
+    let (schema, proof) = ((schema, schema_count), (proof, proof_count));
+    check_tables(Twice::Refused, root, least, schema, proof, (nodes, node_count), (members, member_count))
+}
+
+/// The check of older records: proof rows may be written twice.
+#[allow(clippy::too_many_arguments)]
+pub fn check_older(
+    root: i32,
+    least: i32,
+    schema: &[i32],
+    schema_count: usize,
+    proof: &[i32],
+    proof_count: usize,
+    nodes: &[i32],
+    node_count: usize,
+    members: &[i32],
+    member_count: usize,
+) -> Verdict {
+    let (schema, proof) = ((schema, schema_count), (proof, proof_count));
+    check_tables(Twice::Allowed, root, least, schema, proof, (nodes, node_count), (members, member_count))
+}
+
+fn check_tables(
+    twice: Twice,
+    root: i32,
+    least: i32,
+    (schema, schema_count): (&[i32], usize),
+    (proof, proof_count): (&[i32], usize),
+    (nodes, node_count): (&[i32], usize),
+    (members, member_count): (&[i32], usize),
+) -> Verdict {
     let long_enough = holds(schema.len(), schema_count, ROW_WIDTH)
         && holds(proof.len(), proof_count, ROW_WIDTH)
         && holds(nodes.len(), node_count, NODE_WIDTH)
@@ -111,7 +142,7 @@ pub fn check(
     if schema_count.saturating_add(proof_count) > MAX_ROWS || node_count > MAX_NODES || member_count > MAX_MEMBERS {
         return Verdict::refused(Refusal { answer: 5, place: -1 });
     }
-    let answer = judge_rows(root, least, schema, schema_count, proof, proof_count).and_then(|formulas| {
+    let answer = judge_rows(twice, root, least, schema, schema_count, proof, proof_count).and_then(|formulas| {
         let nodes = find_sets(&formulas, &nodes[..node_count * NODE_WIDTH], &members[..member_count])?;
         check_tree(&nodes, root)?;
         check_rules(&formulas, &nodes, i64::from(least))?;

@@ -1,18 +1,25 @@
-//! One record folder: its two texts read and checked.
+//! One record folder: its two texts read and checked, by the older check if it holds a file `older`.
 
 use std::fs::File;
 use std::io::Read;
 use std::path::Path;
-use zorambi::{check, check_fault, read_proof, read_schema, Record, Refusal, Refused, Text, Verdict, MAX_TEXT};
+use zorambi::{
+    check, check_fault, check_older, check_older_fault, read_proof, read_schema, Record, Refusal, Refused, Text,
+    Verdict, MAX_TEXT,
+};
 
 pub const SCHEMA: &str = "schema.txt";
 pub const PROOF: &str = "proof.txt";
+/// Marks a record as older.
+const OLDER: &str = "older";
 
 /// Bytes of a line that are shown.
 const SHOWN: usize = 100;
 
 /// A verdict, and the file and line that a refusal speaks of.
 pub struct Judged {
+    /// The folder holds a file `older`, and the verdict is the older check's.
+    pub older: bool,
     pub verdict: Verdict,
     pub file: Option<&'static str>,
     pub line: Option<usize>,
@@ -22,7 +29,13 @@ pub struct Judged {
 
 impl Judged {
     fn new(verdict: Verdict, file: Option<&'static str>, line: Option<usize>, text: &[u8]) -> Judged {
-        Judged { verdict, file, line, text: line.map_or(String::new(), |number| shown(zorambi::line(text, number))) }
+        Judged {
+            older: false,
+            verdict,
+            file,
+            line,
+            text: line.map_or(String::new(), |number| shown(zorambi::line(text, number))),
+        }
     }
 
     /// The four numbers of the check program: answer, place, nodes, links.
@@ -63,6 +76,9 @@ impl Judged {
         if !self.text.is_empty() {
             words += &format!(": {}", self.text);
         }
+        if self.older {
+            words.insert_str(0, "older, ");
+        }
         words
     }
 
@@ -92,8 +108,14 @@ fn unread(refused: Refused, file: &'static str, text: &[u8]) -> Judged {
     Judged::new(refused.into(), Some(file), refused.place.filter(|place| *place > 0), text)
 }
 
-/// Reads the schema's text, then the proof's, and checks the record.
+/// Judges the record as what it is, older or not.
 pub fn judge(folder: &Path) -> Judged {
+    let older = folder.join(OLDER).is_file();
+    Judged { older, ..judge_texts(folder, older) }
+}
+
+/// Reads the schema's text, then the proof's, and checks the record.
+fn judge_texts(folder: &Path, older: bool) -> Judged {
     let [schema_text, proof_text] = [SCHEMA, PROOF].map(|name| text(&folder.join(name)));
     let schema = match read_schema(&schema_text) {
         Ok(schema) => schema,
@@ -103,8 +125,13 @@ pub fn judge(folder: &Path) -> Judged {
         Ok(proof) => proof,
         Err(refused) => return unread(refused, PROOF, &proof_text),
     };
-    let verdict = check(&Record { schema, proof });
-    let fault = if verdict.is_accepted() { None } else { check_fault(&schema_text, &proof_text) };
+    let record = Record { schema, proof };
+    let verdict = if older { check_older(&record) } else { check(&record) };
+    let fault = match (verdict.is_accepted(), older) {
+        (true, _) => None,
+        (false, true) => check_older_fault(&schema_text, &proof_text),
+        (false, false) => check_fault(&schema_text, &proof_text),
+    };
     match fault {
         None => Judged::new(verdict, None, None, &[]),
         Some((Text::Schema, line)) => Judged::new(verdict, Some(SCHEMA), Some(line), &schema_text),

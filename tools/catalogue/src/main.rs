@@ -1,5 +1,6 @@
 //! `zorambi-catalogue DIR [--csv FILE]`: every record folder from DIR down is checked, a line each in the
-//! order of their paths, and totals at the end. A record folder has a schema.txt or a proof.txt.
+//! order of their paths, and totals at the end. A record folder has a schema.txt or a proof.txt. If it
+//! holds a file `older` it is checked by the older check, and listed and counted as older.
 //!
 //! The exit status is 0 if all are accepted, 1 if one is refused or a folder cannot be listed, 2 on wrong
 //! use: no folder, no record in it, or a file that cannot be written.
@@ -20,8 +21,8 @@ use std::thread;
 use std::time::{Duration, Instant};
 
 const USE: &str = "use: zorambi-catalogue DIR [--csv FILE]";
-const COLUMNS: [&str; 10] =
-    ["record", "verdict", "answer", "place", "nodes", "links", "refusal", "file", "line", "text"];
+const COLUMNS: [&str; 11] =
+    ["record", "verdict", "answer", "place", "nodes", "links", "refusal", "file", "line", "text", "check"];
 
 struct Wanted {
     folder: PathBuf,
@@ -70,7 +71,7 @@ fn main() {
     let table =
         csv.map(|path| File::create(&path).unwrap_or_else(|error| wrong(format_args!("{}: {error}", path.display()))));
     match check_all(&found.records, table, &mut report) {
-        Ok(()) => exit(i32::from(report.refused() > 0 || !found.unlisted.is_empty())),
+        Ok(()) => exit(i32::from(report.all.refused() > 0 || !found.unlisted.is_empty())),
         Err(error) => wrong(error),
     }
 }
@@ -129,39 +130,63 @@ fn csv_row(record: &Path, judged: &Judged) -> String {
         judged.file.unwrap_or_default(),
         &judged.line.map_or(String::new(), |line| line.to_string()),
         &judged.text,
+        if judged.older { "older" } else { "present" },
     ])
 }
 
 /// Lines on standard output, and progress on standard error if that is a terminal.
 struct Report {
     records: usize,
-    done: usize,
-    /// How often each refusal came.
-    refusals: BTreeMap<u8, usize>,
+    all: Counts,
+    older: Counts,
     progress: Option<Instant>,
 }
 
-impl Report {
-    fn new(records: usize) -> Report {
-        let progress = io::stderr().is_terminal().then(Instant::now);
-        Report { records, done: 0, refusals: BTreeMap::new(), progress }
+#[derive(Default)]
+struct Counts {
+    done: usize,
+    /// How often each refusal came.
+    refusals: BTreeMap<u8, usize>,
+}
+
+impl Counts {
+    fn count(&mut self, judged: &Judged) {
+        self.done += 1;
+        if let Some(refusal) = judged.refusal() {
+            *self.refusals.entry(refusal.number()).or_default() += 1;
+        }
     }
 
     fn refused(&self) -> usize {
         self.refusals.values().sum()
     }
 
+    fn words(&self) -> String {
+        let refused = self.refused();
+        let by_number: Vec<String> =
+            self.refusals.iter().map(|(number, times)| format!("{times} with {number}")).collect();
+        let numbers = if refused > 0 { format!(" ({})", by_number.join(", ")) } else { String::new() };
+        format!("{} accepted, {refused} refused{numbers}", self.done - refused)
+    }
+}
+
+impl Report {
+    fn new(records: usize) -> Report {
+        let progress = io::stderr().is_terminal().then(Instant::now);
+        Report { records, all: Counts::default(), older: Counts::default(), progress }
+    }
+
     fn record(&mut self, record: &Path, judged: &Judged) -> io::Result<()> {
-        self.done += 1;
-        if let Some(refusal) = judged.refusal() {
-            *self.refusals.entry(refusal.number()).or_default() += 1;
+        self.all.count(judged);
+        if judged.older {
+            self.older.count(judged);
         }
         if self.progress.is_some() && io::stdout().is_terminal() {
             eprint!("\r\x1b[K");
         }
         writeln!(io::stdout(), "{}: {}", on_one_line(record), judged.words())?;
         if self.progress.is_some_and(|last| last.elapsed() > Duration::from_millis(100)) {
-            eprint!("\r{} of {} records", self.done, self.records);
+            eprint!("\r{} of {} records", self.all.done, self.records);
             self.progress = Some(Instant::now());
         }
         Ok(())
@@ -171,13 +196,12 @@ impl Report {
         if self.progress.is_some() {
             eprint!("\r\x1b[K");
         }
-        let refused = self.refused();
-        let by_number: Vec<String> =
-            self.refusals.iter().map(|(number, times)| format!("{times} with {number}")).collect();
-        let numbers = if refused > 0 { format!(" ({})", by_number.join(", ")) } else { String::new() };
         let ending = if self.records == 1 { "" } else { "s" };
-        let accepted = self.done - refused;
-        writeln!(io::stdout(), "{} record{ending}: {accepted} accepted, {refused} refused{numbers}", self.done)
+        let older = match self.older.done {
+            0 => String::new(),
+            count => format!("; of these, {count} older: {}", self.older.words()),
+        };
+        writeln!(io::stdout(), "{} record{ending}: {}{older}", self.all.done, self.all.words())
     }
 }
 

@@ -55,7 +55,10 @@ fn shipped_records() {
             let record = entry.unwrap().path();
             let expected = fs::read_to_string(record.join("expected")).unwrap();
             let numbers: Vec<&str> = expected.split_whitespace().collect();
-            let said = said(&output, &record);
+            let mut said = said(&output, &record);
+            if record.join("older").is_file() {
+                said = said.strip_prefix("older, ").unwrap().to_string();
+            }
             if numbers[0] == "0" {
                 let words = format!("accepted {} nodes {} link", numbers[2], numbers[3]);
                 assert!(said.starts_with(&words), "{said}");
@@ -219,7 +222,7 @@ fn the_table() {
     let path = |name: &str| records.join(name).display().to_string();
     let words = "not a line of the required form and number of values";
     let expected = [
-        ["record", "verdict", "answer", "place", "nodes", "links", "refusal", "file", "line", "text"]
+        ["record", "verdict", "answer", "place", "nodes", "links", "refusal", "file", "line", "text", "check"]
             .map(str::to_string),
         [
             &path("a, \"b\"\nc"),
@@ -232,13 +235,110 @@ fn the_table() {
             "proof.txt",
             "12",
             "4 8 -1 -1 -1 1 2 5 7",
+            "present",
         ]
         .map(str::to_string),
-        [&path("plain"), "accepted", "0", "0", "7", "1", "", "", "", ""].map(str::to_string),
-        [&path("quoted"), "refused", "4", "4", "0", "0", words, "schema.txt", "4", "2,\\\"0\\\" 2 0"]
+        [&path("plain"), "accepted", "0", "0", "7", "1", "", "", "", "", "present"].map(str::to_string),
+        [&path("quoted"), "refused", "4", "4", "0", "0", words, "schema.txt", "4", "2,\\\"0\\\" 2 0", "present"]
             .map(str::to_string),
     ];
     assert_eq!(fields(&fs::read_to_string(table).unwrap()), expected);
+}
+
+/// Marks a record as older.
+fn mark(folder: &Path) {
+    fs::write(folder.join("older"), "").unwrap();
+}
+
+#[test]
+fn older_records() {
+    let folder = scratch("older records");
+    let records = folder.join("records");
+    let twice = PROOF.replace("3 0 1 0\n", "3 0 1 0\n3 0 1 0\n");
+    for name in ["present", "older"] {
+        put(&records.join(name).join("once"), SCHEMA, PROOF);
+        put(&records.join(name).join("twice"), SCHEMA, &twice);
+        put(&records.join(name).join("bound"), SCHEMA, twice.replace("-1 1 1 5 7\n", "-1 1 2 5 7\n"));
+        put(&records.join(name).join("row"), SCHEMA, twice.replace("6 1 2 1", "6 1 2 -10000"));
+        put(&records.join(name).join("line"), SCHEMA, twice.replace("6 1 2 1", "6 1 2 x"));
+    }
+    for name in ["once", "twice", "bound", "row", "line"] {
+        mark(&records.join("older").join(name));
+    }
+    // The folder of the older ones is no mark, nor is a folder in a record.
+    fs::create_dir(records.join("present/twice/older")).unwrap();
+    let table = folder.join("table.csv");
+    let output = run(&[&records, Path::new("--csv"), &table]);
+    assert_eq!(output.status.code(), Some(1));
+
+    let repeated = "refused 27 at row 9 (a proof row written twice): proof.txt:6: 3 0 1 0";
+    let words = "a bound, a split's K, a link's L - by or H - by, or the index of a clash";
+    let bound = &format!("refused 14 at node 5 ({words}): proof.txt:13: 4 8 -1 -1 -1 1 2 5 7");
+    let row = "refused 7 at row 7 (an ill-formed formula row): proof.txt:4: 6 1 2 -10000";
+    let line = "refused 4 at line 4 (not a line of the required form and number of values): proof.txt:4: 6 1 2 x";
+    let accepted = "accepted 7 nodes 1 link";
+    let said = |name: &str| said(&output, &records.join(name));
+    for (name, present, older) in [
+        ("once", accepted, accepted),
+        ("twice", repeated, accepted),
+        ("bound", repeated, bound),
+        ("row", row, row),
+        ("line", line, line),
+    ] {
+        assert_eq!(said(&format!("present/{name}")), present);
+        assert_eq!(said(&format!("older/{name}")), format!("older, {older}"));
+    }
+    let totals = "10 records: 3 accepted, 7 refused (2 with 4, 2 with 7, 1 with 14, 2 with 27); \
+                  of these, 5 older: 2 accepted, 3 refused (1 with 4, 1 with 7, 1 with 14)";
+    assert_eq!(lines(&output).last().unwrap(), totals);
+
+    let rows = fields(&fs::read_to_string(table).unwrap());
+    assert_eq!(rows.len(), 11);
+    let found = |name: &str| {
+        let path = records.join(name).display().to_string();
+        rows.iter().find(|row| row[0] == path).unwrap()[1..].join("|")
+    };
+    assert_eq!(found("older/twice"), "accepted|0|0|7|1|||||older");
+    let words = "a proof row written twice|proof.txt|6|3 0 1 0";
+    assert_eq!(found("present/twice"), format!("refused|27|9|0|0|{words}|present"));
+    for row in &rows[1..] {
+        let marked = Path::new(&row[0]).join("older").is_file();
+        assert_eq!(row[10], if marked { "older" } else { "present" }, "{row:?}");
+    }
+}
+
+#[test]
+fn marks_of_older_records() {
+    let folder = scratch("marks");
+    let twice = PROOF.replace("3 0 1 0\n", "3 0 1 0\n3 0 1 0\n");
+    for name in ["empty", "words", "link", "Older", "older.txt", "lost link", "below"] {
+        put(&folder.join(name), SCHEMA, &twice);
+    }
+    mark(&folder.join("empty"));
+    fs::write(folder.join("words/older"), "from before\n").unwrap();
+    symlink("../words/older", folder.join("link/older")).unwrap();
+    fs::write(folder.join("Older/Older"), "").unwrap();
+    fs::write(folder.join("older.txt/older.txt"), "").unwrap();
+    symlink("nowhere", folder.join("lost link/older")).unwrap();
+    // A folder `older` is looked into like any other.
+    put(&folder.join("below/older"), SCHEMA, PROOF);
+    let output = run(&[&folder]);
+    assert_eq!(output.status.code(), Some(1));
+    let said = |name: &str| said(&output, &folder.join(name));
+    for name in ["empty", "words", "link"] {
+        assert_eq!(said(name), "older, accepted 7 nodes 1 link", "{name}");
+    }
+    for name in ["Older", "older.txt", "lost link", "below"] {
+        assert!(said(name).starts_with("refused 27 at row 9 "), "{name}");
+    }
+    assert_eq!(said("below/older"), "accepted 7 nodes 1 link");
+    let totals = "8 records: 4 accepted, 4 refused (4 with 27); of these, 3 older: 3 accepted, 0 refused";
+    assert_eq!(lines(&output).last().unwrap(), totals);
+
+    let output = run(&[&folder.join("empty")]);
+    assert_eq!(output.status.code(), Some(0));
+    let totals = "1 record: 1 accepted, 0 refused; of these, 1 older: 1 accepted, 0 refused";
+    assert_eq!(lines(&output).last().unwrap(), totals);
 }
 
 #[test]

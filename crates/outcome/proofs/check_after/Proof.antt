@@ -23,17 +23,17 @@ read-proof-requires c κs = search needs
 enum-known-p : tie.Need-enum-known-p
 enum-known-p c = search needs
 
-slice-aggregate-check : tie.Need-slice-aggregate-check
-slice-aggregate-check c = search needs
+slice-aggregate-check-as : tie.Need-slice-aggregate-check-as
+slice-aggregate-check-as c = search needs
 
-slice-aggregate-check-2 : tie.Need-slice-aggregate-check-2
-slice-aggregate-check-2 c = search needs
+slice-aggregate-check-as-2 : tie.Need-slice-aggregate-check-as-2
+slice-aggregate-check-as-2 c = search needs
 
-slice-aggregate-check-3 : tie.Need-slice-aggregate-check-3
-slice-aggregate-check-3 c = search needs
+slice-aggregate-check-as-3 : tie.Need-slice-aggregate-check-as-3
+slice-aggregate-check-as-3 c = search needs
 
-check-requires : tie.Need-check-requires
-check-requires c κs = search needs
+check-as-requires : tie.Need-check-as-requires
+check-as-requires c κs = search needs
 
 enum-known-why : tie.Need-enum-known-why
 enum-known-why c = search needs
@@ -51,9 +51,9 @@ returns c =
     let rows = b .read-proof .last .1 .0 in
     let nodes = b .read-proof .last .1 .1 .0 in
     let members = b .read-proof .last .1 .1 .1 .0 in
-    ap (λ (v : Verdict). Judged v (a .rows) (g .0)) (c .check .ensures .0)
-    ∙ (λ i. judgedTableau (a .table .now) (a .rows) (root i) (least i) rows nodes members (g .0) (g .1 .0) (g .1 .1 .0))
-    ∙ proof-read (readProof 4096 9216 8192 (a .proof .now)) (a .table .now) (a .rows) (a .root) (a .least) rows nodes members (g .0) (g .1 .0) (g .1 .1 .0)
+    ap (λ (v : Verdict). Judged v (a .rows) (g .0)) (c .check-as .ensures)
+    ∙ (λ i. judgedTableau (a .older) (a .table .now) (a .rows) (root i) (least i) rows nodes members (g .0) (g .1 .0) (g .1 .1 .0))
+    ∙ proof-read (a .older) (readProof 4096 9216 8192 (a .proof .now)) (a .table .now) (a .rows) (a .root) (a .least) rows nodes members (g .0) (g .1 .0) (g .1 .1 .0)
     (sym (t .p .given .1) ∙ e .0) (e .1 .0) (e .1 .1 .0) (e .1 .1 .1)
 
 returns-2 : tie.Need-returns-2
@@ -61,7 +61,7 @@ returns-2 c =
     let b = c .before .before .before .before .before .before in
     let a = b .before .before .before .before .before .args in
     let g = c .before .why .given in
-    proof-refused (readProof 4096 9216 8192 (a .proof .now)) (a .table .now) (a .rows) (a .root) (a .least) (g .0 .0) (g .0 .1 .0) (sym (g .1) ∙ b .read-proof .ensures .0)
+    proof-refused (a .older) (readProof 4096 9216 8192 (a .proof .now)) (a .table .now) (a .rows) (a .root) (a .least) (g .0 .0) (g .0 .1 .0) (sym (g .1) ∙ b .read-proof .ensures .0)
 
 pub check-after-spec : {M : Type 1} → statement M
 check-after-spec =
@@ -72,10 +72,10 @@ check-after-spec =
     slice-aggregate-read-proof-3
     read-proof-requires
     enum-known-p
-    slice-aggregate-check
-    slice-aggregate-check-2
-    slice-aggregate-check-3
-    check-requires
+    slice-aggregate-check-as
+    slice-aggregate-check-as-2
+    slice-aggregate-check-as-3
+    check-as-requires
     enum-known-why
     returns
     returns-2)

@@ -38,8 +38,8 @@ returns c =
     let back = schema-back (a .schema .now) (g .0) (g .1 .0) (g .1 .1 .0) told in
     let second = readProof 4096 9216 8192 (a .proof .now) in
     c .check-after .ensures
-    ∙ ap₂ (λ (x y : ℤ). checkAfter second (b .read-schema .last .1 .0) (g .1 .1 .0) x y) (back .0) (back .1)
-    ∙ schema-read (checkAfter second) (readSchema 4096 (a .schema .now)) (b .read-schema .last .1 .0) (g .1 .1 .0) (g .0) (g .1 .0) told (e .1)
+    ∙ ap₂ (λ (x y : ℤ). checkAfter (a .older) second (b .read-schema .last .1 .0) (g .1 .1 .0) x y) (back .0) (back .1)
+    ∙ schema-read (checkAfter (a .older) second) (readSchema 4096 (a .schema .now)) (b .read-schema .last .1 .0) (g .1 .1 .0) (g .0) (g .1 .0) told (e .1)
 
 returns-2 : tie.Need-returns-2
 unfolding checkOutcome
@@ -47,7 +47,7 @@ returns-2 c =
     let b = c .before .before .before .before in
     let a = b .before .before .before .before .args in
     let g = c .before .why .given in
-    schema-refused (checkAfter (readProof 4096 9216 8192 (a .proof .now))) (readSchema 4096 (a .schema .now)) (g .0 .0) (g .0 .1 .0) (sym (g .1) ∙ b .read-schema .ensures .0)
+    schema-refused (checkAfter (a .older) (readProof 4096 9216 8192 (a .proof .now))) (readSchema 4096 (a .schema .now)) (g .0 .0) (g .0 .1 .0) (sym (g .1) ∙ b .read-schema .ensures .0)
 
 pub check-outcome-spec : {M : Type 1} → statement M
 check-outcome-spec =

@@ -21,13 +21,13 @@ print-requires : tie.Need-print-requires
 print-requires c κs =
     let s = c .before .before .before .before .before in
     subst Packs (sym (c .before .verdict .ensures ∙ ap verdictOf (c .before .before .check-outcome .ensures)))
-    (check-outcome-packs (s .args .schema .now) (s .args .proof .now))
+    (check-outcome-packs (s .args .older) (s .args .schema .now) (s .args .proof .now))
 
 returns : tie.Need-returns
 returns c =
     let s = c .before .before .before .before .before .before in
     let v = c .before .before .verdict .ensures ∙ ap verdictOf (c .before .before .before .check-outcome .ensures) in
-    let p = ap (λ (x : Verdict). printed (verdictNumbers x)) v ∙ sym (check-prints (s .args .schema .now) (s .args .proof .now)) in
+    let p = ap (λ (x : Verdict). printed (verdictNumbers x)) v ∙ sym (check-prints (s .args .older) (s .args .schema .now) (s .args .proof .now)) in
     let n = c .print .ensures .0 ∙ ap length p in
     let o = c .print .ensures .1 ∙ ap (padded 0 64) p in
     (n, (o, counted _ _ _ 64 n o))

@@ -7,74 +7,100 @@ use mathlib.Core.Option.{Option, none}
 use lib.ListN.{length}
 use Rattle.stab.specs.Basic.{_otherwise_}
 use Rattle.stab.specs.Node.{Tableau, rows, rowCount}
-use Rattle.stab.specs.Check.{holds, setRefusal, parentRefusal, nodeRefusal, tablesHold, withinLimits, refusalBy, refusal}
-use Rattle.stab.specs.Keeps.{KeepsParent, Keeps}
+use Rattle.stab.specs.Check.{holds, setRefusal, parentRefusal, nodeRefusal, tablesHold, withinLimits, refusalWith, olderFormulas, presentFormulas}
+use Rattle.stab.specs.Keeps.{KeepsParent, KeepsTables, KeepsNode, KeepsOlder, Keeps}
 use Rattle.stab.specs.declared.Refusal.the-variants.{TableTooShort, TooMany, Parent}
 use Rattle.stab.specs.declared.Verdict.{Verdict}
 use Rattle.stab.proofs.Bools.{otherwise-same, otherwise-first, otherwise-second, otherwise-none}
 use Rattle.stab.proofs.Scans.{scan-same, scan-none, none-scan}
 use Rattle.stab.proofs.Tests.{_&_, le-tests, lt-tests, _clears_, whole-clears, _then_, scan-clears}
-use Rattle.stab.proofs.Exactness.Formulas.{formulas-clears}
+use Rattle.stab.proofs.Exactness.Formulas.{formulas-clears, present-clears}
 use Rattle.stab.proofs.Exactness.Nodes.{set-clears, parent-clears}
 use Rattle.stab.proofs.Exactness.Steps.{step-clears}
 
-pub tableau-clears : (T : Tableau) → refusal T clears Keeps T
-unfolding refusal refusalBy tablesHold holds withinLimits
-tableau-clears T =
-    Iff·trans
-    (whole-clears TableTooShort
-    (le-tests (4 * T .schemaRows) (length (T .schema)) &
-    le-tests (4 * T .proofRows) (length (T .proof)) &
-    le-tests (9 * T .nodeRows) (length (T .nodes)) &
-    le-tests (1 * T .memberCount) (length (T .members))) then
-    whole-clears TooMany (le-tests (rowCount T) 1024 & le-tests (T .nodeRows) 1024 & le-tests (T .memberCount) 8192) then
-    formulas-clears (rows T) (rowCount T) (T .schemaRows) (T .root) (T .least) then
-    scan-clears (setRefusal T) (T .nodeRows) (λ j l. set-clears T j) then
-    whole-clears Parent (lt-tests 0 (T .nodeRows)) then
-    scan-clears (parentRefusal T) (T .nodeRows) (λ j l. parent-clears T j) then
-    scan-clears (nodeRefusal T) (T .nodeRows) (λ j l. step-clears T j)) (
-      λ p. record {
-        tables = record {
-          schemaHeld = p .0 .0;
-          proofHeld = p .0 .1 .0;
-          nodesHeld = p .0 .1 .1 .0;
-          membersHeld = omega (arith, p .0 .1 .1 .1);
-          rowLimit = p .1 .0 .0;
-          nodeLimit = p .1 .0 .1 .0;
-          memberLimit = p .1 .0 .1 .1;
-        };
-        formulas = p .1 .1 .0;
-        hasNode = p .1 .1 .1 .1 .0;
-        nodes = λ j l. record {
-          set = p .1 .1 .1 .0 j l;
-          parent = p .1 .1 .1 .1 .1 .0 j l;
-          drawn = p .1 .1 .1 .1 .1 .1 j l .0;
-          step = p .1 .1 .1 .1 .1 .1 j l .1;
-        };
-      },
-      λ k.
-          let t = k .tables in
-          let each = k .nodes in (
-            (t .schemaHeld, (t .proofHeld, (t .nodesHeld, omega (arith, t .membersHeld)))),
-            (
-              (t .rowLimit, (t .nodeLimit, t .memberLimit)),
+-- by any finding about formulas that clears a statement
+module _ (T : Tableau) (found : Tableau → Option Verdict) (F : Type 0) (found-clears : found T clears F) where
+  record Cleared : Type 0 where
+    tables : KeepsTables T
+    formulas : F
+    hasNode : 0 < T .nodeRows
+    nodes : (j : ℕ) → j < T .nodeRows → KeepsNode T j
+
+  cleared : refusalWith found nodeRefusal T clears Cleared
+  unfolding refusalWith tablesHold holds withinLimits
+  cleared =
+      Iff·trans
+      (whole-clears TableTooShort
+      (le-tests (4 * T .schemaRows) (length (T .schema)) &
+      le-tests (4 * T .proofRows) (length (T .proof)) &
+      le-tests (9 * T .nodeRows) (length (T .nodes)) &
+      le-tests (1 * T .memberCount) (length (T .members))) then
+      whole-clears TooMany (le-tests (rowCount T) 1024 & le-tests (T .nodeRows) 1024 & le-tests (T .memberCount) 8192) then
+      found-clears then
+      scan-clears (setRefusal T) (T .nodeRows) (λ j l. set-clears T j) then
+      whole-clears Parent (lt-tests 0 (T .nodeRows)) then
+      scan-clears (parentRefusal T) (T .nodeRows) (λ j l. parent-clears T j) then
+      scan-clears (nodeRefusal T) (T .nodeRows) (λ j l. step-clears T j)) (
+        λ p. record {
+          tables = record {
+            schemaHeld = p .0 .0;
+            proofHeld = p .0 .1 .0;
+            nodesHeld = p .0 .1 .1 .0;
+            membersHeld = omega (arith, p .0 .1 .1 .1);
+            rowLimit = p .1 .0 .0;
+            nodeLimit = p .1 .0 .1 .0;
+            memberLimit = p .1 .0 .1 .1;
+          };
+          formulas = p .1 .1 .0;
+          hasNode = p .1 .1 .1 .1 .0;
+          nodes = λ j l. record {
+            set = p .1 .1 .1 .0 j l;
+            parent = p .1 .1 .1 .1 .1 .0 j l;
+            drawn = p .1 .1 .1 .1 .1 .1 j l .0;
+            step = p .1 .1 .1 .1 .1 .1 j l .1;
+          };
+        },
+        λ k.
+            let t = k .tables in
+            let each = k .nodes in (
+              (t .schemaHeld, (t .proofHeld, (t .nodesHeld, omega (arith, t .membersHeld)))),
               (
-                k .formulas,
+                (t .rowLimit, (t .nodeLimit, t .memberLimit)),
                 (
-                  λ j l. each j l .set,
+                  k .formulas,
                   (
-                    k .hasNode,
-                    (λ j l. each j l .parent, λ j l. (each j l .drawn, each j l .step)),
+                    λ j l. each j l .set,
+                    (
+                      k .hasNode,
+                      (λ j l. each j l .parent, λ j l. (each j l .drawn, each j l .step)),
+                    ),
                   ),
                 ),
               ),
             ),
-          ),
+      )
+
+-- the older check, and the check
+pub older-clears : (T : Tableau) → refusalWith olderFormulas nodeRefusal T clears KeepsOlder T
+unfolding olderFormulas
+older-clears T =
+    Iff·trans
+    (cleared T olderFormulas _ (formulas-clears (rows T) (rowCount T) (T .schemaRows) (T .root) (T .least)))
+    (λ c. record { tables = c .tables; formulas = c .formulas; hasNode = c .hasNode; nodes = c .nodes }, λ k. record { tables = k .tables; formulas = k .formulas; hasNode = k .hasNode; nodes = k .nodes })
+
+pub tableau-clears : (T : Tableau) → refusalWith presentFormulas nodeRefusal T clears Keeps T
+tableau-clears T =
+    Iff·trans (cleared T presentFormulas _ (present-clears T)) (
+      λ c. record {
+        older = record { tables = c .tables; formulas = c .formulas .0; hasNode = c .hasNode; nodes = c .nodes };
+        fresh = c .formulas .1;
+      },
+      λ k. record { tables = k .older .tables; formulas = (k .older .formulas, k .fresh); hasNode = k .older .hasNode; nodes = k .older .nodes },
     )
 
 -- two judges of nodes find the same in a tableau if they find the same at each node before which nothing is found
-pub refusal-by-same : (judge judge′ : Tableau → ℕ → Option Verdict) (T : Tableau) → (((k : ℕ) → k < T .nodeRows → KeepsParent T k) → (j : ℕ) → j < T .nodeRows → ((k : ℕ) → k < j → judge′ T k ≡ none) → judge T j ≡ judge′ T j) → refusalBy judge T ≡ refusalBy judge′ T
-unfolding refusalBy
+pub refusal-by-same : (judge judge′ : Tableau → ℕ → Option Verdict) (T : Tableau) → (((k : ℕ) → k < T .nodeRows → KeepsParent T k) → (j : ℕ) → j < T .nodeRows → ((k : ℕ) → k < j → judge′ T k ≡ none) → judge T j ≡ judge′ T j) → refusalWith olderFormulas judge T ≡ refusalWith olderFormulas judge′ T
+unfolding refusalWith
 refusal-by-same judge judge′ T same =
     otherwise-same _ _ _ (λ a.
     otherwise-same _ _ _ (λ b.
@@ -90,8 +116,8 @@ at-last : {x y z : Option Verdict} → (x otherwise y) ≡ none → (x ≡ none 
 at-last {x} {y} {z} h f = otherwise-none x z (otherwise-first x y h) ∙ f (otherwise-first x y h) (otherwise-second x y h)
 
 -- where one judge of nodes finds nothing in a tableau, neither does another that finds nothing at any node then
-pub refusal-by-kept : (judge judge′ : Tableau → ℕ → Option Verdict) (T : Tableau) → (((k : ℕ) → k < T .nodeRows → KeepsParent T k) → ((k : ℕ) → k < T .nodeRows → judge T k ≡ none) → (j : ℕ) → j < T .nodeRows → judge′ T j ≡ none) → refusalBy judge T ≡ none → refusalBy judge′ T ≡ none
-unfolding refusalBy
+pub refusal-by-kept : (judge judge′ : Tableau → ℕ → Option Verdict) (T : Tableau) → (((k : ℕ) → k < T .nodeRows → KeepsParent T k) → ((k : ℕ) → k < T .nodeRows → judge T k ≡ none) → (j : ℕ) → j < T .nodeRows → judge′ T j ≡ none) → refusalWith olderFormulas judge T ≡ none → refusalWith olderFormulas judge′ T ≡ none
+unfolding refusalWith
 refusal-by-kept judge judge′ T kept h =
     at-last h (λ a h₁.
     at-last h₁ (λ b h₂.

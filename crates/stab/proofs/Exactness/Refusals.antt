@@ -8,7 +8,7 @@ use lib.IntN.{ℤ}
 use Rattle.stab.specs.Basic.{_otherwise_, scan, unless}
 use Rattle.stab.specs.Formula.{Row}
 use Rattle.stab.specs.Node.{Tableau, rows, rowCount}
-use Rattle.stab.specs.Check.{wholeUnless, atUnless, rowRefusal, formulasRefusal, setRefusal, parentRefusal, stepRefusal, nodeRefusal, withinLimits, refusalBy, refusal, verdict}
+use Rattle.stab.specs.Check.{wholeUnless, atUnless, rowRefusal, repeatRefusal, freshRowRefusal, formulasBy, formulasRefusal, setRefusal, parentRefusal, stepRefusal, nodeRefusal, withinLimits, refusalWith, olderFormulas, presentFormulas, verdict}
 use Rattle.stab.specs.Model.{Model, pairRefusal, schemaRow, modelRefusal}
 use Rattle.stab.specs.declared.Place.{Place}
 use Rattle.stab.specs.declared.Place.the-variants.{Whole, At}
@@ -62,11 +62,22 @@ of-scan f zero l h v e = absurd (Option·none-ne-some v e)
 of-scan f (suc n) l h v e = _or-else_ (of-scan f n (omega arith) h) (h n (omega arith)) v e
 
 of-formulas : (rows : ℕ → Row) (n s : ℕ) (root least : ℤ) → n ≤ 4096 → FindsRefusals (formulasRefusal rows n s root least)
-unfolding formulasRefusal rowRefusal
+unfolding formulasRefusal formulasBy rowRefusal
 of-formulas rows n s root least l =
     of-whole _ _ or-else
     of-scan (rowRefusal rows) n l (λ r k. of-at _ _ r k or-else of-at _ _ r k) or-else
     of-whole _ _
+
+of-present : (T : Tableau) → rowCount T ≤ 4096 → FindsRefusals (presentFormulas T)
+unfolding presentFormulas formulasBy freshRowRefusal rowRefusal repeatRefusal
+of-present T l =
+    of-whole _ _ or-else
+    of-scan (freshRowRefusal (rows T) (T .schemaRows)) (rowCount T) l (λ r k. (of-at _ _ r k or-else of-at _ _ r k) or-else of-at _ _ r k) or-else
+    of-whole _ _
+
+of-older : (T : Tableau) → rowCount T ≤ 4096 → FindsRefusals (olderFormulas T)
+unfolding olderFormulas
+of-older T l = of-formulas (rows T) (rowCount T) (T .schemaRows) (T .root) (T .least) l
 
 -- 11 to 17, by any tests
 pub of-tests : (j : ℕ) (drawn fields target bound partners lowered children : Bool) → j < 4096 → FindsRefusals ((atUnless drawn Drawn j otherwise atUnless fields Fields j otherwise atUnless target Target j otherwise atUnless bound Bound j otherwise atUnless partners Partner j otherwise atUnless lowered Lowered j) otherwise atUnless children Children j)
@@ -74,25 +85,32 @@ of-tests j drawn fields target bound partners lowered children l =
     (of-at _ _ j l or-else of-at _ _ j l or-else of-at _ _ j l or-else of-at _ _ j l or-else of-at _ _ j l or-else of-at _ _ j l) or-else
     of-at _ _ j l
 
--- the check, with any judge of the nodes that finds refusals
-pub of-refusal-by : (judge : Tableau → ℕ → Option Verdict) (T : Tableau) → ((j : ℕ) → j < 4096 → FindsRefusals (judge T j)) → FindsRefusals (refusalBy judge T)
-unfolding refusalBy setRefusal parentRefusal withinLimits
-of-refusal-by judge T each =
+-- the check, with any findings about formulas and nodes that are refusals
+of-refusal-with : (formulas : Tableau → Option Verdict) (judge : Tableau → ℕ → Option Verdict) (T : Tableau) → (rowCount T ≤ 4096 → FindsRefusals (formulas T)) → ((j : ℕ) → j < 4096 → FindsRefusals (judge T j)) → FindsRefusals (refusalWith formulas judge T)
+unfolding refusalWith setRefusal parentRefusal withinLimits
+of-refusal-with formulas judge T of-rows each =
     of-whole _ _ or-else
     once (of-whole _ TooMany)
     (λ h.
     let limits = whole-clears TooMany (le-tests (rowCount T) 1024 & le-tests (T .nodeRows) 1024 & le-tests (T .memberCount) 8192) .0 h in
     let few : rowCount T ≤ 4096 = omega (arith, limits .0) in
     let nodes : T .nodeRows ≤ 4096 = omega (arith, limits .1 .0) in
-    of-formulas (rows T) (rowCount T) (T .schemaRows) (T .root) (T .least) few or-else
+    of-rows few or-else
     of-scan (setRefusal T) (T .nodeRows) nodes (λ j l. of-at _ _ j l) or-else
     of-whole _ _ or-else
     of-scan (parentRefusal T) (T .nodeRows) nodes (λ j l. of-at _ _ j l) or-else
     of-scan (judge T) (T .nodeRows) nodes each)
 
-pub of-refusal : (T : Tableau) → FindsRefusals (refusal T)
-unfolding refusal nodeRefusal stepRefusal
-of-refusal T = of-refusal-by nodeRefusal T (λ j. of-tests j _ _ _ _ _ _ _)
+pub of-refusal-by : (judge : Tableau → ℕ → Option Verdict) (T : Tableau) → ((j : ℕ) → j < 4096 → FindsRefusals (judge T j)) → FindsRefusals (refusalWith olderFormulas judge T)
+of-refusal-by judge T each = of-refusal-with olderFormulas judge T (of-older T) each
+
+pub of-older-refusal : (T : Tableau) → FindsRefusals (refusalWith olderFormulas nodeRefusal T)
+unfolding nodeRefusal stepRefusal
+of-older-refusal T = of-refusal-by nodeRefusal T (λ j. of-tests j _ _ _ _ _ _ _)
+
+pub of-refusal : (T : Tableau) → FindsRefusals (refusalWith presentFormulas nodeRefusal T)
+unfolding nodeRefusal stepRefusal
+of-refusal T = of-refusal-with presentFormulas nodeRefusal T (of-present T) (λ j. of-tests j _ _ _ _ _ _ _)
 
 pub of-model-refusal : (M : Model) → FindsRefusals (modelRefusal M)
 unfolding modelRefusal pairRefusal

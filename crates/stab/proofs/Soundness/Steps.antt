@@ -16,7 +16,7 @@ use Rattle.stab.specs.Formula.{Row, Op, conj, disj, Formula, const, lit,
 use Rattle.stab.specs.Meaning.{Assignment, base, signed, op, empty, value, truth}
 use Rattle.stab.specs.Node.{Tableau, Node, Bound, rows, rowCount, row, formula, nodeAt, node, set, names, childCountOf, childCount, rank, AtMost, Satisfies, splitAt, splitBound, childBound, boundOf, bound}
 use Rattle.stab.specs.Rule.{unused, entry, ruleTable, ruleOf, rule, ofRule, oneOf, given, indexAt}
-use Rattle.stab.specs.Keeps.{Below, KeepsParent, KeepsDrawn, DrawnFrom, KeepsKind, Unfolds, Clashes, Loops, KeepsStep, Keeps}
+use Rattle.stab.specs.Keeps.{Below, KeepsParent, KeepsDrawn, DrawnFrom, KeepsKind, Unfolds, Clashes, Loops, KeepsStep, KeepsOlder}
 use Rattle.stab.specs.declared.Rule.{Rule}
 use Rattle.stab.proofs.Bools.{decide, and-left, and-right, or-cases, if-true, if-false}
 use Rattle.stab.proofs.Whole.{atom, num, _⊕_, _⊖_, of-le, le-of, of-lt, of-eq, lt-of, leZ-of, ltZ-of, eqZ-true, nat-pos}
@@ -69,7 +69,7 @@ lit-value : (σ : Assignment) (n : ℕ) (v : Bool) (w : Row) → truth σ n (lit
 unfolding truth value indexAt
 lit-value σ n v w = refl
 
-module _ (T : Tableau) (K : Keeps T) (σ : Assignment) where
+module _ (T : Tableau) (K : KeepsOlder T) (σ : Assignment) where
   -- row z is true at n
   abbrev True : ℕ → ℤ → Type 0
   True n z = truth σ n (formula T z) ≡ true

@@ -5,13 +5,14 @@ use std::fs;
 use std::hint::black_box;
 use std::path::Path;
 use zorambi::entries;
-use zorambi_compare::calls::{of_library, of_reference};
+use zorambi::entries::check_older;
+use zorambi_compare::calls::{of_library, of_reference, CheckEntry};
 use zorambi_compare::heavy::{self, Part};
 use zorambi_compare::records;
 use zorambi_reference::generate::models::ModelTables;
 use zorambi_reference::generate::tables::Tables;
 use zorambi_reference::generate::Input;
-use zorambi_reference::{model, tableau, text};
+use zorambi_reference::{model, tableau, text, Verdict};
 
 /// Seconds that one call takes, the median of some rounds.
 #[derive(Clone, Copy)]
@@ -99,11 +100,23 @@ fn same(name: &str, input: &Input) {
     assert!(difference.is_none(), "{name}: {difference:?}");
 }
 
+/// A check of the other implementation.
+type Check = fn(i32, i32, &[i32], usize, &[i32], usize, &[i32], usize, &[i32], usize) -> Verdict;
+
 fn check(name: &str, t: &Tables) -> Times {
     same(name, &Input::Check(t.clone()));
+    check_by(entries::check, tableau::check, t)
+}
+
+fn check_by_older(name: &str, t: &Tables) -> Times {
+    same(name, &Input::CheckOlder(t.clone()));
+    check_by(check_older, tableau::check_older, t)
+}
+
+fn check_by(library: CheckEntry, reference: Check, t: &Tables) -> Times {
     time(
         || {
-            black_box(entries::check(
+            black_box(library(
                 black_box(&t.schema),
                 t.schema_count,
                 &t.proof,
@@ -117,7 +130,7 @@ fn check(name: &str, t: &Tables) -> Times {
             ));
         },
         || {
-            black_box(tableau::check(
+            black_box(reference(
                 t.root,
                 t.least,
                 black_box(&t.schema),
@@ -253,6 +266,8 @@ fn write_model(name: &str, n: i32, pairs: &[i32], length: usize) -> Times {
 /// A shipped record.
 struct Shipped {
     name: String,
+    /// It is marked as older.
+    older: bool,
     schema: Vec<u8>,
     proof: Vec<u8>,
     model: Vec<u8>,
@@ -265,6 +280,7 @@ fn shipped(folder: &Path) -> Vec<Shipped> {
     let name = |folder: &Path| folder.file_name().unwrap_or_default().to_string_lossy().to_string();
     let record = |f: &Path| Shipped {
         name: name(f),
+        older: f.join("older").is_file(),
         schema: file(f, "schema.txt"),
         proof: file(f, "proof.txt"),
         model: file(f, "model.txt"),
@@ -272,10 +288,12 @@ fn shipped(folder: &Path) -> Vec<Shipped> {
     found.iter().map(|folder| record(folder)).collect()
 }
 
-fn check_row(name: &str, t: &Tables) {
-    let verdict = of_reference(&Input::Check(t.clone()));
+fn check_row(name: &str, t: &Tables, older: bool) {
+    let input = if older { Input::CheckOlder(t.clone()) } else { Input::Check(t.clone()) };
+    let verdict = of_reference(&input);
     let answer = if verdict.answer() == 0 { "accepted".to_string() } else { format!("refused {}", verdict.answer()) };
-    let (rows, times) = (t.schema_count + t.proof_count, check(name, t));
+    let rows = t.schema_count + t.proof_count;
+    let times = if older { check_by_older(name, t) } else { check(name, t) };
     println!("| {name} | {answer} | {rows} | {} | {} | {} |", t.node_count, t.member_count, times.cells());
 }
 
@@ -283,10 +301,21 @@ fn checks(shipped: &[Shipped]) {
     println!("\n## The check");
     heading("tableau | verdict | rows | nodes | members");
     for record in shipped {
-        check_row(&record.name, &records::tables(&record.schema, &record.proof));
+        check_row(&record.name, &records::tables(&record.schema, &record.proof), record.older);
     }
     for (name, tables) in heavy::tableaux() {
-        check_row(name, &tables);
+        check_row(name, &tables, false);
+    }
+}
+
+/// What it takes to find that no proof row is written twice: the check beside the older check.
+fn none_twice() {
+    println!("\n## Rows written twice");
+    heading("tableau | check | rows");
+    for (name, tables) in heavy::none_twice() {
+        let rows = tables.schema_count + tables.proof_count;
+        println!("| {name} | present | {rows} | {} |", check(name, &tables).cells());
+        println!("| {name} | older | {rows} | {} |", check_by_older(name, &tables).cells());
     }
 }
 
@@ -436,6 +465,7 @@ fn main() {
         processor()
     );
     checks(&shipped);
+    none_twice();
     models(&shipped);
     texts(&shipped);
     all_growth();

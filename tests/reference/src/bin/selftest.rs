@@ -9,11 +9,11 @@ use std::path::Path;
 use std::time::Instant;
 use zorambi_reference::formula::{self, Formulas};
 use zorambi_reference::formula::{AND, BIG_AND, BIG_OR, FALSE, LITERAL, NEGATED, ON_I, ON_N, OR, PLAIN, TRUE};
-use zorambi_reference::generate::cases::{ACROSS, RANGES};
+use zorambi_reference::generate::cases::{ACROSS, RANGES, TWICE};
 use zorambi_reference::generate::models::{find_model, pair_rows, random_assignment, random_pairs};
 use zorambi_reference::generate::sides::agree_either_way;
 use zorambi_reference::generate::tables::Tables;
-use zorambi_reference::generate::{across, ranges};
+use zorambi_reference::generate::{across, ranges, twice};
 use zorambi_reference::generate::{case, run, Case, Input, Outcome, Rng};
 use zorambi_reference::program::Fault;
 use zorambi_reference::text::{self, Named};
@@ -58,6 +58,9 @@ fn main() {
     paper(&mut tally);
     println!("paper: {} passed, {} failed", tally.passed, tally.failed);
     let before = tally.passed;
+    rows_again(&mut tally);
+    println!("rows written twice: {} passed, {} failed so far", tally.passed - before, tally.failed);
+    let before = tally.passed;
     sides(&mut tally);
     println!("sides in either order: {} passed, {} failed so far", tally.passed - before, tally.failed);
     let before = tally.passed;
@@ -73,6 +76,11 @@ fn main() {
 
 fn check_texts(schema: &[u8], proof: &[u8]) -> (u8, i32, usize, usize) {
     let verdict = program::check_texts(schema, proof);
+    (verdict.answer, verdict.place, verdict.nodes, verdict.links)
+}
+
+fn check_texts_older(schema: &[u8], proof: &[u8]) -> (u8, i32, usize, usize) {
+    let verdict = program::check_texts_older(schema, proof);
     (verdict.answer, verdict.place, verdict.nodes, verdict.links)
 }
 
@@ -168,6 +176,61 @@ fn paper(tally: &mut Tally) {
     tally.equal("the one number", accepted, (8192 + 7) * 8192 + 1);
     let refused = packed::pack(Verdict { answer: 20, place: -1, nodes: 0, links: 0 });
     tally.equal("the one number of a refusal", refused, 20 * 8192 * 8192 * 8192);
+}
+
+// ---------------------------------------------------------------------------------------------
+// Proof rows written twice, document 02, No. 9; all answers worked out by hand
+
+fn rows_again(tally: &mut Tally) {
+    let accepted = (0, 0, 7, 1);
+    let refused = |answer: u8, place: i32| (answer, place, 0, 0);
+    // More rows at the end of the proof's: the first of them is row 9, line 6 of the proof.
+    for (name, rows, present, older, line) in [
+        ("a schema row", "2 0 2 0\n", refused(27, 9), accepted, 6),
+        ("another schema row", "4 2 3 0\n", refused(27, 9), accepted, 6),
+        ("the first proof row", "7 0 2 1\n", refused(27, 9), accepted, 6),
+        ("the row before", "3 0 1 0\n", refused(27, 9), accepted, 6),
+        ("another kind", "2 0 1 1\n", accepted, accepted, 0),
+        ("another symbol", "3 1 1 0\n", accepted, accepted, 0),
+        ("another index", "3 0 0 0\n", accepted, accepted, 0),
+        ("another offset", "3 0 1 1\n", accepted, accepted, 0),
+        ("sides swapped", "4 3 2 0\n", accepted, accepted, 0),
+        ("a new row twice", "0 0 0 0\n1 0 0 0\n0 0 0 0\n", refused(27, 11), accepted, 8),
+        ("a row again, then an ill-formed one", "2 0 1 0\n8 0 0 0\n", refused(27, 9), refused(7, 10), 6),
+        ("an ill-formed row, then one again", "8 0 0 0\n2 0 1 0\n", refused(7, 9), refused(7, 9), 6),
+        ("an ill-formed row twice", "8 0 0 0\n8 0 0 0\n", refused(7, 9), refused(7, 9), 6),
+    ] {
+        let proof = changed(PROOF, "3 0 1 0\n", &format!("3 0 1 0\n{rows}"));
+        let texts = [SCHEMA.as_bytes(), proof.as_bytes()];
+        tally.equal(name, check_texts(texts[0], texts[1]), present);
+        tally.equal(&format!("{name}, older"), check_texts_older(texts[0], texts[1]), older);
+        let fault = program::check_fault(texts[0], texts[1]);
+        tally.equal(&format!("{name}, line at fault"), fault, Fault { second: line > 0, line });
+        // A root that is not outer comes after all rows.
+        let schema = changed(SCHEMA, "4 1\n", "0 1\n");
+        let or_root = |answer: (u8, i32, usize, usize)| if answer == accepted { refused(6, -1) } else { answer };
+        tally.equal(&format!("{name}, root 0"), check_texts(schema.as_bytes(), texts[1]), or_root(present));
+        let found = check_texts_older(schema.as_bytes(), texts[1]);
+        tally.equal(&format!("{name}, root 0, older"), found, or_root(older));
+        // A root that is no schema row comes before all rows.
+        let schema = changed(SCHEMA, "4 1\n", "5 1\n");
+        tally.equal(&format!("{name}, root 5"), check_texts(schema.as_bytes(), texts[1]), refused(6, -1));
+    }
+    // Schema rows may repeat.
+    let node = "up rule on with other to by set\n-1 5 0 -1 -1 -1 0 0\n";
+    for (name, schema, proof, present) in [
+        ("one row", "1 0 0 0\n", "", (0, 0, 1, 0)),
+        ("a schema row twice", "1 0 0 0\n1 0 0 0\n", "", (0, 0, 1, 0)),
+        ("a schema row three times", "1 0 0 0\n1 0 0 0\n0 0 0 0\n1 0 0 0\n", "", (0, 0, 1, 0)),
+        ("a schema row in the proof", "1 0 0 0\n", "1 0 0 0\n", refused(27, 1)),
+        ("a schema row twice and in the proof", "1 0 0 0\n1 0 0 0\n", "0 0 0 0\n1 0 0 0\n", refused(27, 3)),
+    ] {
+        let schema = format!("root least\n0 0\nkind a b c\n{schema}");
+        let proof = format!("kind a b c\n{proof}{node}");
+        tally.equal(name, check_texts(schema.as_bytes(), proof.as_bytes()), present);
+        let older = check_texts_older(schema.as_bytes(), proof.as_bytes());
+        tally.equal(&format!("{name}, older"), older, (0, 0, 1, 0));
+    }
 }
 
 // ---------------------------------------------------------------------------------------------
@@ -322,7 +385,9 @@ fn outside_records(tally: &mut Tally, folder: &Path) {
             let file = |name: &str| std::fs::read(record.join(name)).unwrap_or_default();
             let name = record.display().to_string();
             let (schema, proof) = (file("schema.txt"), file("proof.txt"));
-            let (answer, place, nodes, links) = check_texts(&schema, &proof);
+            let older = record.join("older").is_file();
+            let check = if older { check_texts_older } else { check_texts };
+            let (answer, place, nodes, links) = check(&schema, &proof);
             let expected = String::from_utf8_lossy(&file("expected")).trim_end().to_string();
             tally.equal(&name, format!("{answer} {place} {nodes} {links}"), expected);
             let model = file("model.txt");
@@ -349,10 +414,15 @@ fn reads_back(input: &Input) -> Result<(), String> {
 // ---------------------------------------------------------------------------------------------
 // Generated cases
 
+/// The answers that occur.
+const ANSWERS: [usize; 24] = [0, 1, 2, 3, 4, 5, 6, 7, 8, 9, 10, 11, 12, 13, 14, 15, 16, 17, 18, 19, 20, 21, 22, 27];
+
 #[derive(Default)]
 struct Counts {
     cases: usize,
-    by_answer: [usize; 23],
+    by_answer: [usize; 28],
+    /// Accepted by the older check.
+    older: usize,
     linked: usize,
     links: usize,
     nodes: usize,
@@ -365,13 +435,15 @@ fn generated(tally: &mut Tally, cases: u64, seed: u64) {
     let mut counts: BTreeMap<&'static str, Counts> = BTreeMap::new();
     let mut soundness = Rng::new(seed);
     let (mut running, mut slowest) = (0.0, (0.0, 0));
-    // Cases that are made to show one thing, and how many of them are accepted, by sort and kind.
-    let mut aims: BTreeMap<(&'static str, &'static str), [usize; 2]> = BTreeMap::new();
+    // Cases that are made to show one thing, how many of them the older check accepts, and how many the check
+    // refuses with 27, by sort and kind.
+    let mut aims: BTreeMap<(&'static str, &'static str), [usize; 3]> = BTreeMap::new();
     let named = |of: &'static str, cases: Vec<Case>| {
         let cases = cases.into_iter().enumerate();
         cases.map(move |(number, case)| (number as u64, format!("edge {number} of {of}"), case))
     };
     let edges = named("K", ranges::edges()).chain(named("links", across::edges()));
+    let edges = edges.chain(named("rows again", twice::edges()));
     let made = (0..cases).map(|number| {
         let case = case(seed, number);
         (number, format!("case {number} of seed {seed} ({})", case.sort), case)
@@ -389,7 +461,12 @@ fn generated(tally: &mut Tally, cases: u64, seed: u64) {
         }
         let entry = counts.entry(case.sort).or_default();
         entry.cases += 1;
-        entry.by_answer[usize::from(outcome.answer()).min(22)] += 1;
+        entry.by_answer[usize::from(outcome.answer()).min(27)] += 1;
+        let older = case.input.older().map(|input| (run(&input), input));
+        if let Some((outcome, input)) = &older {
+            entry.older += usize::from(outcome.answer() == 0);
+            tally.record(&format!("{name}, older"), consistent(input, outcome, &mut soundness));
+        }
         if let (Input::Check(_), Outcome::Verdict { verdict, .. }) = (&case.input, &outcome) {
             entry.links += verdict.links;
             entry.linked += usize::from(verdict.links > 0);
@@ -397,19 +474,26 @@ fn generated(tally: &mut Tally, cases: u64, seed: u64) {
             entry.most_nodes = entry.most_nodes.max(verdict.nodes);
         }
         tally.record(&name, consistent(&case.input, &outcome, &mut soundness));
-        if let (Some(aim), Outcome::Verdict { verdict, .. }) = (&case.aim, &outcome) {
-            let found = (verdict.answer, verdict.place);
-            tally.equal(&name, found, aim.expected.unwrap_or(found));
+        let verdicts = [Some(&outcome), older.as_ref().map(|(outcome, _)| outcome)].map(|outcome| match outcome {
+            Some(Outcome::Verdict { verdict, .. }) => Some(*verdict),
+            _ => None,
+        });
+        if let (Input::Check(tables), [Some(present), Some(older)]) = (&case.input, verdicts) {
+            tally.record(&name, older_consistent(tables, present, older));
+            let Some(aim) = &case.aim else { continue };
+            let found = [present, older].map(|verdict| (verdict.answer, verdict.place));
+            tally.equal(&name, found, aim.answers(tables).unwrap_or(found));
             for kind in &aim.kinds {
-                let [times, accepted] = aims.entry((case.sort, kind)).or_default();
+                let [times, accepted, again] = aims.entry((case.sort, kind)).or_default();
                 *times += 1;
-                *accepted += usize::from(verdict.answer == 0);
+                *accepted += usize::from(older.answer == 0);
+                *again += usize::from(present.answer == 27);
             }
         }
     }
     print_counts(&counts);
-    for ((sort, kind), [times, accepted]) in &aims {
-        println!("{:58}{times:>6}{accepted:>10}", format!("{sort}: {kind}"));
+    for ((sort, kind), [times, accepted, again]) in &aims {
+        println!("{:66}{times:>6}{accepted:>10}{again:>8}", format!("{sort}: {kind}"));
     }
     println!(
         "{:.1} s in all; {running:.2} s in the functions under test, {:.4} s for the slowest (case {})",
@@ -420,18 +504,23 @@ fn generated(tally: &mut Tally, cases: u64, seed: u64) {
     if cases < 5000 {
         return;
     }
-    for answer in 0..23 {
+    for answer in ANSWERS {
         let times: usize = counts.values().map(|entry| entry.by_answer[answer]).sum();
         let result = if times > 0 { Ok(()) } else { Err("does not occur".to_string()) };
         tally.record(&format!("answer {answer}"), result);
     }
     let of_ranges = ranges::kinds().map(|(kind, answer)| (RANGES, kind, answer));
     let of_across = across::kinds().map(|(kind, answer)| (ACROSS, kind, answer));
+    let as_made = |fits: bool| if fits { Ok(()) } else { Err("does not occur, or not as made".to_string()) };
     for (sort, kind, answer) in of_ranges.chain(of_across) {
-        let [times, accepted] = aims.get(&(sort, kind)).copied().unwrap_or_default();
-        let as_made = times > 0 && accepted == if answer == 0 { times } else { 0 };
-        let result = if as_made { Ok(()) } else { Err("does not occur, or not as made".to_string()) };
-        tally.record(kind, result);
+        let [times, accepted, again] = aims.get(&(sort, kind)).copied().unwrap_or_default();
+        let right = accepted == if answer == 0 { times } else { 0 };
+        tally.record(kind, as_made(right && again < times));
+    }
+    for (kind, [present, older]) in twice::kinds() {
+        let [times, accepted, again] = aims.get(&(TWICE, kind)).copied().unwrap_or_default();
+        let right = accepted == if older == 0 { times } else { 0 } && again == if present == 27 { times } else { 0 };
+        tally.record(kind, as_made(times > 0 && right));
     }
     let checks: Vec<&Counts> =
         counts.iter().filter(|(sort, _)| sort.starts_with("check")).map(|(_, entry)| entry).collect();
@@ -446,7 +535,7 @@ fn generated(tally: &mut Tally, cases: u64, seed: u64) {
 fn print_counts(counts: &BTreeMap<&'static str, Counts>) {
     let groups = ["check", "model", "read", "write", "program"];
     println!("answer{}      all", groups.map(|group| format!("{group:>9}")).concat());
-    for answer in 0..23 {
+    for answer in ANSWERS {
         let times = |group: &str| -> usize {
             let sorts = counts.iter().filter(|(sort, _)| sort.starts_with(group));
             sorts.map(|(_, entry)| entry.by_answer[answer]).sum()
@@ -455,11 +544,20 @@ fn print_counts(counts: &BTreeMap<&'static str, Counts>) {
         let all: usize = groups.iter().map(|group| times(group)).sum();
         println!("{answer:>6}{row}{all:>9}");
     }
-    println!("{:26}{:>8}{:>10}{:>8}{:>8}{:>12}", "sort", "cases", "answer 0", "linked", "links", "most nodes");
+    println!(
+        "{:26}{:>8}{:>10}{:>8}{:>8}{:>12}{:>9}{:>9}",
+        "sort", "cases", "answer 0", "linked", "links", "most nodes", "again", "older 0"
+    );
     for (sort, entry) in counts {
         println!(
-            "{sort:26}{:>8}{:>10}{:>8}{:>8}{:>12}",
-            entry.cases, entry.by_answer[0], entry.linked, entry.links, entry.most_nodes
+            "{sort:26}{:>8}{:>10}{:>8}{:>8}{:>12}{:>9}{:>9}",
+            entry.cases,
+            entry.by_answer[0],
+            entry.linked,
+            entry.links,
+            entry.most_nodes,
+            entry.by_answer[27],
+            entry.older
         );
     }
     let sum = |of: fn(&Counts) -> usize| -> usize {
@@ -492,9 +590,14 @@ fn consistent(input: &Input, outcome: &Outcome, rng: &mut Rng) -> Result<(), Str
     match (input, outcome) {
         (Input::Check(tables), Outcome::Verdict { verdict, packed }) => {
             verdict_consistent(*verdict, *packed)?;
-            let allowed = matches!(verdict.answer, 0 | 2 | 5..=17);
+            let allowed = matches!(verdict.answer, 0 | 2 | 5..=17 | 27);
             ensure(allowed, "a number that the check does not give")?;
-            write_and_read(tables)?;
+            write_and_read(tables)
+        }
+        (Input::CheckOlder(tables), Outcome::Verdict { verdict, packed }) => {
+            verdict_consistent(*verdict, *packed)?;
+            ensure(matches!(verdict.answer, 0 | 2 | 5..=17), "a number that the older check does not give")?;
+            // What the check accepts, this one accepts too.
             if verdict.answer == 0 {
                 accepted_consistent(tables, *verdict, rng)?;
             }
@@ -586,7 +689,7 @@ fn consistent(input: &Input, outcome: &Outcome, rng: &mut Rng) -> Result<(), Str
             let before: usize = lines[..number - 1].iter().map(|line| line.len() + 1).sum();
             ensure((*start, *length) == (before, lines[number - 1].len()), "another line")
         }
-        (Input::Texts { schema, proof }, Outcome::Verdict { verdict, .. }) => {
+        (Input::Texts { schema, proof } | Input::TextsOlder { schema, proof }, Outcome::Verdict { verdict, .. }) => {
             // The same by its parts, with longer tables.
             let rows = run(&Input::ReadSchema { text: schema.clone(), length: 5000, fill: 1 });
             let tables = run(&Input::ReadProof { text: proof.clone(), lengths: [5000, 10_000, 9000], fill: -1 });
@@ -600,12 +703,17 @@ fn consistent(input: &Input, outcome: &Outcome, rng: &mut Rng) -> Result<(), Str
             } else if p.answer != 0 {
                 Verdict { answer: p.answer, place: p.place, nodes: 0, links: 0 }
             } else {
-                tableau::check(s.root, s.least, &rows, s.rows, &proof, p.rows, &nodes, p.nodes, &members, p.members)
+                let check = if matches!(input, Input::Texts { .. }) { tableau::check } else { tableau::check_older };
+                check(s.root, s.least, &rows, s.rows, &proof, p.rows, &nodes, p.nodes, &members, p.members)
             };
             ensure(*verdict == expected, "another answer by its parts")
         }
         (Input::CheckFault { schema, proof }, Outcome::Fault(fault)) => {
             let Verdict { answer, place, .. } = program::check_texts(schema, proof);
+            pointed(answer, place, [schema, proof], *fault)
+        }
+        (Input::CheckOlderFault { schema, proof }, Outcome::Fault(fault)) => {
+            let Verdict { answer, place, .. } = program::check_texts_older(schema, proof);
             pointed(answer, place, [schema, proof], *fault)
         }
         (Input::ModelFault { schema, model }, Outcome::Fault(fault)) => {
@@ -714,6 +822,24 @@ fn plain_value(formulas: &Formulas, row: i32, n: i64, i: i64, pairs: &std::colle
     }
 }
 
+/// The two checks agree, but for the first proof row that is written twice.
+fn older_consistent(t: &Tables, present: Verdict, older: Verdict) -> Result<(), String> {
+    if present.answer != 27 {
+        ensure(present == older, "another answer of the older check")?;
+        // All rows were judged, and none of the proof's is written twice.
+        let judged = present.answer == 0 || present.answer >= 9;
+        return ensure(!judged || t.first_repeat().is_none(), "a row written twice");
+    }
+    ensure(t.first_repeat() == usize::try_from(present.place).ok(), "another row written twice")?;
+    let Verdict { answer, place, .. } = older;
+    let later = match answer {
+        7 | 8 => place > present.place,
+        6 => place == -1 && (0..t.schema_count as i32).contains(&t.root) && (0..=9999).contains(&t.least),
+        _ => answer == 0 || answer >= 9,
+    };
+    ensure(later, "27 before what comes first")
+}
+
 fn verdict_consistent(verdict: Verdict, number: i64) -> Result<(), String> {
     ensure(packed::unpack(number) == Some(verdict), "packed otherwise")?;
     let Verdict { answer, place, nodes, links } = verdict;
@@ -735,8 +861,8 @@ fn pointed(answer: u8, place: i32, texts: [&[u8]; 2], fault: Fault) -> Result<()
     let rows = lines[0].len() as i32 - 1 - 3;
     let expected = match answer {
         1..=5 if place > 0 => return ensure(fault.line == place as usize, "another line than the one refused"),
-        7 | 8 if place >= rows => after(1, b"kind a b c", place - rows),
-        7 | 8 => after(0, b"kind a b c", place),
+        7 | 8 | 27 if place >= rows => after(1, b"kind a b c", place - rows),
+        7 | 8 | 27 => after(0, b"kind a b c", place),
         9..=17 => after(1, b"up rule on with other to by set", place),
         18 => after(1, b"symbol index", place),
         _ => None,

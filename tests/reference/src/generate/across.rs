@@ -90,7 +90,7 @@ pub fn across_tables(rng: &mut Rng) -> (Tables, Aim) {
             _ => in_grown(rng),
         };
         if let Some((tree, aim)) = made {
-            return (tree.tables(), aim);
+            return (tree.mostly_once(rng).tables(), aim);
         }
     }
 }
@@ -675,6 +675,7 @@ fn two_branches(rng: &mut Rng, from: Bound, into: Bound, by: i32) -> (Tree, usiz
     // A node below the second branch has a larger number than all in the first.
     path.gather(false);
     path.end([8, -1, -1, -1, target as i32, by]);
+    path.tree.fold_repeats();
     (path.tree, path.at)
 }
 

@@ -15,7 +15,8 @@ use super::tables::{
     TreeNode,
 };
 use super::texts::{damage_text, proof_text_of_length, random_text};
-use crate::formula::{Formulas, ON_I};
+use super::twice::twice_tables;
+use crate::formula::{Formulas, Row, ON_I};
 use crate::program::Fault;
 use crate::text::{self, ModelRead, Named, ProofRead, SchemaRead, Written};
 use crate::{model, packed, program, tableau, Verdict, MAX_TEXT};
@@ -36,6 +37,8 @@ pub const SIDES: &str = "check, sides";
 pub const RANGES: &str = "check, ranges";
 /// The sort of a tableau with links across branches.
 pub const ACROSS: &str = "check, across";
+/// The sort of a tableau with rows written twice, or almost so.
+pub const TWICE: &str = "check, twice";
 
 /// What a case is made to show.
 #[derive(Clone, Debug)]
@@ -44,14 +47,34 @@ pub struct Aim {
     pub kinds: Vec<&'static str>,
     /// The node that it is about.
     pub node: i32,
-    /// Answer and place, if they follow from how the case was made.
+    /// Answer and place of the older check, if they follow from how the case was made.
     pub expected: Option<(u8, i32)>,
+    /// The same of the check; `None` if it differs from the older one in nothing but a proof row written twice.
+    pub present: Option<(u8, i32)>,
+}
+
+impl Aim {
+    /// What the check and the older check are to answer.
+    pub fn answers(&self, tables: &Tables) -> Option<[(u8, i32); 2]> {
+        let older = self.expected?;
+        let first = tables.first_repeat().map(|row| (27, row as i32));
+        // Only 2, 5, 6 and an earlier row's refusal come before.
+        let comes_first = |row: i32| match older {
+            (2..=6, _) => false,
+            (7 | 8, place) => row < place,
+            _ => true,
+        };
+        let derived = first.filter(|(_, row)| comes_first(*row)).unwrap_or(older);
+        Some([self.present.unwrap_or(derived), older])
+    }
 }
 
 /// What a function is called with. `fill` is what lent memory holds before.
 #[derive(Clone, Debug)]
 pub enum Input {
     Check(Tables),
+    /// The older check.
+    CheckOlder(Tables),
     Model(ModelTables),
     ReadSchema {
         text: Vec<u8>,
@@ -107,8 +130,18 @@ pub enum Input {
         schema: Vec<u8>,
         proof: Vec<u8>,
     },
+    /// The check program with the older check.
+    TextsOlder {
+        schema: Vec<u8>,
+        proof: Vec<u8>,
+    },
     /// The line that the check program's refusal speaks of.
     CheckFault {
+        schema: Vec<u8>,
+        proof: Vec<u8>,
+    },
+    /// The same with the older check.
+    CheckOlderFault {
         schema: Vec<u8>,
         proof: Vec<u8>,
     },
@@ -125,6 +158,20 @@ pub enum Input {
         g: i32,
         k: i32,
     },
+}
+
+impl Input {
+    /// The same for the older check; `None` if it is not for the check.
+    pub fn older(&self) -> Option<Input> {
+        match self {
+            Input::Check(tables) => Some(Input::CheckOlder(tables.clone())),
+            Input::Texts { schema, proof } => Some(Input::TextsOlder { schema: schema.clone(), proof: proof.clone() }),
+            Input::CheckFault { schema, proof } => {
+                Some(Input::CheckOlderFault { schema: schema.clone(), proof: proof.clone() })
+            }
+            _ => None,
+        }
+    }
 }
 
 /// What was answered, with all lent memory.
@@ -205,6 +252,21 @@ pub fn run(input: &Input) -> Outcome {
             );
             Outcome::Verdict { verdict, packed: packed::pack(verdict) }
         }
+        Input::CheckOlder(t) => {
+            let verdict = tableau::check_older(
+                t.root,
+                t.least,
+                &t.schema,
+                t.schema_count,
+                &t.proof,
+                t.proof_count,
+                &t.nodes,
+                t.node_count,
+                &t.members,
+                t.member_count,
+            );
+            Outcome::Verdict { verdict, packed: packed::pack(verdict) }
+        }
         Input::Model(m) => {
             let verdict = model::check_model(m.root, m.least, &m.schema, m.schema_count, m.n, &m.pairs, m.pair_count);
             Outcome::Verdict { verdict, packed: packed::pack(verdict) }
@@ -257,7 +319,12 @@ pub fn run(input: &Input) -> Outcome {
             let verdict = program::check_texts(schema, proof);
             Outcome::Verdict { verdict, packed: packed::pack(verdict) }
         }
+        Input::TextsOlder { schema, proof } => {
+            let verdict = program::check_texts_older(schema, proof);
+            Outcome::Verdict { verdict, packed: packed::pack(verdict) }
+        }
         Input::CheckFault { schema, proof } => Outcome::Fault(program::check_fault(schema, proof)),
+        Input::CheckOlderFault { schema, proof } => Outcome::Fault(program::check_older_fault(schema, proof)),
         Input::ModelFault { schema, model } => Outcome::Fault(program::model_fault(schema, model)),
         Input::Compare { rows, row_count, f, g, k } => {
             let Some(formulas) = Formulas::new(rows, *row_count, &[], 0) else {
@@ -291,7 +358,7 @@ pub fn case(seed: u64, number: u64) -> Case {
         aim = Some(aim_of);
         Input::Check(tables)
     };
-    let (sort, input) = match rng.below(130) {
+    let (sort, input) = match rng.below(140) {
         0..=21 => ("check, grown", Input::Check(grown(rng))),
         22..=33 => ("check, grown and damaged", Input::Check(damaged(rng))),
         34..=49 => ("check, sharp", Input::Check(sharp_tables(rng))),
@@ -322,7 +389,8 @@ pub fn case(seed: u64, number: u64) -> Case {
         100..=103 => (EXACT_ANCESTOR, aimed(exact_tables(rng))),
         104..=109 => (SIDES, aimed(sides_tables(rng))),
         110..=119 => (RANGES, aimed(ranges_tables(rng))),
-        _ => (ACROSS, aimed(across_tables(rng))),
+        120..=129 => (ACROSS, aimed(across_tables(rng))),
+        _ => (TWICE, aimed(twice_tables(rng))),
     };
     Case { sort, input, aim }
 }
@@ -351,7 +419,7 @@ fn grown_tree(rng: &mut Rng) -> Tree {
             break;
         }
     }
-    tree.unwrap_or_else(|| tree_of_depth(rng))
+    tree.unwrap_or_else(|| tree_of_depth(rng)).mostly_once(rng)
 }
 
 fn grown(rng: &mut Rng) -> Tables {
@@ -475,10 +543,17 @@ fn tree_of_rows(rng: &mut Rng) -> Tree {
     let schema = false_schema(rng);
     let mut tree = grow(&schema, rng).tree;
     let total = 1022 + rng.below(5);
-    let mut pool = Pool::new(rng);
-    pad_to(&mut pool, rng, 1024);
+    // Mostly no row of the padding is written twice.
+    let mut padding: Vec<Row> = (0..1026).map(|at| [rng.range(2, 3), at % 256, at % 3, 5000 + at]).collect();
+    if rng.chance(30) {
+        let mut pool = Pool::new(rng);
+        pad_to(&mut pool, rng, 1024);
+        padding = pool.rows();
+    } else {
+        tree.fold_repeats();
+    }
     let before_proof = rng.chance(30);
-    let mut padding = (0..).map(|number| pool.row(number % 1024));
+    let mut padding = padding.into_iter().cycle();
     if before_proof && tree.rows.len() == tree.schema_count {
         tree.schema_count = total.max(tree.rows.len());
     }

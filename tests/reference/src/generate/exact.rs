@@ -59,8 +59,8 @@ pub fn exact_tables(rng: &mut Rng) -> (Tables, Aim) {
         }
         kinds.push(WRONG_AFTER);
     }
-    let aim = Aim { kinds, node: link as i32, expected: Some((14, place as i32)) };
-    (tree.tables(), aim)
+    let aim = Aim { kinds, node: link as i32, expected: Some((14, place as i32)), present: None };
+    (tree.mostly_once(rng).tables(), aim)
 }
 
 /// The link, what it is like, and the node that 14 is given for.

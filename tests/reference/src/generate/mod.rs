@@ -12,6 +12,7 @@
 //! * [`ranges`]: splits at every edge of K, and what bounds from both sides decide
 //! * [`across`]: links to any node before, and to what is none
 //! * [`sides`]: sides of ands and ors swapped
+//! * [`twice`]: rows written twice, and rows that differ in little
 //! * [`models`]: models, found or at random
 //! * [`texts`]: texts, and damage to them
 //! * [`cases`]: one case of any sort, and what this implementation answers to it
@@ -31,6 +32,7 @@ pub mod sharp;
 pub mod sides;
 pub mod tables;
 pub mod texts;
+pub mod twice;
 
 pub use cases::{case, run, Aim, Case, Input, Outcome};
 pub use rng::Rng;

@@ -44,10 +44,10 @@ pub fn ranges_tables(rng: &mut Rng) -> (Tables, Aim) {
     loop {
         if rng.chance(75) {
             let (tree, aim) = along_a_path(rng);
-            return (tree.tables(), aim);
+            return (tree.mostly_once(rng).tables(), aim);
         }
         if let Some((tree, aim)) = in_grown(rng) {
-            return (tree.tables(), aim);
+            return (tree.mostly_once(rng).tables(), aim);
         }
     }
 }
@@ -223,7 +223,7 @@ fn along_a_path(rng: &mut Rng) -> (Tree, Aim) {
 }
 
 pub fn aim(kind: &'static str, answer: u8, node: i32) -> Aim {
-    Aim { kinds: vec![kind], node, expected: Some((answer, if answer == 0 { 0 } else { node })) }
+    Aim { kinds: vec![kind], node, expected: Some((answer, if answer == 0 { 0 } else { node })), present: None }
 }
 
 /// A path by steps and splits to a bound of this shape, where it comes to one.
@@ -491,5 +491,6 @@ fn edge_case(rng: &mut Rng, bound: Bound, by: i32) -> Case {
         _ => (EDGE_OUTSIDE, 14),
     };
     let aim = aim(kind, answer, path.at as i32);
+    path.tree.fold_repeats();
     Case { sort: RANGES, input: Input::Check(path.tree.tables()), aim: Some(aim) }
 }

@@ -12,8 +12,8 @@ use crate::NODE_WIDTH;
 
 pub fn sharp_tables(rng: &mut Rng) -> Tables {
     let mut tree = match rng.below(10) {
-        0 | 1 => return sharp_link(rng).tables(),
-        2 => return limit_least(rng).tables(),
+        0 | 1 => return sharp_link(rng).mostly_once(rng).tables(),
+        2 => return limit_least(rng).mostly_once(rng).tables(),
         _ if rng.chance(25) => closed_by(grow_across, rng),
         _ => closed_tree(rng),
     };
@@ -32,19 +32,19 @@ pub fn sharp_tables(rng: &mut Rng) -> Tables {
         20 | 21 => unfold_otherwise(&mut tree, rng),
         22 | 23 => near_instance(&mut tree, rng),
         24 | 25 => {
-            let mut tables = tree.tables();
+            let mut tables = tree.mostly_once(rng).tables();
             for _ in 0..2 + rng.below(2) {
                 table_fault(&mut tables, rng);
             }
             return tables;
         }
         _ => {
-            let mut tables = tree.tables();
+            let mut tables = tree.mostly_once(rng).tables();
             move_set(&mut tables, rng);
             return tables;
         }
     }
-    tree.tables()
+    tree.mostly_once(rng).tables()
 }
 
 /// A tableau with all branches closed and links to ancestors, as small as comes soon.

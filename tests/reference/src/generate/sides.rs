@@ -46,7 +46,7 @@ pub fn sides_tables(rng: &mut Rng) -> (Tables, Aim) {
     loop {
         let made = if rng.chance(50) { in_grown(rng) } else { small(rng) };
         if let Some((tree, aim)) = made {
-            return (tree.tables(), aim);
+            return (tree.mostly_once(rng).tables(), aim);
         }
     }
 }
@@ -79,10 +79,10 @@ pub fn swapped(tree: &Tree, kind: &'static str, rng: &mut Rng) -> Option<(Tree, 
         return None;
     }
     if [PROOF_SWAPPED, SCHEMA_SWAPPED].contains(&kind) {
-        return Some((tree, Aim { kinds: vec![kind], node: 0, expected: Some((0, 0)) }));
+        return Some((tree, Aim { kinds: vec![kind], node: 0, expected: Some((0, 0)), present: None }));
     }
     let node = change_instance(&mut tree, kind, rng)?;
-    Some((tree, Aim { kinds: vec![kind], node, expected: Some((15, node)) }))
+    Some((tree, Aim { kinds: vec![kind], node, expected: Some((15, node)), present: None }))
 }
 
 /// Swaps the sides of some of these rows. What rule 1 gives its first child is then what it gave its
@@ -230,6 +230,7 @@ fn small(rng: &mut Rng) -> Option<(Tree, Aim)> {
     } else {
         (0, 0)
     };
-    let aim = Aim { kinds: vec![kind], node: if about_instance { 6 } else { 7 }, expected: Some(expected) };
+    let node = if about_instance { 6 } else { 7 };
+    let aim = Aim { kinds: vec![kind], node, expected: Some(expected), present: None };
     Some((Tree { root, least, rows, schema_count, nodes }, aim))
 }

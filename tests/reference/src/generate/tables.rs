@@ -3,6 +3,7 @@
 use super::rng::Rng;
 use crate::formula::{Row, AND, BIG_AND, BIG_OR, LITERAL, NEGATED, OR};
 use crate::{NODE_WIDTH, ROW_WIDTH};
+use std::collections::HashMap;
 
 /// A node row: up rule on with other to by, and its set.
 #[derive(Clone, Debug, PartialEq, Eq)]
@@ -58,7 +59,91 @@ impl Tables {
     }
 }
 
+impl Tables {
+    /// The first proof row whose four columns are those of an earlier schema or proof row, found by comparing
+    /// each with each. The tables have what their counts say.
+    pub fn first_repeat(&self) -> Option<usize> {
+        let schema = self.schema.chunks_exact(ROW_WIDTH).take(self.schema_count);
+        let rows: Vec<&[i32]> = schema.chain(self.proof.chunks_exact(ROW_WIDTH).take(self.proof_count)).collect();
+        (self.schema_count..rows.len()).find(|row| rows[..*row].contains(&rows[*row]))
+    }
+}
+
 impl Tree {
+    /// Points each proof row that is written twice at its earliest equal and takes it out.
+    pub fn fold_repeats(&mut self) {
+        let count = self.rows.len();
+        let mut earliest: HashMap<Row, i32> = HashMap::new();
+        let mut new_number: Vec<i32> = Vec::with_capacity(count);
+        let mut rows: Vec<Row> = Vec::with_capacity(count);
+        // A number that is no row's, or a later row's, stays as far from the next row's.
+        let rename = |new_number: &[i32], gone: usize, row: i32| match usize::try_from(row) {
+            Ok(at) if at < new_number.len() => new_number[at],
+            Ok(at) if at < count + 8 => row - gone as i32,
+            _ => row,
+        };
+        for (number, [kind, a, b, c]) in self.rows.iter().copied().enumerate() {
+            let rename = |part: i32| rename(&new_number, number - rows.len(), part);
+            let row = match kind {
+                AND | OR => [kind, rename(a), rename(b), c],
+                BIG_AND | BIG_OR => [kind, rename(a), b, c],
+                _ => [kind, a, b, c],
+            };
+            let next = rows.len() as i32;
+            let found = *earliest.entry(row).or_insert(next);
+            if found < next && number >= self.schema_count {
+                new_number.push(found);
+            } else {
+                new_number.push(next);
+                rows.push(row);
+            }
+        }
+        let gone = count - rows.len();
+        self.rows = rows;
+        for node in &mut self.nodes {
+            for field in 2..5 {
+                node.fields[field] = rename(&new_number, gone, node.fields[field]);
+            }
+            let ascending = node.set.windows(2).all(|pair| pair[0] < pair[1]);
+            node.set.iter_mut().for_each(|row| *row = rename(&new_number, gone, *row));
+            if ascending {
+                node.set.sort_unstable();
+                node.set.dedup();
+            }
+        }
+    }
+
+    /// The same, mostly.
+    pub fn mostly_once(mut self, rng: &mut Rng) -> Tree {
+        if rng.chance(90) {
+            self.fold_repeats();
+        }
+        self
+    }
+
+    /// Puts a row before the one with this number; `in_schema` tells at the schema's end where it belongs.
+    /// All numbers are rows' numbers.
+    pub fn insert_row(&mut self, at: usize, row: Row, in_schema: bool) {
+        let first = at as i32;
+        let rename = |number: i32| if number >= first { number + 1 } else { number };
+        for [kind, a, b, _] in &mut self.rows {
+            match *kind {
+                AND | OR => (*a, *b) = (rename(*a), rename(*b)),
+                BIG_AND | BIG_OR => *a = rename(*a),
+                _ => {}
+            }
+        }
+        self.rows.insert(at, row);
+        self.schema_count += usize::from(in_schema);
+        self.root = rename(self.root);
+        for node in &mut self.nodes {
+            for field in 2..5 {
+                node.fields[field] = rename(node.fields[field]);
+            }
+            node.set.iter_mut().for_each(|row| *row = rename(*row));
+        }
+    }
+
     pub fn tables(&self) -> Tables {
         let schema_count = self.schema_count.min(self.rows.len());
         let mut nodes = Vec::new();

@@ -35,16 +35,34 @@ returns-2 c =
     ∙ sym (if-false _ _ _ (sym (e .before .among .ensures) ∙ e .if1 .left)
     ∙ if-true _ _ _ (sym (c .before .before .before .among2 .ensures) ∙ c .before .before .if2 .taken))
 
-none-requires : tie.Need-none-requires
-none-requires c κs = search needs
+among-requires-3 : tie.Need-among-requires-3
+among-requires-3 c κs = search needs
+
+row-fault-requires-2 : tie.Need-row-fault-requires-2
+row-fault-requires-2 c κs = search needs
 
 returns-3 : tie.Need-returns-3
 unfolding checkPoints
 returns-3 c =
-    let e = c .before .before .before in
+    let d = c .before .before .before in
+    let e = d .before .before in
+    c .row-fault2 .ensures
+    ∙ sym (if-false _ _ _ (sym (e .before .among .ensures) ∙ e .if1 .left)
+    ∙ if-false _ _ _ (sym (d .before .among2 .ensures) ∙ d .if2 .left)
+    ∙ if-true _ _ _ (sym (c .before .before .among3 .ensures) ∙ c .before .if3 .taken))
+
+none-requires : tie.Need-none-requires
+none-requires c κs = search needs
+
+returns-4 : tie.Need-returns-4
+unfolding checkPoints
+returns-4 c =
+    let d = c .before .before .before in
+    let e = d .before .before in
     c .none .ensures
     ∙ sym (if-false _ _ _ (sym (e .before .among .ensures) ∙ e .if1 .left)
-    ∙ if-false _ _ _ (sym (c .before .before .among2 .ensures) ∙ c .before .if2 .left))
+    ∙ if-false _ _ _ (sym (d .before .among2 .ensures) ∙ d .if2 .left)
+    ∙ if-false _ _ _ (sym (c .before .before .among3 .ensures) ∙ c .before .if3 .left))
 
 pub check-points-spec : {M : Type 1} → statement M
 check-points-spec =
@@ -57,5 +75,8 @@ check-points-spec =
     node-line-requires
     in-second-requires
     returns-2
+    among-requires-3
+    row-fault-requires-2
+    returns-3
     none-requires
-    returns-3)
+    returns-4)

@@ -1,19 +1,22 @@
 use Prim.Native.Nat.{ℕ}
-use mathlib.Core.Path.{_≡_, sym, _∙_, ap₂}
+use mathlib.Core.Path.{_≡_, sym, _∙_, ap, ap₂}
+use mathlib.Core.Option.{Option}
 use lib.IntN.{ℤ}
 use mir.Facts.{toZ-ofZ}
 use denote.Ref.{now}
-use Rattle.stab.specs.Node.{Tableau}
-use Rattle.stab.specs.Check.{finding, refusal, linkCount}
+use borrow.Author.Needs.{needs}
+use Rattle.stab.specs.Basic.{_otherwise_, scan}
+use Rattle.stab.specs.Node.{Tableau, rows, rowCount}
+use Rattle.stab.specs.Check.{finding, repeatRefusal, rootFits, nodeRefusal, refusalWith, olderFormulas, presentFormulas, linkCount, verdict, checkWith}
 use Rattle.stab.specs.Check.{check as checked}
 use Rattle.stab.specs.Refuted.{Refuted}
 use Rattle.stab.specs.declared.Verdict.{Verdict}
 use Rattle.stab.specs.declared.Verdict.the-variants.{Accepted}
-use Rattle.stab.proofs.Findings.{nothing-found}
 use Rattle.stab.proofs.Soundness.{sound}
 use Rattle.branch.specs.Work.{tableau}
-use Rattle.tableau.proofs.CheckLaws.{refused-is, accepted-is, few-nodes}
-use borrow.Author.Needs.{needs}
+use Rattle.tableau.specs.Fresh.{reached, countIn}
+use Rattle.tableau.proofs.CheckLaws.{few-present}
+use Rattle.tableau.proofs.FreshLaws.{present-is, reached-count}
 use Rattle.tableau.proofs.check.check.Statement.{statement}
 use Rattle.tableau.proofs.check.check.Tie as tie
 
@@ -26,41 +29,47 @@ lentAt c root least =
 abbrev lent : tie.Start → Tableau
 lent c = lentAt c (c .args .root) (c .args .least)
 
--- what was found first
-first-found : (c : tie.After-first-refusal) → finding (c .first-refusal .result) ≡ refusal (lent (c .before))
+-- what was found first, proof rows that repeat aside
+first-found : (c : tie.After-first-refusal) → finding (c .first-refusal .result) ≡ refusalWith olderFormulas nodeRefusal (lent (c .before))
 unfolding tableau
 first-found c =
     let start = c .before in
-    c .first-refusal .ensures ∙ ap₂ (λ (r l : ℤ). refusal (lentAt start r l)) (toZ-ofZ (start .fits .root)) (toZ-ofZ (start .fits .least))
+    c .first-refusal .ensures ∙ ap₂ (λ (r l : ℤ). refusalWith olderFormulas nodeRefusal (lentAt start r l)) (toZ-ofZ (start .fits .root)) (toZ-ofZ (start .fits .least))
+
+first-refusal-requires : tie.Need-first-refusal-requires
+first-refusal-requires c κs = search needs
+
+fresh-requires : tie.Need-fresh-requires
+fresh-requires c κs = search needs
+
+-- and with them
+fresh-found : (c : tie.After-fresh) → finding (c .fresh .result) ≡ refusalWith presentFormulas nodeRefusal (lent (c .before .before))
+unfolding rows
+fresh-found c =
+    let start = c .before .before in
+    let T = lent start in
+    let fits = rootFits (T .schemaRows) (T .root) (T .least) in
+    c .fresh .ensures
+    ∙ ap₂ (λ (r l : ℤ). scan (repeatRefusal (rows T) (T .schemaRows)) (reached (finding (c .before .first-refusal .result)) (rootFits (T .schemaRows) r l) (countIn (T .schemaRows) (T .proofRows))) otherwise finding (c .before .first-refusal .result)) (toZ-ofZ (start .fits .root)) (toZ-ofZ (start .fits .least))
+    ∙ ap (λ (x : Option Verdict). scan (repeatRefusal (rows T) (T .schemaRows)) (reached x fits (countIn (T .schemaRows) (T .proofRows))) otherwise x) (first-found (c .before))
+    ∙ ap (λ (n : ℕ). scan (repeatRefusal (rows T) (T .schemaRows)) n otherwise refusalWith olderFormulas nodeRefusal T) (reached-count T fits)
+    ∙ sym (present-is T)
+
+verdict-on-requires : tie.Need-verdict-on-requires
+verdict-on-requires c κs h = few-present (lent (c .before .before)) (sym (fresh-found c) ∙ h)
 
 -- the second clause follows from the first
 both : (c : tie.Start) (v : Verdict) → v ≡ checked (lent c) → (v ≡ checked (lent c)) × ((n l : ℕ) → v ≡ Accepted n l → Refuted (now (c .args .schema)) (c .args .root) (c .args .least))
 both c v e = (e, λ n l a. sound (lent c) n l (sym e ∙ a))
 
-first-refusal-requires : tie.Need-first-refusal-requires
-first-refusal-requires c κs = search needs
-
-enum-known-found : tie.Need-enum-known-found
-enum-known-found c = search needs
-
-enum-told : tie.Need-enum-told
-enum-told c = search needs
-
-links-requires : tie.Need-links-requires
-links-requires c κs = few-nodes (lent (c .before .before .before)) (nothing-found _ _ (first-found (c .before .before)) (c .enum-told .given .1))
+verdict-is : (c : tie.After-verdict-on) → c .verdict-on .result ≡ checked (lent (c .before .before .before))
+unfolding checked checkWith linkCount
+verdict-is c =
+    let T = lent (c .before .before .before) in
+    c .verdict-on .ensures ∙ ap (λ (x : Option Verdict). verdict x (Accepted (T .nodeRows) (linkCount T))) (fresh-found (c .before))
 
 returns : tie.Need-returns
-returns c =
-    both (c .before .before .before .before) _
-    (refused-is (lent (c .before .before .before .before)) _ _ _ (first-found (c .before .before .before)) (c .before .found .given .1))
-
-returns-2 : tie.Need-returns-2
-unfolding linkCount
-returns-2 c =
-    both (c .before .before .before .before) _
-    (accepted-is (lent (c .before .before .before .before)) _ _ (first-found (c .before .before .before)) (c .before .enum-told .given .1) (c .links .ensures))
+returns c = both (c .before .before .before) _ (verdict-is c)
 
 pub check-spec : {M : Type 1} → statement M
-check-spec =
-    tie.close
-    (tie.spec first-refusal-requires enum-known-found enum-told links-requires returns returns-2)
+check-spec = tie.close (tie.spec first-refusal-requires fresh-requires verdict-on-requires returns)

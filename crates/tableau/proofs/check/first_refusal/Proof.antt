@@ -14,7 +14,7 @@ use borrow.Author.Tests.{leb-true}
 use Rattle.stab.specs.Basic.{_otherwise_, scan}
 use Rattle.stab.specs.Node.{Tableau, rowCount}
 use Rattle.stab.specs.declared.Verdict.{Verdict}
-use Rattle.stab.specs.Check.{refusal, holds, tablesHold, withinLimits, nodeRefusal}
+use Rattle.stab.specs.Check.{refusalWith, olderFormulas, holds, tablesHold, withinLimits, nodeRefusal}
 use Rattle.stab.specs.declared.Refusal.the-variants.{TableTooShort, TooMany}
 use Rattle.stab.proofs.Bools.{and-left, and-right, asked-false, asked-true}
 use Rattle.stab.proofs.Findings.{later}
@@ -66,7 +66,7 @@ returns-2 c =
 -- what is found after the first two tests is what is found first
 after-limits : (c : tie.Else2) (x : Option Verdict) →
     let T = lent (c .before .before .before .before) in
-    x ≡ ((rowsRefusal T otherwise nodesRefusal T) otherwise scan (nodeRefusal T) (T .nodeRows)) → x ≡ refusal T
+    x ≡ ((rowsRefusal T otherwise nodesRefusal T) otherwise scan (nodeRefusal T) (T .nodeRows)) → x ≡ refusalWith olderFormulas nodeRefusal T
 after-limits c x e =
     let T = lent (c .before .before .before .before) in
     later _ _ _ (whole-passes (tablesHold T) TableTooShort (held (c .before .before)))
@@ -97,7 +97,7 @@ sizes c =
 after-limits-as : (c : tie.Else2) (x : Option Verdict) →
     let start = c .before .before .before .before in
     let T = lentAt start (toZ w32 (ofZ w32 (start .args .root))) (toZ w32 (ofZ w32 (start .args .least))) in
-    x ≡ ((rowsRefusal T otherwise nodesRefusal T) otherwise scan (nodeRefusal T) (start .args .k)) → x ≡ refusal (lent start)
+    x ≡ ((rowsRefusal T otherwise nodesRefusal T) otherwise scan (nodeRefusal T) (start .args .k)) → x ≡ refusalWith olderFormulas nodeRefusal (lent start)
 unfolding tableau
 after-limits-as c x e =
     let start = c .before .before .before .before in

@@ -11,7 +11,7 @@ check-fault-requires : tie.Need-check-fault-requires
 check-fault-requires c κs = search needs
 
 numbered-requires : tie.Need-numbered-requires
-numbered-requires c κs = subst (λ (f : Fault). f .line < 16384) (sym (c .check-fault .ensures)) (check-fault-fits _ _)
+numbered-requires c κs = subst (λ (f : Fault). f .line < 16384) (sym (c .check-fault .ensures)) (check-fault-fits _ _ _)
 
 returns : tie.Need-returns
 returns c = c .numbered .ensures ∙ ap faultNumber (c .before .check-fault .ensures)

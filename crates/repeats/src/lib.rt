@@ -1,0 +1,100 @@
+// Proof rows written twice, found by chains of rows that may be equal.
+mod chain;
+mod row;
+
+use stab::Finding;
+use stab::Place;
+use stab::Refusal;
+ghost use mathlib.Core.Path.{_≡_};
+ghost use Prim.Native.Nat.{ℕ, _+_, _<_, _≤_};
+ghost use mathlib.Core.Bool.{false};
+ghost use lib.ListN.{length, getD};
+ghost use Rattle.stab.specs.Basic.{scan};
+ghost use Rattle.stab.specs.Formula.{joined};
+ghost use Rattle.stab.specs.Check.{finding, repeatRefusal};
+ghost use Rattle.repeats.specs.Chain.{repeated, Chained};
+
+// One row more: it repeats an earlier one, and is no row before `from`.
+fn step(
+    schema: &[i32],
+    s: usize,
+    proof: &[i32],
+    from: usize,
+    r: usize,
+    next: &mut [u32],
+    heads: &mut [u32],
+) -> bool
+    requires { ⌜ (r < 1024) × (r < length (now next)) × (1021 ≤ length (now heads)) ⌝ }
+    requires { ⌜ Chained (joined (now schema) s (now proof)) (now next) (now heads) r ⌝ }
+    ensures { λ v. ⌜ v ≡ repeated (joined (now (schema .entry)) s (now (proof .entry))) from r ⌝ }
+    ensures { λ v. ⌜ (v ≡ false → Chained (joined (now (schema .entry)) s (now (proof .entry))) (now (next .exit)) (now (heads .exit)) (r + 1)) ⌝ }
+{
+    let h = row::slot(schema, s, proof, r);
+    if from <= r {
+        if chain::stands(schema, s, proof, r, h, next, heads) {
+            return true;
+        }
+    }
+    chain::keep(r, h, next, heads);
+    false
+}
+
+// The first row from `from` on that repeats an earlier one. What is lent: a number for each row, and one for each slot, which are 0.
+fn first_repeat(
+    schema: &[i32],
+    s: usize,
+    proof: &[i32],
+    from: usize,
+    n: usize,
+    next: &mut [u32],
+    heads: &mut [u32],
+) -> Finding
+    requires { ⌜ (n ≤ 1024) × (n ≤ length (now next)) × (1021 ≤ length (now heads)) ⌝ }
+    requires { ⌜ ((h : ℕ) → h < 1021 → getD (now heads) h 0 ≡ 0) ⌝ }
+    ensures { λ r. ⌜ finding r ≡ scan (repeatRefusal (joined (now (schema .entry)) s (now (proof .entry))) from) n ⌝ }
+{
+    let mut r: usize = 0;
+    while r < n {
+        if step(schema, s, proof, from, r, next, heads) {
+            return Finding::Found {
+                why: Refusal::Repeated,
+                place: Place::At(r),
+            };
+        }
+        r += 1;
+    }
+    Finding::Nothing
+}
+
+// A table of few rows, which need not wait for as many numbers as a large one.
+fn small_table(schema: &[i32], s: usize, proof: &[i32], from: usize, n: usize) -> Finding
+    requires { ⌜ n ≤ 64 ⌝ }
+    ensures { λ r. ⌜ finding r ≡ scan (repeatRefusal (joined (now (schema .entry)) s (now (proof .entry))) from) n ⌝ }
+{
+    let mut next = [0u32; 64];
+    let mut heads = [0u32; 1021];
+    first_repeat(schema, s, proof, from, n, &mut next, &mut heads)
+}
+
+fn large_table(schema: &[i32], s: usize, proof: &[i32], from: usize, n: usize) -> Finding
+    requires { ⌜ n ≤ 1024 ⌝ }
+    ensures { λ r. ⌜ finding r ≡ scan (repeatRefusal (joined (now (schema .entry)) s (now (proof .entry))) from) n ⌝ }
+{
+    let mut next = [0u32; 1024];
+    let mut heads = [0u32; 1021];
+    first_repeat(schema, s, proof, from, n, &mut next, &mut heads)
+}
+
+// The first of n rows, from `from` on, whose columns are those of an earlier row.
+pub fn repeats(schema: &[i32], s: usize, proof: &[i32], from: usize, n: usize) -> Finding
+    requires { ⌜ n ≤ 1024 ⌝ }
+    ensures { λ r. ⌜ finding r ≡ scan (repeatRefusal (joined (now (schema .entry)) s (now (proof .entry))) from) n ⌝ }
+{
+    if n <= from {
+        return Finding::Nothing;
+    }
+    if n <= 64 {
+        return small_table(schema, s, proof, from, n);
+    }
+    large_table(schema, s, proof, from, n)
+}
