@@ -34,6 +34,7 @@ pub fn number(why: Refusal) -> u64
         Refusal::Number => 21,
         Refusal::Output => 22,
         Refusal::Repeated => 27,
+        Refusal::Wires => 30,
     }
 }
 

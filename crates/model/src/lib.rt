@@ -20,10 +20,11 @@ ghost use Rattle.stab.specs.declared.Verdict.the-variants.{Accepted};
 ghost use Rattle.stab.specs.Model.{modelRefusal, checkModel};
 ghost use Rattle.stab.specs.Refuted.{Irrefutable};
 ghost use Rattle.formula.specs.Facts.{AllFormed};
+ghost use Rattle.formula.specs.Rows.{formulasTable, Passed};
 ghost use Rattle.model.specs.Passes.{tablesRefusal, truthRefusal, RootReadable};
 
 // A refusal of the whole record.
-fn whole(why: Refusal) -> Finding
+pub fn whole(why: Refusal) -> Finding
     ensures { λ r. ⌜ r ≡ Found why Whole ⌝ }
 {
     Finding::Found {
@@ -51,13 +52,20 @@ fn tables_pass(schema: &[i32], schema_rows: usize, pairs: &[i32], pair_rows: usi
     Finding::Nothing
 }
 
-// Refusals 6, 7, 8 and 6 again, over the schema rows. The rest of the table stands where a proof's rows would.
-fn formulas_pass(schema: &[i32], schema_rows: usize, root: i32, least: i32) -> Finding
-    requires { ⌜ («schema_rows» ≤ 1024) × (4 * «schema_rows» ≤ length (now schema)) ⌝ }
+// Refusals 6, 7, 8 and 6 again, over the schema rows, whose numbers are kept. The rest of the table stands where a proof's rows
+// would.
+pub fn schema_pass(
+    schema: &[i32],
+    schema_rows: usize,
+    root: i32,
+    least: i32,
+    facts: &mut [u32],
+) -> Finding
+    requires { ⌜ («schema_rows» ≤ 1024) × (4 * «schema_rows» ≤ length (now schema)) × (4 * «schema_rows» ≤ length (now facts)) ⌝ }
     ensures { λ r. ⌜ finding r ≡ formulasRefusal (rowAt (now (schema .entry))) «schema_rows» «schema_rows» root least ⌝ }
-    ensures { λ r. ⌜ (formulasRefusal (rowAt (now (schema .entry))) «schema_rows» «schema_rows» root least ≡ none → AllFormed (rowAt (now (schema .entry))) «schema_rows») ⌝ }
+    ensures { λ r. ⌜ (formulasRefusal (rowAt (now (schema .entry))) «schema_rows» «schema_rows» root least ≡ none → Passed (rowAt (now (schema .entry))) (now (facts .exit)) «schema_rows») ⌝ }
+    ensures { λ r. ⌜ now (facts .exit) ≡ formulasTable (rowAt (now (schema .entry))) (now (facts .entry)) «schema_rows» «schema_rows» root least ⌝ }
 {
-    let mut facts = [0u32; 4096];
     let end = 4 * schema_rows;
     formula::rows::formulas(
         schema,
@@ -66,12 +74,22 @@ fn formulas_pass(schema: &[i32], schema_rows: usize, root: i32, least: i32) -> F
         schema_rows,
         root,
         least,
-        &mut facts,
+        facts,
     )
 }
 
+// The same where their numbers are not asked for.
+fn formulas_pass(schema: &[i32], schema_rows: usize, root: i32, least: i32) -> Finding
+    requires { ⌜ («schema_rows» ≤ 1024) × (4 * «schema_rows» ≤ length (now schema)) ⌝ }
+    ensures { λ r. ⌜ finding r ≡ formulasRefusal (rowAt (now (schema .entry))) «schema_rows» «schema_rows» root least ⌝ }
+    ensures { λ r. ⌜ (formulasRefusal (rowAt (now (schema .entry))) «schema_rows» «schema_rows» root least ≡ none → AllFormed (rowAt (now (schema .entry))) «schema_rows») ⌝ }
+{
+    let mut facts = [0u32; 4096];
+    schema_pass(schema, schema_rows, root, least, &mut facts)
+}
+
 // n is not below the least value, nor over 9999.
-fn width_fits(least: i32, n: i32) -> bool
+pub fn width_fits(least: i32, n: i32) -> bool
     ensures { λ r. ⌜ r ≡ (leZ least n and leZ n (pos 9999)) ⌝ }
 {
     if signed::natural(least) + signed::under(n) <= signed::natural(n) + signed::under(least) {

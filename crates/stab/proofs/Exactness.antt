@@ -1,5 +1,5 @@
 -- Demand 2: the check accepts exactly the records that keep the rules, and the model check exactly the models that are right.
-mod Formulas
+pub mod Formulas
 pub mod Nodes
 pub mod Steps
 pub mod Checked

@@ -15,7 +15,7 @@ use Rattle.stab.specs.Refuted.{Refuted, SameSchema, Irrefutable}
 use Rattle.stab.specs.declared.Place.{Place}
 use Rattle.stab.specs.declared.Place.the-variants.{Whole, At}
 use Rattle.stab.specs.declared.Refusal.{Refusal}
-use Rattle.stab.specs.declared.Refusal.the-variants.{TextTooLong, TableTooShort, Heading, Line, TooMany, Root, IllFormed, TooLarge, Set, Parent, Drawn, Fields, Target, Bound, Partner, Lowered, Children, Pair, Width, False, Number, Output, Repeated}
+use Rattle.stab.specs.declared.Refusal.the-variants.{TextTooLong, TableTooShort, Heading, Line, TooMany, Root, IllFormed, TooLarge, Set, Parent, Drawn, Fields, Target, Bound, Partner, Lowered, Children, Pair, Width, False, Number, Output, Repeated, Wires}
 use Rattle.stab.specs.declared.Verdict.{Verdict}
 use Rattle.stab.specs.declared.Verdict.the-variants.{Accepted, Refused}
 use Rattle.stab.proofs.Whole.{num, _⊖_, eq-of}
@@ -24,9 +24,9 @@ use Rattle.stab.proofs.Soundness.{sound, sound-older, no-model}
 use Rattle.stab.proofs.Exactness.Checked.{older-clears, tableau-clears}
 use Rattle.stab.proofs.Exactness.Refusals.{Near, IsRefused, of-older-refusal, of-refusal, of-model-refusal}
 
--- ---- a refusal's number is from 1 to 27
+-- ---- a refusal's number is from 1 to 31
 
-pub number-range : (w : Refusal) → (1 ≤ refusalNumber w) × (refusalNumber w ≤ 27)
+pub number-range : (w : Refusal) → (1 ≤ refusalNumber w) × (refusalNumber w ≤ 31)
 number-range TextTooLong = (omega arith, omega arith)
 number-range TableTooShort = (omega arith, omega arith)
 number-range Heading = (omega arith, omega arith)
@@ -50,10 +50,11 @@ number-range False = (omega arith, omega arith)
 number-range Number = (omega arith, omega arith)
 number-range Output = (omega arith, omega arith)
 number-range Repeated = (omega arith, omega arith)
+number-range Wires = (omega arith, omega arith)
 
 -- ---- the verdicts pack
 
-near-packs : (why : Refusal) (place : Place) → Near place → Packs (Refused why place)
+pub near-packs : (why : Refusal) (place : Place) → Near place → Packs (Refused why place)
 near-packs why Whole h = tt
 near-packs why (At k) h = omega arith
 

@@ -6,7 +6,7 @@ use mathlib.Core.Path.{_≡_, refl, sym, _∙_, ap, subst}
 use mathlib.Core.Logic.{_⊎_, inl, inr, ⊎-elim}
 use mathlib.Core.Bool.{Bool, true, false, false≢true}
 use mathlib.Core.List.{List, [], _∷_, List·Memᴰ, List·Memᴰ·head, List·Memᴰ·tail, List·Memᴰ·cases-cons, List·Memᴰ·not-nil}
-use mathlib.Core.Option.{Option, none, some}
+use mathlib.Core.Option.{Option, none, some, Option·none-ne-some}
 use lib.IntN.{ℤ}
 use Rattle.stab.specs.Basic.{if_then_else_, _otherwise_, scan, count, has, allOf, eqZ}
 use Rattle.stab.proofs.Bools.{otherwise-same, otherwise-first, otherwise-second, otherwise-none, otherwise-some, and-left, and-right, and-both, or-cases, or-left, or-right}
@@ -59,6 +59,16 @@ scan-found f (suc n) i a p h k =
     (λ q. otherwise-some (scan f n) (f n) a (scan-found f n i a q h k))
     (λ q. otherwise-none (scan f n) (f n) (subst (λ (m : ℕ). scan f m ≡ none) q h) ∙ subst (λ (m : ℕ). f m ≡ some a) q k)
     (below-suc i n p)
+
+-- the first number at which something is found
+pub scan-first : {A : Type 0} (f : ℕ → Option A) (n : ℕ) (a : A) → scan f n ≡ some a → (r : ℕ) × (r < n) × (scan f r ≡ none) × (f r ≡ some a)
+unfolding scan _otherwise_
+scan-first f zero a h = absurd (Option·none-ne-some a h)
+scan-first {A} f (suc n) a h = go (scan f n) refl h (scan-first f n a)
+  where
+    go : (x : Option A) → scan f n ≡ x → (x otherwise f n) ≡ some a → (scan f n ≡ some a → (r : ℕ) × (r < n) × (scan f r ≡ none) × (f r ≡ some a)) → (r : ℕ) × (r < suc n) × (scan f r ≡ none) × (f r ≡ some a)
+    go none e d ih = (n, omega arith, e, d)
+    go (some w) e d ih = let k = ih (e ∙ d) in (k .0, omega (arith, k .1), k .2, k .3)
 
 -- ---- counting
 

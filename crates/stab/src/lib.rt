@@ -33,6 +33,7 @@ pub enum Refusal {
     Number,
     Output,
     Repeated,
+    Wires,
 }
 
 // The check's answer and the model check's. An accepted model has both counts 0.

@@ -20,20 +20,10 @@ use Rattle.stab.specs.declared.Verdict.{Verdict}
 use Rattle.stab.specs.declared.Verdict.the-variants.{Accepted, Refused}
 use Rattle.stab.proofs.Bools.{decide, if-true, and-first-false, otherwise-none, otherwise-some}
 use Rattle.stab.proofs.Findings.{otherwise-assoc}
-use Rattle.stab.proofs.Scans.{scan-same, scan-found, none-scan}
+use Rattle.stab.proofs.Scans.{scan-same, scan-found, scan-first, none-scan}
 use Rattle.tableau.specs.Fresh.{atRow, rowsBefore, reached, countIn}
 
 -- ---- scans
-
--- the first number at which something is found
-scan-first : (f : ℕ → Option Verdict) (n : ℕ) (v : Verdict) → scan f n ≡ some v → (r : ℕ) × (r < n) × (scan f r ≡ none) × (f r ≡ some v)
-unfolding scan _otherwise_
-scan-first f zero v h = absurd (Option·none-ne-some v h)
-scan-first f (suc n) v h = go (scan f n) refl h (scan-first f n v)
-  where
-    go : (x : Option Verdict) → scan f n ≡ x → (x otherwise f n) ≡ some v → (scan f n ≡ some v → (r : ℕ) × (r < n) × (scan f r ≡ none) × (f r ≡ some v)) → (r : ℕ) × (r < suc n) × (scan f r ≡ none) × (f r ≡ some v)
-    go none e d ih = (n, omega arith, e, d)
-    go (some w) e d ih = let k = ih (e ∙ d) in (k .0, omega (arith, k .1), k .2, k .3)
 
 -- what is found among the first numbers is found among more
 scan-longer : (f : ℕ → Option Verdict) (m n : ℕ) (v : Verdict) → m ≤ n → scan f m ≡ some v → scan f n ≡ some v

@@ -90,13 +90,16 @@ module _ (rows : ℕ → Row) (r : ℕ) (formed : wellFormed rows r ≡ true) wh
 
   -- m is the number of the row's kind
   module _ (m : ℕ) (e : m ≡ nat (rows r .kind)) where
+    pub is-constant : m < 2 → kindOf (rows r .kind) ≡ constant (eqb m 0)
+    is-constant h = kind-at m _ e (constant-number m h)
+
     pub value-constant : m < 2 → (σ : Assignment) (n : ℕ) (i : ℤ) → value σ n (tree rows r) i ≡ eqb m 0
     unfolding decode value
-    value-constant h σ n i = value-as (constant (eqb m 0)) σ n i (kind-at m _ e (constant-number m h))
+    value-constant h σ n i = value-as (constant (eqb m 0)) σ n i (is-constant h)
 
     -- ---- literals
 
-    is-literal : 2 ≤ m → m < 4 → kindOf (rows r .kind) ≡ literal (eqb m 2)
+    pub is-literal : 2 ≤ m → m < 4 → kindOf (rows r .kind) ≡ literal (eqb m 2)
     is-literal l h = kind-at m _ e (literal-number m l h)
 
     literal-formed : 2 ≤ m → m < 4 → (within (pos 0) (pos 255) (rows r .a) and within (pos 0) (pos 2) (rows r .b) and offset (rows r .c)) ≡ true
@@ -122,7 +125,7 @@ module _ (rows : ℕ → Row) (r : ℕ) (formed : wellFormed rows r ≡ true) wh
 
     -- ---- and, or
 
-    is-junction : 4 ≤ m → m < 6 → kindOf (rows r .kind) ≡ junction (opOf (eqb m 5))
+    pub is-junction : 4 ≤ m → m < 6 → kindOf (rows r .kind) ≡ junction (opOf (eqb m 5))
     is-junction l h = kind-at m _ e (junction-number m l h)
 
     junction-formed : 4 ≤ m → m < 6 → (below r (rows r .a) and below r (rows r .b) and eqZ (rows r .c) (pos 0) and not (mixes (tree rows r))) ≡ true
@@ -145,7 +148,7 @@ module _ (rows : ℕ → Row) (r : ℕ) (formed : wellFormed rows r ≡ true) wh
 
     -- ---- big and, big or
 
-    is-iteration : 6 ≤ m → kindOf (rows r .kind) ≡ iteration (opOf (eqb m 7))
+    pub is-iteration : 6 ≤ m → kindOf (rows r .kind) ≡ iteration (opOf (eqb m 7))
     is-iteration l = kind-at m _ e (iteration-number m l (omega (arith, kind-below)))
 
     iteration-formed : 6 ≤ m → (below r (rows r .a) and offset (rows r .b) and offset (rows r .c) and isBody (tree rows (nat (rows r .a)))) ≡ true

@@ -40,7 +40,7 @@ fn settled(any: bool, w: u64, width: usize) -> bool
 }
 
 // Two words, joined: by or where `any`, else by and.
-fn joined(any: bool, v: u64, w: u64) -> u64
+pub fn joined(any: bool, v: u64, w: u64) -> u64
     ensures { λ r. ⌜ r ≡ joinedWord any v w ⌝ }
 {
     if any { v | w } else { v & w }
@@ -58,7 +58,7 @@ fn whole_word(any: bool, w: u64, width: usize) -> bool
 }
 
 // What a literal's c is added to, by column b of row f: nothing, n, or what i stands for.
-fn base_of(schema: &[i32], f: usize, n: usize, i: usize) -> usize
+pub fn base_of(schema: &[i32], f: usize, n: usize, i: usize) -> usize
     requires { ⌜ (f < 1024) × (n ≤ 9999) × Reached i ⌝ }
     ensures { λ r. ⌜ Reached r × (unbiased r ≡ base n (unbiased i) (baseOf (rowAt (now (schema .entry)) f .b))) ⌝ }
 {
@@ -113,7 +113,7 @@ fn literal_value(
 }
 
 // How many i there are from b up to n - c, for the columns of row f, an iteration.
-fn range_size(schema: &[i32], f: usize, n: usize) -> usize
+pub fn range_size(schema: &[i32], f: usize, n: usize) -> usize
     requires { ⌜ (f < 1024) × (n ≤ 9999) × Iterates (now schema) f ⌝ }
     ensures { λ r. ⌜ r ≡ rangeSize (rowAt (now (schema .entry)) f .b) (pos n -ℤ rowAt (now (schema .entry)) f .c) ⌝ }
 {

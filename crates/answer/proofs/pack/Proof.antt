@@ -50,7 +50,7 @@ coded-requires c κs =
     coded-of (c .before .before .v2 .given .0 .0) (c .before .before .v2 .given .0 .1 .0) (subst Packs (c .before .before .v2 .given .1) (c .before .before .before .before .pre))
 
 -- the parts of a refusal's number
-parts : (c : tie.After-coded) → (c .before .number .result ≤ 27) × (c .coded .result < 8192)
+parts : (c : tie.After-coded) → (c .before .number .result ≤ 31) × (c .coded .result < 8192)
 parts c =
     let g = c .before .before .before .v2 .given in (
       omega (arith, c .before .number .ensures, number-range (g .0 .0) .1),

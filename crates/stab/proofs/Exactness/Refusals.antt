@@ -28,7 +28,7 @@ abbrev pub IsRefused : Verdict → Type 0
 IsRefused v = (why : Refusal) × (place : Place) × (v ≡ Refused why place) × Near place
 
 -- whatever is found is a refusal
-abbrev FindsRefusals : Option Verdict → Type 0
+abbrev pub FindsRefusals : Option Verdict → Type 0
 FindsRefusals x = (v : Verdict) → x ≡ some v → IsRefused v
 
 of-unless : (t : Bool) (why : Refusal) (place : Place) → Near place → FindsRefusals (unless t (Refused why place))
@@ -36,22 +36,22 @@ unfolding unless
 of-unless true why place near v h = absurd (Option·none-ne-some v h)
 of-unless false why place near v h = (why, place, cc, near)
 
-of-whole : (t : Bool) (why : Refusal) → FindsRefusals (wholeUnless t why)
+pub of-whole : (t : Bool) (why : Refusal) → FindsRefusals (wholeUnless t why)
 unfolding wholeUnless
 of-whole t why = of-unless t why Whole tt
 
-of-at : (t : Bool) (why : Refusal) (k : ℕ) → k < 4096 → FindsRefusals (atUnless t why k)
+pub of-at : (t : Bool) (why : Refusal) (k : ℕ) → k < 4096 → FindsRefusals (atUnless t why k)
 unfolding atUnless
 of-at t why k near = of-unless t why (At k) near
 
 infixr 25 _or-else_
-_or-else_ : {x y : Option Verdict} → FindsRefusals x → FindsRefusals y → FindsRefusals (x otherwise y)
+pub _or-else_ : {x y : Option Verdict} → FindsRefusals x → FindsRefusals y → FindsRefusals (x otherwise y)
 unfolding _otherwise_
 _or-else_ {x = none} f g = g
 _or-else_ {x = some a} f g = f
 
 -- the second finding may use that the first test passed
-once : {x y : Option Verdict} → FindsRefusals x → (x ≡ none → FindsRefusals y) → FindsRefusals (x otherwise y)
+pub once : {x y : Option Verdict} → FindsRefusals x → (x ≡ none → FindsRefusals y) → FindsRefusals (x otherwise y)
 unfolding _otherwise_
 once {x = none} f g = g refl
 once {x = some a} f g = f
@@ -61,7 +61,7 @@ unfolding scan
 of-scan f zero l h v e = absurd (Option·none-ne-some v e)
 of-scan f (suc n) l h v e = _or-else_ (of-scan f n (omega arith) h) (h n (omega arith)) v e
 
-of-formulas : (rows : ℕ → Row) (n s : ℕ) (root least : ℤ) → n ≤ 4096 → FindsRefusals (formulasRefusal rows n s root least)
+pub of-formulas : (rows : ℕ → Row) (n s : ℕ) (root least : ℤ) → n ≤ 4096 → FindsRefusals (formulasRefusal rows n s root least)
 unfolding formulasRefusal formulasBy rowRefusal
 of-formulas rows n s root least l =
     of-whole _ _ or-else

@@ -1,0 +1,5 @@
+pub mod DigitLaws
+pub mod Blocks
+pub mod KeyLaws
+pub mod Ranges
+pub mod Searches

@@ -1,0 +1,3 @@
+pub mod Searches
+pub mod Pairs
+pub mod Answers

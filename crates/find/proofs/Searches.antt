@@ -1,0 +1,100 @@
+-- The laws of the search's parts.
+use Prim.Native.Nat.{ℕ, _*_, _≤_, _<_}
+use native.Mathlib.Omega.{arith}
+use mathlib.Core.Path.{_≡_, refl, sym, _∙_, ap, ap₂}
+use mathlib.Core.Bool.{Bool, true, false}
+use mathlib.Core.List.{List}
+use mathlib.Core.Option.{Option, none, some}
+use lib.Dec.{leb}
+use lib.IntN.{ℤ, pos}
+use lib.Signed.{leZ}
+use lib.ListN.{length}
+use Rattle.stab.specs.Basic.{_and_, nat, _otherwise_}
+use Rattle.stab.specs.Formula.{rowAt}
+use Rattle.stab.specs.Check.{finding, wholeUnless, atUnless, holds, formulasRefusal}
+use Rattle.stab.specs.declared.Place.{Place}
+use Rattle.stab.specs.declared.Place.the-variants.{At}
+use Rattle.stab.specs.declared.Refusal.{Refusal}
+use Rattle.stab.specs.declared.Refusal.the-variants.{TableTooShort, TooMany, Width}
+use Rattle.stab.specs.declared.Finding.{Finding}
+use Rattle.stab.specs.declared.Finding.the-variants.{Nothing, Found}
+use Rattle.stab.specs.declared.Verdict.{Verdict}
+use Rattle.stab.specs.declared.Verdict.the-variants.{Refused}
+use Rattle.stab.proofs.Bools.{none-unless, some-unless, unless-none, otherwise-first, otherwise-second, otherwise-none, otherwise-some}
+use Rattle.stab.proofs.Findings.{otherwise-assoc}
+use Rattle.stab.proofs.Tests.{_clears_, _then_, le-tests, at-clears, whole-clears}
+use Rattle.formula.specs.Rows.{Passed}
+use Rattle.model.proofs.Passes.{passed-root, n-small}
+use Rattle.occurring.proofs.Holds.{passed-less}
+use Rattle.found.specs.Find.{Query, findRefusal}
+use Rattle.find.specs.Search.{tablesRefusal, queryRefusal, wiresRefusal, Ready}
+
+-- ---- refusals
+
+module _ (ok : Bool) (why : Refusal) (k : ℕ) (rest : Option Verdict) where
+  pub at-here : ok ≡ false → finding (Found why (At k)) ≡ (atUnless ok why k otherwise rest)
+  unfolding finding atUnless
+  at-here h = sym (otherwise-some (atUnless ok why k) rest _ (some-unless ok _ h))
+
+  pub at-later : (x : Option Verdict) → ok ≡ true → x ≡ rest → x ≡ (atUnless ok why k otherwise rest)
+  unfolding atUnless
+  at-later x h e = e ∙ sym (otherwise-none (atUnless ok why k) rest (none-unless ok _ h))
+
+-- what is found is not nothing
+pub found-some : (f : Finding) (x : Option Verdict) (why : Refusal) (p : Place) → finding f ≡ x → f ≡ Found why p → x ≡ none → ⊥
+unfolding finding
+found-some f x why p e h n =
+    let found : some (Refused why p) ≡ none = sym (ap finding h) ∙ e ∙ n in
+    let z : _≡_ {A = ℕ} 0 1 = cc in
+    omega arith
+
+pub tables-clear : (room : ℕ) (schema : List ℤ) (s : ℕ) → tablesRefusal room schema s clears ((8192 ≤ room) × ((4 * s ≤ length schema) × (s ≤ 1024)))
+unfolding tablesRefusal holds
+tables-clear room schema s =
+    at-clears TableTooShort 0 (le-tests 8192 room) then
+    (whole-clears TableTooShort (le-tests (4 * s) (length schema)) then whole-clears TooMany (le-tests s 1024))
+
+-- the refusals in their parts
+pub find-is : (Q : Query) → findRefusal Q ≡ (queryRefusal Q otherwise wiresRefusal Q)
+unfolding findRefusal queryRefusal tablesRefusal wiresRefusal
+find-is Q =
+    let a = atUnless (leb 8192 (Q .room)) TableTooShort 0 in
+    let b = wholeUnless (holds (Q .schema) 4 (Q .schemaRows)) TableTooShort in
+    let c = wholeUnless (leb (Q .schemaRows) 1024) TooMany in
+    let f = formulasRefusal (rowAt (Q .schema)) (Q .schemaRows) (Q .schemaRows) (Q .root) (Q .least) in
+    let w = wholeUnless (leZ (Q .least) (Q .n) and leZ (Q .n) (pos 9999)) Width in
+    let x = wiresRefusal Q in
+    sym
+    (otherwise-assoc (a otherwise (b otherwise c)) (f otherwise w) x
+    ∙ ap (λ (y : Option Verdict). (a otherwise (b otherwise c)) otherwise y) (otherwise-assoc f w x)
+    ∙ otherwise-assoc a (b otherwise c) _
+    ∙ ap (λ (y : Option Verdict). a otherwise y) (otherwise-assoc b c _))
+
+-- ---- what holds of a query that has passed
+
+module _ (Q : Query) (h : queryRefusal Q ≡ none) where
+  tables-none : tablesRefusal (Q .room) (Q .schema) (Q .schemaRows) ≡ none
+  unfolding queryRefusal
+  tables-none = otherwise-first _ _ h
+
+  pub formulas-none : formulasRefusal (rowAt (Q .schema)) (Q .schemaRows) (Q .schemaRows) (Q .root) (Q .least) ≡ none
+  unfolding queryRefusal
+  formulas-none = otherwise-first _ _ (otherwise-second (tablesRefusal (Q .room) (Q .schema) (Q .schemaRows)) _ h)
+
+  width-in : (leZ (Q .least) (Q .n) and leZ (Q .n) (pos 9999)) ≡ true
+  unfolding queryRefusal wholeUnless
+  width-in =
+      unless-none _ _
+      (otherwise-second (formulasRefusal (rowAt (Q .schema)) (Q .schemaRows) (Q .schemaRows) (Q .root) (Q .least)) _
+      (otherwise-second (tablesRefusal (Q .room) (Q .schema) (Q .schemaRows)) _ h))
+
+  pub query-ready : (facts : List ℕ) → Passed (rowAt (Q .schema)) facts (Q .schemaRows) → Ready (Q .schema) facts (Q .root) (Q .n) (Q .room)
+  query-ready facts p =
+      let tables = tables-clear (Q .room) (Q .schema) (Q .schemaRows) .0 tables-none in
+      let root = passed-root (rowAt (Q .schema)) (Q .schemaRows) (Q .root) (Q .least) formulas-none in
+      record {
+        row = omega (arith, root, tables .1 .1);
+        passed = passed-less (rowAt (Q .schema)) facts _ (Q .schemaRows) (omega (arith, root)) p;
+        width = n-small (Q .least) (Q .n) width-in;
+        table = tables .0;
+      }

@@ -1,0 +1,3 @@
+pub mod Find
+pub mod Keys
+pub mod Number

@@ -1,0 +1,4 @@
+pub mod Insertion
+pub mod Keys
+pub mod Rows
+pub mod Holds
