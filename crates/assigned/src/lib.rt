@@ -1,5 +1,5 @@
 // The least number of an assignment that makes a schema true. One walk over the formula rows gives the values of 4,096
-// assignments, as the digits of 64 words.
+// assignments, as the digits of 64 words. The length of a lent array is not known where a function begins, so it is asked for.
 use formula::A;
 use formula::B;
 use formula::kept::kept_at;
