@@ -1,11 +1,11 @@
-/* Zorambi: the proved check of schema tableaux, present and older, the model check, the readers and writers of their texts, and
- * the line that a refusal points to, from C and C++.
+/* Zorambi: the proved check of schema tableaux, present and older, the model check, the readers and writers of their texts, the
+ * line that a refusal points to, and what makes models, schemata and records, from C and C++.
  *
  * A slice is a pointer and the count of its numbers or bytes. With a count of 0 it is empty whatever the pointer is, NULL too,
  * as an empty vector gives it. The counts of rows, nodes and members are those that refusals 2 and 5 speak of: a table may be
  * longer than its count. Whatever stands in the tables and texts, and whatever the counts, the answer is a verdict or a numbered
- * refusal; nothing is read or written outside the slices and the arrays results and span, and only what is not const is
- * written. No two slices or arrays of a call may overlap if one of them is written. */
+ * refusal; nothing is read or written outside the slices and the arrays, whose lengths are declared, and only what is not
+ * const is written. No two slices or arrays of a call may overlap if one of them is written. */
 #ifndef ZORAMBI_H
 #define ZORAMBI_H
 
@@ -101,6 +101,18 @@ uint64_t zorambi_model_fault(const uint8_t *schema, size_t schema_len, const uin
 static inline unsigned zorambi_fault_line(uint64_t fault) { return (unsigned)(fault >> 1); }
 static inline int zorambi_fault_second(uint64_t fault) { return (int)(fault & 1); }
 
+/* ---- A failing width. */
+
+/* ---- Connectives as designers write them. */
+
+/* ---- All small schemata. */
+
+/* ---- Older records, tidied. */
+
+/* ---- One record for either fault. */
+
+/* ---- A tableau that grows. */
+
 /* The one number that comes back from the others: ((answer * 8192 + place + 1) * 8192 + nodes) * 8192 + links. In reading and
  * writing both counts are 0, but that a text that was written has its bytes in their place. */
 static inline unsigned zorambi_answer(uint64_t packed) { return (unsigned)(packed >> 39); }
@@ -133,7 +145,14 @@ enum zorambi_answer_number {
   ZORAMBI_FALSE = 20,           /* the schema is false in the model; place: -1 */
   ZORAMBI_NUMBER = 21,          /* writing: a number beyond 5 digits, or sets that do not follow one another to the last member */
   ZORAMBI_OUTPUT = 22,          /* writing: the output is too short, or the text too long */
-  ZORAMBI_REPEATED = 27         /* a proof row equals an earlier schema or proof row, not in the older check; place: the row */
+  /* converting */
+  /* growing */
+  /* enquiring */
+  /* checking */
+  ZORAMBI_REPEATED = 27,        /* a proof row equals an earlier schema or proof row, not in the older check; place: the row */
+  /* joining */
+  /* finding a model */
+  /* the next small table */
 };
 
 /* The library's own functions take an empty slice as they take any: with an address, which is not NULL. So each name above stands
@@ -269,6 +288,12 @@ static inline uint64_t zorambi_c_check_older_fault(const uint8_t *schema, size_t
 static inline uint64_t zorambi_c_model_fault(const uint8_t *schema, size_t schema_len, const uint8_t *model, size_t model_len) {
   return zorambi_model_fault(zorambi_text_of(schema, schema_len), schema_len, zorambi_text_of(model, model_len), model_len);
 }
+/* A failing width. */
+/* Connectives as designers write them. */
+/* All small schemata. */
+/* Older records, tidied. */
+/* One record for either fault. */
+/* A tableau that grows. */
 
 #define zorambi_check zorambi_c_check
 #define zorambi_check_older zorambi_c_check_older
@@ -289,6 +314,12 @@ static inline uint64_t zorambi_c_model_fault(const uint8_t *schema, size_t schem
 #define zorambi_check_fault zorambi_c_check_fault
 #define zorambi_check_older_fault zorambi_c_check_older_fault
 #define zorambi_model_fault zorambi_c_model_fault
+/* A failing width. */
+/* Connectives as designers write them. */
+/* All small schemata. */
+/* Older records, tidied. */
+/* One record for either fault. */
+/* A tableau that grows. */
 
 #ifdef __cplusplus
 }

@@ -1,7 +1,7 @@
 #!/usr/bin/env bash
 # The programs, through ./zorambi check, ./zorambi check --older and ./zorambi model: on every record against its
 # `expected` file and the other implementation, and on files that are no texts at all against the other implementation.
-# And that the copies of the records are the records.
+# And that the copies of the records are the records. The commands that make texts are in tests/programs, a file each.
 set -u
 cd "$(dirname "$0")/.." || exit 2
 here=$PWD
@@ -71,6 +71,24 @@ said_exactly() { # NAME TEXT
     failed=$((failed + 1))
     echo "$1: what is said is not '${2//$'\n'/|}' but: $(tr '\n' '|' <"$work/err")"
   fi
+}
+
+# One run of a command that makes a text: its exit status, all that it prints and all that it says.
+gives() { # NAME STATUS PRINTED SAID WORD...
+  local name=$1 wanted=$2 printed=$3 told=$4 status
+  shift 4
+  ./zorambi "$@" >"$work/out" 2>"$work/err"
+  status=$?
+  if [ "$status" -eq "$wanted" ] && cmp -s "$work/out" <(printf '%s' "$printed") && cmp -s "$work/err" <(printf '%s' "$told"); then
+    passed=$((passed + 1))
+  else
+    failed=$((failed + 1))
+    echo "$name: exit $status; printed: $(tr '\n' '|' <"$work/out"); said: $(tr '\n' '|' <"$work/err")"
+  fi
+}
+# The same where it is refused: the numbers, and what is said.
+turns_away() { # NAME NUMBERS SAID WORD...
+  gives "$1" 1 $'answer place nodes links\n'"$2"$'\n' "$3"$'\n' "${@:4}"
 }
 
 record() { # FOLDER: 01's record
@@ -284,8 +302,9 @@ missing model model.txt
 
 # ---- the records as the program `cases` has them
 
-# The texts are the same, and what the program is held to is what the records themselves expect.
-if diff -r --exclude=README.md --exclude=expected --exclude=why --exclude=older records crates/cases/data; then
+# The texts are the same but for those of commands that make texts, which it has not, and what the program is held to is what
+# the records themselves expect.
+if diff -r --exclude=README.md --exclude=expected --exclude=why --exclude=older --exclude=wide --exclude=tidy records crates/cases/data; then
   passed=$((passed + 1))
 else
   failed=$((failed + 1))
@@ -304,7 +323,7 @@ for r in records/accepted/* records/refused/*; do
   if [ -f "$r/model.txt" ]; then listed "${r#records/}, its model: 0 0 0 0"; fi
 done
 
-# ---- wrong use
+# ---- wrong use, and the commands that make texts
 
 wrong_use() { # WORD...
   ./zorambi "$@" >/dev/null 2>&1
@@ -326,6 +345,12 @@ wrong_use check --older "$work/none"
 wrong_use check --oldest records/accepted/rca_zero
 wrong_use check records/accepted/rca_zero --older
 wrong_use model --older records/accepted/rca_zero
+
+for commands in tests/programs/*.sh; do
+  [ -f "$commands" ] || continue
+  # shellcheck source=/dev/null
+  . "$commands"
+done
 
 echo "$passed passed, $failed failed"
 [ "$failed" -eq 0 ]

@@ -1,5 +1,5 @@
 /* Every slice of every entry empty, with the pointer NULL: the answers are those of the paper for an empty table or text. And
- * proof rows written twice. */
+ * small cases of each entry: proof rows written twice, and what the later changes of the paper bring. */
 #include <stdio.h>
 #include <string.h>
 
@@ -200,6 +200,18 @@ static void lines(void) {
   points("no model to point into", zorambi_model_fault(text, strlen(schema_text), NULL, 0), 1, 1);
 }
 
+/* ---- A failing width. */
+
+/* ---- Connectives as designers write them. */
+
+/* ---- All small schemata. */
+
+/* ---- Older records, tidied. */
+
+/* ---- One record for either fault. */
+
+/* ---- A tableau that grows. */
+
 int main(void) {
   check(zorambi_check);
   which = ", older";
@@ -213,6 +225,12 @@ int main(void) {
   writing();
   again();
   lines();
+  /* a failing width */
+  /* connectives as designers write them */
+  /* all small schemata */
+  /* older records, tidied */
+  /* one record for either fault */
+  /* a tableau that grows */
   printf("%d passed, %d failed\n", passed, failed);
   return failed > 0;
 }

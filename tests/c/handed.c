@@ -4,7 +4,7 @@
 
 #include "zorambi.h"
 
-extern uintptr_t seen[18];
+extern uintptr_t seen[40];
 extern size_t seen_count;
 
 static int passed, failed;
@@ -37,11 +37,11 @@ static void test(const char *call, int right) {
     test(#call, back == answer && as_expected(expected, sizeof expected / sizeof expected[0])); \
   } while (0)
 
-int main(void) {
-  int32_t a[1] = {0}, b[1] = {0}, c[1] = {0}, d[1] = {0}, e[1] = {0}, f[1] = {0}, r[3] = {0};
-  uint8_t s[1] = {0}, t[1] = {0};
-  size_t span[2] = {0};
+int32_t a[1], b[1], c[1], d[1], e[1], f[7], g[1], h[1], r[6], w[1033];
+uint8_t s[1], t[1];
+size_t span[2], held[2];
 
+int main(void) {
   HANDS(zorambi_check(a, 11, 12, b, 13, 14, 15, 16, c, 17, 18, d, 19, 20), 1,
         AT(a), 11, 12, AT(b), 13, 14, 15, 16, AT(c), 17, 18, AT(d), 19, 20);
   HANDS(zorambi_check(NULL, 0, 12, NULL, 0, 14, 15, 16, NULL, 0, 18, NULL, 0, 20), 1,
@@ -86,6 +86,18 @@ int main(void) {
         SOME, 0, 12, SOME, 0, 14, SOME, 0, 16, SOME, 0, SOME, 0, SOME, 0, SOME, 0, AT(r));
   HANDS(zorambi_model_rows_again(11, a, 12, 13, s, 14, b, 15, r), 16, 11, AT(a), 12, 13, AT(s), 14, AT(b), 15, AT(r));
   HANDS(zorambi_model_rows_again(11, NULL, 0, 13, NULL, 0, NULL, 0, r), 16, 11, SOME, 0, 13, SOME, 0, SOME, 0, AT(r));
+
+  /* A failing width. */
+
+  /* Connectives as designers write them. */
+
+  /* All small schemata. */
+
+  /* Older records, tidied. */
+
+  /* One record for either fault. */
+
+  /* A tableau that grows. */
 
   printf("%d passed, %d failed\n", passed, failed);
   return failed > 0;

@@ -2,7 +2,7 @@
 #include <stddef.h>
 #include <stdint.h>
 
-uintptr_t seen[18];
+uintptr_t seen[40];
 size_t seen_count;
 
 #define NOTE(...)                                              \
@@ -135,3 +135,15 @@ uint64_t zorambi_model_rows_again(int32_t n, const int32_t *pairs, size_t pairs_
   NOTE(NUMBER(n), AT(pairs), pairs_len, pair_rows, AT(out), out_len, AT(back), back_len, AT(results));
   return 16;
 }
+
+/* A failing width. */
+
+/* Connectives as designers write them. */
+
+/* All small schemata. */
+
+/* Older records, tidied. */
+
+/* One record for either fault. */
+
+/* A tableau that grows. */

@@ -23,6 +23,9 @@ macro_rules! entry {
         entry!(@ $names ($($left)*) ($($c)* $x: *mut $t,) ($($rust)* $x: &mut [$t; $k],)
             ($($handed)* $x.as_mut_ptr(),));
     };
+    (@ $names:tt ($x:ident: &[$t:ty; $k:expr], $($left:tt)*) ($($c:tt)*) ($($rust:tt)*) ($($handed:tt)*)) => {
+        entry!(@ $names ($($left)*) ($($c)* $x: *const $t,) ($($rust)* $x: &[$t; $k],) ($($handed)* $x.as_ptr(),));
+    };
     (@ $names:tt ($x:ident: $t:ty, $($left:tt)*) ($($c:tt)*) ($($rust:tt)*) ($($handed:tt)*)) => {
         entry!(@ $names ($($left)*) ($($c)* $x: $t,) ($($rust)* $x: $t,) ($($handed)* $x,));
     };
@@ -218,3 +221,15 @@ entry! {
     /// The same with a model text.
     model_fault = zorambi_model_fault(schema: &[u8], model: &[u8])
 }
+
+// A failing width.
+
+// Connectives as designers write them.
+
+// All small schemata.
+
+// Older records, tidied.
+
+// One record for either fault.
+
+// A tableau that grows.

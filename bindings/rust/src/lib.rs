@@ -72,7 +72,19 @@ mod verdict;
 
 pub use record::{check, check_model, check_older, Model, Node, Pair, Proof, Record, Row, Schema};
 pub use text::{
-    check_fault, check_model_texts, check_older_fault, check_older_texts, check_texts, line, model_fault, read_model,
-    read_proof, read_schema, write_model, write_proof, write_schema, Text, MAX_TEXT,
+    check_fault, check_model_texts, check_older_fault, check_older_texts, check_texts, line, model_fault, read_file,
+    read_model, read_proof, read_schema, write_model, write_proof, write_schema, Text, MAX_TEXT,
 };
 pub use verdict::{Refusal, Refused, Verdict};
+
+// A failing width.
+
+// Connectives as designers write them.
+
+// All small schemata.
+
+// Older records, tidied.
+
+// One record for either fault.
+
+// A tableau that grows.

@@ -3,16 +3,19 @@
 use crate::entries;
 use crate::record::{check, check_model, check_older, Model, Proof, Record, Schema};
 use crate::verdict::{refused, Refused, Verdict};
+use std::fs::File;
+use std::io::Read;
+use std::path::Path;
 
 /// A text has at most this many bytes.
 pub const MAX_TEXT: usize = 65_536;
-const MAX_ROWS: usize = 1024;
-const MAX_NODES: usize = 1024;
-const MAX_MEMBERS: usize = 8192;
-const MAX_PAIRS: usize = 4096;
+pub(crate) const MAX_ROWS: usize = 1024;
+pub(crate) const MAX_NODES: usize = 1024;
+pub(crate) const MAX_MEMBERS: usize = 8192;
+pub(crate) const MAX_PAIRS: usize = 4096;
 
 /// The first `count` rows of a table.
-fn rows<const WIDTH: usize>(table: &[i32], count: i32) -> Vec<[i32; WIDTH]> {
+pub(crate) fn rows<const WIDTH: usize>(table: &[i32], count: i32) -> Vec<[i32; WIDTH]> {
     table.as_chunks().0[..count as usize].to_vec()
 }
 
@@ -20,6 +23,18 @@ fn done(packed: u64) -> Result<u64, Refused> {
     match refused(packed) {
         None => Ok(packed & 0x3ff_ffff),
         Some(refused) => Err(refused),
+    }
+}
+
+/// A file's bytes as the programs take them: at most one more than a text may have, and none if the file
+/// cannot be read.
+pub fn read_file(path: &Path) -> Vec<u8> {
+    let mut bytes = Vec::new();
+    let read = File::open(path).and_then(|file| file.take(MAX_TEXT as u64 + 1).read_to_end(&mut bytes));
+    if read.is_ok() {
+        bytes
+    } else {
+        Vec::new()
     }
 }
 
@@ -34,11 +49,19 @@ pub fn read_schema(text: &[u8]) -> Result<Schema, Refused> {
 
 /// Reads a proof text.
 pub fn read_proof(text: &[u8]) -> Result<Proof, Refused> {
+    filled_proof(|table, nodes, members, results| entries::read_proof(text, table, nodes, members, results))
+}
+
+/// The proof that `fill` puts into tables of full size; its results are the numbers of rows, nodes and
+/// members.
+pub(crate) fn filled_proof(
+    fill: impl FnOnce(&mut [i32], &mut [i32], &mut [i32], &mut [i32; 3]) -> u64,
+) -> Result<Proof, Refused> {
     let mut table = vec![0; MAX_ROWS * 4];
     let mut nodes = vec![0; MAX_NODES * 9];
     let mut members = vec![0; MAX_MEMBERS];
     let mut results = [0; 3];
-    done(entries::read_proof(text, &mut table, &mut nodes, &mut members, &mut results))?;
+    done(fill(&mut table, &mut nodes, &mut members, &mut results))?;
     let [row_count, node_count, member_count] = results;
     members.truncate(member_count as usize);
     Ok(Proof { rows: rows(&table, row_count), nodes: rows(&nodes, node_count), members })

@@ -3,72 +3,74 @@
 use std::error::Error;
 use std::fmt;
 
-/// Why a record, a model or a text is turned away. The numbers are those of the paper and of
-/// `include/zorambi.h`.
-#[derive(Clone, Copy, Debug, PartialEq, Eq, Hash, PartialOrd, Ord)]
-#[repr(u8)]
-pub enum Refusal {
-    TextTooLong = 1,
-    TableTooShort = 2,
-    Heading = 3,
-    Line = 4,
-    TooMany = 5,
-    Root = 6,
-    IllFormed = 7,
-    TooLarge = 8,
-    Set = 9,
-    Parent = 10,
-    Drawn = 11,
-    Fields = 12,
-    Target = 13,
-    Bound = 14,
-    Partner = 15,
-    Lowered = 16,
-    Children = 17,
-    Pair = 18,
-    Width = 19,
-    False = 20,
-    Number = 21,
-    Output = 22,
-    Repeated = 27,
+/// The refusals, each with its number and its words.
+macro_rules! refusals {
+    ($($name:ident = $number:literal, $words:literal;)*) => {
+        /// Why a record, a model or a text is turned away. The numbers are those of the paper and of
+        /// `include/zorambi.h`.
+        #[derive(Clone, Copy, Debug, PartialEq, Eq, Hash, PartialOrd, Ord)]
+        #[repr(u8)]
+        pub enum Refusal {
+            $(#[doc = $words] $name = $number,)*
+        }
+
+        impl Refusal {
+            /// All of them, in the order of their numbers.
+            pub const ALL: &'static [Refusal] = &[$(Refusal::$name),*];
+        }
+
+        impl fmt::Display for Refusal {
+            fn fmt(&self, f: &mut fmt::Formatter<'_>) -> fmt::Result {
+                f.write_str(match self {
+                    $(Refusal::$name => $words,)*
+                })
+            }
+        }
+    };
+}
+
+refusals! {
+    TextTooLong = 1, "a text over 65,536 bytes";
+    TableTooShort = 2, "a lent table that is too short";
+    Heading = 3, "a heading that is absent or different";
+    Line = 4, "not a line of the required form and number of values";
+    TooMany = 5, "more rows or members than allowed";
+    Root = 6, "a root that is no outer schema row, or a least value not 0 to 9999";
+    IllFormed = 7, "an ill-formed formula row";
+    TooLarge = 8, "a formula too large or too deep";
+    Set = 9, "a set's place, order or members";
+    Parent = 10, "no node, a wrong parent, or node 0's set";
+    Drawn = 11, "a row that neither the parent's set nor its rule gives";
+    Fields = 12, "no such rule, or a field, kind, symbol, by or row that does not fit it";
+    Target = 13, "a link whose to is not the number of a node before it";
+    Bound = 14, "a bound, a split's K, a link's L - by or H - by, or the index of a clash";
+    Partner = 15, "with or other of an unfolding";
+    Lowered = 16, "a row of the link's target without its lowered partner";
+    Children = 17, "the number of children";
+    Pair = 18, "a pair out of order or range";
+    Width = 19, "n below the least value or over 9999";
+    False = 20, "the schema is false in the model";
+    Number = 21, "a number beyond five digits, or sets that do not follow one another";
+    Output = 22, "an output shorter than the text, or a text over 65,536 bytes";
+    // Connectives as designers write them.
+    // A tableau that grows.
+    // Enquiry and commit.
+    // Proof rows written twice.
+    Repeated = 27, "a proof row written twice";
+    // One record for either fault.
+    // A failing width.
+    // All small schemata.
 }
 
 impl Refusal {
-    /// All of them, in the order of their numbers.
-    pub const ALL: [Refusal; 23] = [
-        Refusal::TextTooLong,
-        Refusal::TableTooShort,
-        Refusal::Heading,
-        Refusal::Line,
-        Refusal::TooMany,
-        Refusal::Root,
-        Refusal::IllFormed,
-        Refusal::TooLarge,
-        Refusal::Set,
-        Refusal::Parent,
-        Refusal::Drawn,
-        Refusal::Fields,
-        Refusal::Target,
-        Refusal::Bound,
-        Refusal::Partner,
-        Refusal::Lowered,
-        Refusal::Children,
-        Refusal::Pair,
-        Refusal::Width,
-        Refusal::False,
-        Refusal::Number,
-        Refusal::Output,
-        Refusal::Repeated,
-    ];
-
-    /// 1 to 22, or 27.
+    /// Its number in the papers.
     pub fn number(self) -> u8 {
         self as u8
     }
 
     /// The refusal with this number.
     pub fn of_number(number: u64) -> Option<Refusal> {
-        Refusal::ALL.into_iter().find(|refusal| u64::from(refusal.number()) == number)
+        Refusal::ALL.iter().copied().find(|refusal| u64::from(refusal.number()) == number)
     }
 
     /// What a place of this refusal counts; `None` if it is no row, node, pair or line.
@@ -80,36 +82,6 @@ impl Refusal {
             18 => Some("pair"),
             _ => None,
         }
-    }
-}
-
-impl fmt::Display for Refusal {
-    fn fmt(&self, f: &mut fmt::Formatter<'_>) -> fmt::Result {
-        f.write_str(match self {
-            Refusal::TextTooLong => "a text over 65,536 bytes",
-            Refusal::TableTooShort => "a lent table that is too short",
-            Refusal::Heading => "a heading that is absent or different",
-            Refusal::Line => "not a line of the required form and number of values",
-            Refusal::TooMany => "more rows or members than allowed",
-            Refusal::Root => "a root that is no outer schema row, or a least value not 0 to 9999",
-            Refusal::IllFormed => "an ill-formed formula row",
-            Refusal::TooLarge => "a formula too large or too deep",
-            Refusal::Set => "a set's place, order or members",
-            Refusal::Parent => "no node, a wrong parent, or node 0's set",
-            Refusal::Drawn => "a row that neither the parent's set nor its rule gives",
-            Refusal::Fields => "no such rule, or a field, kind, symbol, by or row that does not fit it",
-            Refusal::Target => "a link whose to is not the number of a node before it",
-            Refusal::Bound => "a bound, a split's K, a link's L - by or H - by, or the index of a clash",
-            Refusal::Partner => "with or other of an unfolding",
-            Refusal::Lowered => "a row of the link's target without its lowered partner",
-            Refusal::Children => "the number of children",
-            Refusal::Pair => "a pair out of order or range",
-            Refusal::Width => "n below the least value or over 9999",
-            Refusal::False => "the schema is false in the model",
-            Refusal::Number => "a number beyond five digits, or sets that do not follow one another",
-            Refusal::Output => "an output shorter than the text, or a text over 65,536 bytes",
-            Refusal::Repeated => "a proof row written twice",
-        })
     }
 }
 
@@ -148,10 +120,7 @@ impl Verdict {
     /// The verdict that a number of the library stands for:
     /// ((answer × 8192 + place + 1) × 8192 + nodes) × 8192 + links.
     pub(crate) fn of_packed(packed: u64) -> Verdict {
-        match refused(packed) {
-            None => Verdict::Accepted { nodes: (packed >> 13 & 8191) as usize, links: (packed & 8191) as usize },
-            Some(refused) => refused.into(),
-        }
+        counts(packed).map_or_else(Verdict::from, |[nodes, links]| Verdict::Accepted { nodes, links })
     }
 }
 
@@ -184,6 +153,14 @@ pub(crate) fn refused(packed: u64) -> Option<Refused> {
     Some(Refused { refusal, place: (packed >> 26 & 8191).checked_sub(1).map(|place| place as usize) })
 }
 
+/// The two counts, of nodes and of links, of a number of the library.
+pub(crate) fn counts(packed: u64) -> Result<[usize; 2], Refused> {
+    match refused(packed) {
+        None => Ok([(packed >> 13 & 8191) as usize, (packed & 8191) as usize]),
+        Some(refused) => Err(refused),
+    }
+}
+
 #[cfg(test)]
 mod tests {
     use super::*;
@@ -201,17 +178,19 @@ mod tests {
             }
         }
         let mut expected = vec![("accepted".to_string(), 0)];
-        expected.extend(Refusal::ALL.map(|refusal| (format!("{refusal:?}").to_lowercase(), refusal.number().into())));
+        let named = |refusal: &Refusal| (format!("{refusal:?}").to_lowercase(), refusal.number().into());
+        expected.extend(Refusal::ALL.iter().map(named));
         assert_eq!(found, expected);
     }
 
     #[test]
     fn numbers_of_refusals() {
-        for number in (1..=22).chain([27]) {
-            assert_eq!(Refusal::of_number(number).map(|refusal| u64::from(refusal.number())), Some(number));
-        }
-        for number in [0, 23, 24, 25, 26, 28, 255, 256 + 27, u64::MAX] {
-            assert_eq!(Refusal::of_number(number), None);
+        let known: Vec<u64> = Refusal::ALL.iter().map(|refusal| u64::from(refusal.number())).collect();
+        assert!(known.is_sorted_by(|one, other| one < other));
+        assert!((1..=22).chain([27]).all(|number| known.contains(&number)));
+        for number in (0..600).chain([u64::MAX]) {
+            let found = Refusal::of_number(number).map(|refusal| u64::from(refusal.number()));
+            assert_eq!(found, known.contains(&number).then_some(number));
         }
     }
 

@@ -1,11 +1,9 @@
 //! One record folder: its two texts read and checked, by the older check if it holds a file `older`.
 
-use std::fs::File;
-use std::io::Read;
 use std::path::Path;
 use zorambi::{
-    check, check_fault, check_older, check_older_fault, read_proof, read_schema, Record, Refusal, Refused, Text,
-    Verdict, MAX_TEXT,
+    check, check_fault, check_older, check_older_fault, read_file, read_proof, read_schema, Record, Refusal, Refused,
+    Text, Verdict,
 };
 
 pub const SCHEMA: &str = "schema.txt";
@@ -92,17 +90,6 @@ fn shown(line: &[u8]) -> String {
     format!("{}{cut}", line[..line.len().min(SHOWN)].escape_ascii())
 }
 
-/// A file's bytes, one more than a text may have at most. A file that cannot be read counts as empty.
-fn text(path: &Path) -> Vec<u8> {
-    let mut bytes = Vec::new();
-    let read = File::open(path).and_then(|file| file.take(MAX_TEXT as u64 + 1).read_to_end(&mut bytes));
-    if read.is_ok() {
-        bytes
-    } else {
-        Vec::new()
-    }
-}
-
 /// A text refused in reading: its place is a line, from 1 on.
 fn unread(refused: Refused, file: &'static str, text: &[u8]) -> Judged {
     Judged::new(refused.into(), Some(file), refused.place.filter(|place| *place > 0), text)
@@ -116,7 +103,7 @@ pub fn judge(folder: &Path) -> Judged {
 
 /// Reads the schema's text, then the proof's, and checks the record.
 fn judge_texts(folder: &Path, older: bool) -> Judged {
-    let [schema_text, proof_text] = [SCHEMA, PROOF].map(|name| text(&folder.join(name)));
+    let [schema_text, proof_text] = [SCHEMA, PROOF].map(|name| read_file(&folder.join(name)));
     let schema = match read_schema(&schema_text) {
         Ok(schema) => schema,
         Err(refused) => return unread(refused, SCHEMA, &schema_text),

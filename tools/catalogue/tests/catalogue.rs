@@ -22,6 +22,13 @@ fn shipped() -> PathBuf {
     Path::new(env!("CARGO_MANIFEST_DIR")).join("../../records")
 }
 
+/// The folders of the shipped records.
+fn sorts() -> Vec<String> {
+    let entries = fs::read_dir(shipped()).unwrap().map(|entry| entry.unwrap());
+    let folders = entries.filter(|entry| entry.file_type().unwrap().is_dir());
+    folders.map(|entry| entry.file_name().into_string().unwrap()).collect()
+}
+
 /// An empty folder of this test's own.
 fn scratch(test: &str) -> PathBuf {
     let folder = Path::new(env!("CARGO_TARGET_TMPDIR")).join(test);
@@ -50,8 +57,8 @@ fn shipped_records() {
     assert_eq!(output.status.code(), Some(1));
     assert!(output.stderr.is_empty());
     let (mut accepted, mut refused) = (0, 0);
-    for sort in ["accepted", "refused"] {
-        for entry in fs::read_dir(shipped().join(sort)).unwrap() {
+    for sort in sorts() {
+        for entry in fs::read_dir(shipped().join(&sort)).unwrap() {
             let record = entry.unwrap().path();
             let expected = fs::read_to_string(record.join("expected")).unwrap();
             let numbers: Vec<&str> = expected.split_whitespace().collect();
@@ -77,9 +84,12 @@ fn shipped_records() {
     let sorted = lines[..lines.len() - 1].is_sorted();
     assert!(sorted);
 
-    let output = run(&[&shipped().join("accepted")]);
-    assert_eq!(output.status.code(), Some(0));
-    assert_eq!(output.stdout.split(|byte| *byte == b'\n').count(), accepted + 2);
+    for sort in sorts().into_iter().filter(|sort| sort != "refused") {
+        let output = run(&[&shipped().join(&sort)]);
+        assert_eq!(output.status.code(), Some(0));
+        let printed = output.stdout.split(|byte| *byte == b'\n').count();
+        assert_eq!(printed, fs::read_dir(shipped().join(sort)).unwrap().count() + 2);
+    }
 }
 
 #[test]
