@@ -103,6 +103,15 @@ static inline int zorambi_fault_second(uint64_t fault) { return (int)(fault & 1)
 
 /* ---- A failing width. */
 
+/* A model at n, found: the pairs that are true in it, in a lent table that needs its full size, 8192 numbers. zorambi_nodes is 1
+ * where a model is given, which the model check accepts; the results are then n and the number of pairs. It is 0 where no
+ * assignment makes the schema true at n; the table and the results are then all 0, as after a refusal. At most 16 pairs may occur
+ * in the schema at n. Of these, ascending, the first is the most significant, and false comes before true: the model is the first
+ * one in that order. The table is 0 past the last pair. */
+uint64_t zorambi_find_model(const int32_t *schema, size_t schema_len, size_t schema_rows,
+                            int32_t root, int32_t least, int32_t n,
+                            int32_t *pairs, size_t pairs_len, int32_t results[2]);
+
 /* ---- Connectives as designers write them. */
 
 /* ---- All small schemata. */
@@ -152,6 +161,7 @@ enum zorambi_answer_number {
   ZORAMBI_REPEATED = 27,        /* a proof row equals an earlier schema or proof row, not in the older check; place: the row */
   /* joining */
   /* finding a model */
+  ZORAMBI_WIRES = 30,           /* more than 16 pairs occur; place: -1 */
   /* the next small table */
 };
 
@@ -289,6 +299,11 @@ static inline uint64_t zorambi_c_model_fault(const uint8_t *schema, size_t schem
   return zorambi_model_fault(zorambi_text_of(schema, schema_len), schema_len, zorambi_text_of(model, model_len), model_len);
 }
 /* A failing width. */
+static inline uint64_t zorambi_c_find_model(const int32_t *schema, size_t schema_len, size_t schema_rows, int32_t root,
+                                            int32_t least, int32_t n, int32_t *pairs, size_t pairs_len, int32_t results[2]) {
+  return zorambi_find_model(zorambi_numbers_of(schema, schema_len), schema_len, schema_rows, root, least, n,
+                            zorambi_lent_numbers(pairs, pairs_len), pairs_len, results);
+}
 /* Connectives as designers write them. */
 /* All small schemata. */
 /* Older records, tidied. */
@@ -315,6 +330,7 @@ static inline uint64_t zorambi_c_model_fault(const uint8_t *schema, size_t schem
 #define zorambi_check_older_fault zorambi_c_check_older_fault
 #define zorambi_model_fault zorambi_c_model_fault
 /* A failing width. */
+#define zorambi_find_model zorambi_c_find_model
 /* Connectives as designers write them. */
 /* All small schemata. */
 /* Older records, tidied. */

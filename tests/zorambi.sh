@@ -227,6 +227,59 @@ for answer in 32 99 100 00 027 99999999999999999999; do
 done
 ends "a line more" "$accepts; echo 0" 2
 
+# ---- the program for records
+
+# cargo's stand-in makes it of the file `maker`.
+cat >"$work/kit/cargo" <<'R'
+#!/bin/sh
+echo "$1" >>"$(dirname "$0")/../built"
+mkdir -p target/release && cp "$(dirname "$0")/../maker" target/release/zorambi-records
+R
+chmod +x "$work/kit/cargo"
+mkdir -p "$work/repo/tools/records"
+maker() { # SCRIPT
+  printf '#!/bin/sh\n%s\n' "$1" >"$work/maker"
+  chmod +x "$work/maker"
+}
+made() { # NAME STATUS SCRIPT: what ./zorambi find makes of it
+  maker "$3"
+  use find "$work/record" 3
+  expect "$1" ended "$2" 0
+}
+printed() { # TEXT
+  printf '%s' "$1" | cmp -s - "$work/out"
+}
+maker 'printf "n\n%s\nsymbol index\n" "$3"'
+rm -rf "$work/repo/target"
+use find "$work/record" 3
+expect "the library is proved for it" ended 0 1
+expect "the library is proved for it, what is said" said \
+  "proving and building zorambi first; from nothing this takes some minutes" "proved 1 of 2 crates" "proved 2 of 2 crates"
+expect "a text" printed $'n\n3\nsymbol index\n'
+expect "it is built by cargo" grep -qx build "$work/built"
+made "a text without a last byte 10" 0 'printf "none"'
+expect "a text without a last byte 10, printed" printed "none"
+expect "a text, nothing said" cmp -s "$work/err" /dev/null
+made "a refusal" 1 'printf "answer place nodes links\n7 2 0 0\n"; echo "schema.txt:6: 7 9 2 0" >&2; exit 1'
+expect "a refusal, printed" printed $'answer place nodes links\n7 2 0 0\n'
+expect "a refusal, what is said" said "refused: an ill-formed formula (7) at row 2" "schema.txt:6: 7 9 2 0"
+made "a refusal of the whole" 1 'printf "answer place nodes links\n30 -1 0 0\n"; exit 1'
+expect "a refusal of the whole, what is said" said "refused: more than 16 pairs that occur at that n (30)"
+made "wrong use" 2 'printf "no such\033[0m folder\n" >&2; exit 2'
+expect "wrong use, what is said" said 'no such\x1b[0m folder'
+expect "wrong use, nothing printed" cmp -s "$work/out" /dev/null
+made "an acceptance as a refusal" 2 'printf "answer place nodes links\n0 0 7 1\n"; exit 1'
+made "an answer that there is not" 2 'printf "answer place nodes links\n99 0 0 0\n"; exit 1'
+made "a refusal without its lines" 2 'exit 1'
+expect "a refusal without its lines, what is said" said "find ended without a verdict, with exit status 1"
+made "death" 2 'echo none; kill -SEGV $$'
+expect "death, nothing printed" cmp -s "$work/out" /dev/null
+made "another exit status" 2 'echo none; exit 3'
+misuse find
+misuse find "$work/record"
+misuse find "$work/record" 3 4
+rm -rf "$work/repo/tools" "$work/kit/cargo"
+
 # ---- a proof row written twice
 
 twice='printf "answer place nodes links\n27 9 0 0\n"; echo "proof.txt:6: 3 0 1 0" >&2'

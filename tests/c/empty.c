@@ -202,6 +202,27 @@ static void lines(void) {
 
 /* ---- A failing width. */
 
+/* Root 2 wants some p_i for i from 2 to n, root 4 also none of them: p_3 alone is the first model of root 2 at 3. */
+static void find_model(void) {
+  int32_t results[2] = {7, 7};
+  memset(members, 7, sizeof members);
+  uint64_t packed = zorambi_find_model(schema, 20, 5, 2, 1, 3, members, 8192, results);
+  answers("a model found", packed, ZORAMBI_ACCEPTED, 0);
+  test("a model found, results", zorambi_nodes(packed) == 1 && results[0] == 3 && results[1] == 1);
+  test("a model found, pairs", members[0] == 0 && members[1] == 3 && all_zero(members + 2, 8190));
+  answers("a model found, checked", zorambi_check_model(schema, 20, 5, 2, 1, 3, members, 8192, 1), ZORAMBI_ACCEPTED, 0);
+  packed = zorambi_find_model(schema, 20, 5, 4, 1, 3, members, 8192, results);
+  answers("no model", packed, ZORAMBI_ACCEPTED, 0);
+  test("no model, memory", zorambi_nodes(packed) == 0 && all_zero(members, 8192) && all_zero(results, 2));
+  answers("16 pairs", zorambi_find_model(schema, 20, 5, 4, 1, 17, members, 8192, results), ZORAMBI_ACCEPTED, 0);
+  answers("17 pairs", zorambi_find_model(schema, 20, 5, 4, 1, 18, members, 8192, results), ZORAMBI_WIRES, -1);
+  answers("n below least", zorambi_find_model(schema, 20, 5, 4, 1, 0, members, 8192, results), ZORAMBI_WIDTH, -1);
+  answers("no schema to find a model of", zorambi_find_model(NULL, 0, 0, 0, 0, 0, members, 8192, results), ZORAMBI_ROOT, -1);
+  answers("rows to find a model of counted", zorambi_find_model(NULL, 0, 5, 4, 1, 3, members, 8192, results),
+          ZORAMBI_TABLE_TOO_SHORT, -1);
+  answers("no table for a model", zorambi_find_model(NULL, 0, 5, 4, 1, 3, NULL, 0, results), ZORAMBI_TABLE_TOO_SHORT, 0);
+}
+
 /* ---- Connectives as designers write them. */
 
 /* ---- All small schemata. */
@@ -226,6 +247,7 @@ int main(void) {
   again();
   lines();
   /* a failing width */
+  find_model();
   /* connectives as designers write them */
   /* all small schemata */
   /* older records, tidied */

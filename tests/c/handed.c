@@ -88,6 +88,8 @@ int main(void) {
   HANDS(zorambi_model_rows_again(11, NULL, 0, 13, NULL, 0, NULL, 0, r), 16, 11, SOME, 0, 13, SOME, 0, SOME, 0, AT(r));
 
   /* A failing width. */
+  HANDS(zorambi_find_model(a, 11, 12, 13, 14, 15, b, 16, r), 19, AT(a), 11, 12, 13, 14, 15, AT(b), 16, AT(r));
+  HANDS(zorambi_find_model(NULL, 0, 12, 13, 14, 15, NULL, 0, r), 19, SOME, 0, 12, 13, 14, 15, SOME, 0, AT(r));
 
   /* Connectives as designers write them. */
 

@@ -137,6 +137,12 @@ uint64_t zorambi_model_rows_again(int32_t n, const int32_t *pairs, size_t pairs_
 }
 
 /* A failing width. */
+uint64_t zorambi_find_model(const int32_t *schema, size_t schema_len, size_t schema_rows,
+                            int32_t root, int32_t least, int32_t n,
+                            int32_t *pairs, size_t pairs_len, int32_t results[2]) {
+  NOTE(AT(schema), schema_len, schema_rows, NUMBER(root), NUMBER(least), NUMBER(n), AT(pairs), pairs_len, AT(results));
+  return 19;
+}
 
 /* Connectives as designers write them. */
 

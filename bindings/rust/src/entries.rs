@@ -224,6 +224,20 @@ entry! {
 
 // A failing width.
 
+entry! {
+    /// Finds a model at n. The number that comes back has 1 as its count of nodes where one is given, and 0 where
+    /// there is none. Results: n, pairs.
+    find_model = zorambi_find_model(
+        schema: &[i32],
+        schema_rows: usize,
+        root: i32,
+        least: i32,
+        n: i32,
+        pairs: &mut [i32],
+        results: &mut [i32; 2],
+    )
+}
+
 // Connectives as designers write them.
 
 // All small schemata.

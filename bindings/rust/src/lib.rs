@@ -78,6 +78,8 @@ pub use text::{
 pub use verdict::{Refusal, Refused, Verdict};
 
 // A failing width.
+mod find;
+pub use find::find_model;
 
 // Connectives as designers write them.
 

@@ -59,6 +59,7 @@ refusals! {
     Repeated = 27, "a proof row written twice";
     // One record for either fault.
     // A failing width.
+    Wires = 30, "more than 16 pairs that occur in the schema at n";
     // All small schemata.
 }
 

@@ -27,6 +27,7 @@ pub type Command = (&'static str, &'static str, fn(&[&OsStr]) -> Result<Vec<u8>,
 
 pub const COMMANDS: &[Command] = &[
     // A failing width.
+    ("find", "DIR N", find::find),
     // Connectives as designers write them.
     // All small schemata.
     // Older records, tidied.
@@ -35,6 +36,7 @@ pub const COMMANDS: &[Command] = &[
 ];
 
 // A failing width.
+pub mod find;
 
 // Connectives as designers write them.
 
