@@ -8,12 +8,14 @@
 //! * [`edges`]: texts and tables at the limits of the paper
 //! * [`heavy`]: the largest and slowest inputs
 //! * [`soundness`]: accepted records evaluated
+//! * [`kinds`]: how often cases of each kind were compared, for entries that are compared by themselves
 //! * [`tally`]: what passed and failed, and how often each answer occurred
 
 pub mod again;
 pub mod calls;
 pub mod edges;
 pub mod heavy;
+pub mod kinds;
 pub mod paper;
 pub mod records;
 pub mod sides;

@@ -2,6 +2,7 @@
 
 use std::path::Path;
 use std::process::exit;
+use zorambi_compare::kinds::Run;
 use zorambi_compare::tally::Tally;
 use zorambi_compare::{edges, heavy, paper, records, sides};
 use zorambi_reference::generate::{across, case, ranges, twice, Case};
@@ -11,6 +12,18 @@ use: zorambi-compare SEED COUNT RECORDS        the paper's cases, the records be
                                                limits, COUNT generated cases; every answer has to occur
      zorambi-compare some SEED COUNT RECORDS   the paper's cases, the records, COUNT generated cases
      zorambi-compare heavy                     the largest and slowest inputs";
+
+/// An entry that is compared by itself: its cases, and its largest and slowest inputs.
+type Entry = (fn(&mut Tally, &Run), fn(&mut Tally));
+
+const ENTRIES: &[Entry] = &[
+    // A model at an n that is named.
+    // Wide connectives.
+    // All small schemata.
+    // Older records, tidied.
+    // Two records, joined.
+    // A tableau that grows.
+];
 
 fn generated(tally: &mut Tally, seed: u64, count: u64) {
     println!("seed {seed}, {count} generated cases");
@@ -41,13 +54,21 @@ fn main() {
     let words: Vec<&str> = arguments.iter().map(String::as_str).collect();
     let number = |word: &str| word.parse::<u64>().unwrap_or_else(|_| wrong_use());
     let mut tally = Tally::default();
+    let entries = |tally: &mut Tally, seed: &str, count: &str, folder: &str| {
+        let run = Run { seed: number(seed), count: number(count), records: Path::new(folder) };
+        ENTRIES.iter().for_each(|(test, _)| test(tally, &run));
+    };
     match words[..] {
-        ["heavy"] => heavy::test(&mut tally),
+        ["heavy"] => {
+            heavy::test(&mut tally);
+            ENTRIES.iter().for_each(|(_, heavy)| heavy(&mut tally));
+        }
         ["some", seed, count, folder] => {
             paper::test(&mut tally);
             records::test(&mut tally, Path::new(folder));
             sides::test(&mut tally, Path::new(folder), 1);
             generated(&mut tally, number(seed), number(count));
+            entries(&mut tally, seed, count, folder);
         }
         [seed, count, folder] => {
             paper::test(&mut tally);
@@ -59,6 +80,7 @@ fn main() {
             made(&mut tally, "links", &across::edges());
             made(&mut tally, "rows again", &twice::edges());
             generated(&mut tally, number(seed), number(count));
+            entries(&mut tally, seed, count, folder);
             tally.test_cover();
         }
         _ => wrong_use(),
