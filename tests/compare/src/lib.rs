@@ -6,6 +6,7 @@
 //! * [`records`]: shipped records, with the answers in their `expected` files
 //! * [`sides`]: shipped records with sides of their ands and ors swapped
 //! * [`edges`]: texts and tables at the limits of the paper
+//! * [`find`]: the first model at an n that is named
 //! * [`heavy`]: the largest and slowest inputs
 //! * [`soundness`]: accepted records evaluated
 //! * [`kinds`]: how often cases of each kind were compared, for entries that are compared by themselves
@@ -14,6 +15,7 @@
 pub mod again;
 pub mod calls;
 pub mod edges;
+pub mod find;
 pub mod heavy;
 pub mod kinds;
 pub mod paper;

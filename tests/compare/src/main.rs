@@ -4,7 +4,7 @@ use std::path::Path;
 use std::process::exit;
 use zorambi_compare::kinds::Run;
 use zorambi_compare::tally::Tally;
-use zorambi_compare::{edges, heavy, paper, records, sides};
+use zorambi_compare::{edges, find, heavy, paper, records, sides};
 use zorambi_reference::generate::{across, case, ranges, twice, Case};
 
 const USE: &str = "\
@@ -18,6 +18,7 @@ type Entry = (fn(&mut Tally, &Run), fn(&mut Tally));
 
 const ENTRIES: &[Entry] = &[
     // A model at an n that is named.
+    (find::test, find::heavy),
     // Wide connectives.
     // All small schemata.
     // Older records, tidied.

@@ -6,6 +6,7 @@
 //! * [`formula`]: rows, well-formedness, size, depth, outer rows, "lowered by k", "instance at n - c"
 //! * [`tableau`]: the check, and the older check, with every refusal in the paper's order
 //! * [`model`]: the model check and the value of a formula
+//! * [`find`]: the first model at an n that is named (No. 13, "A failing width, shown")
 //! * [`text`]: reading and writing of the three texts, lines by number
 //! * [`again`]: a text read and written again, rows written and read again
 //! * [`packed`]: the one number that provers get
@@ -17,6 +18,7 @@
 #![forbid(unsafe_code)]
 
 pub mod again;
+pub mod find;
 pub mod formula;
 pub mod generate;
 pub mod model;
@@ -74,7 +76,7 @@ impl Verdict {
     }
 }
 
-/// A refusal's number (1 to 22, or 27) and place.
+/// A refusal's number and place.
 #[derive(Clone, Copy, Debug, PartialEq, Eq)]
 pub struct Refusal {
     pub answer: u8,

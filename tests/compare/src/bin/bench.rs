@@ -7,12 +7,13 @@ use std::path::Path;
 use zorambi::entries;
 use zorambi::entries::check_older;
 use zorambi_compare::calls::{of_library, of_reference, CheckEntry};
+use zorambi_compare::find;
 use zorambi_compare::heavy::{self, Part};
 use zorambi_compare::records;
 use zorambi_reference::generate::models::ModelTables;
 use zorambi_reference::generate::tables::Tables;
 use zorambi_reference::generate::Input;
-use zorambi_reference::{model, tableau, text, Verdict};
+use zorambi_reference::{formula, model, tableau, text, Verdict};
 
 /// Seconds that one call takes, the median of some rounds.
 #[derive(Clone, Copy)]
@@ -337,6 +338,38 @@ fn models(shipped: &[Shipped]) {
     }
 }
 
+/// The first model at an n that is named.
+fn finds() {
+    println!("\n## A model at an n that is named");
+    heading("schema | rows | size | n | answer");
+    for (name, asked) in find::worst() {
+        let seen = find::of_both(&asked).unwrap_or_else(|why| panic!("{name}: {why}"));
+        let answer = if find::is_given(&seen) { format!("{} true pairs", seen.results[1]) } else { "none".to_string() };
+        let find::Asked { root, least, schema, schema_count, n, length } = &asked;
+        let [mut ours, mut theirs] = [(); 2].map(|()| vec![1; *length]);
+        let mut results = [0; 2];
+        let times = time(
+            || {
+                black_box(find::find_model(
+                    black_box(schema),
+                    *schema_count,
+                    *root,
+                    *least,
+                    *n,
+                    &mut ours,
+                    &mut results,
+                ));
+            },
+            || {
+                let schema = black_box(schema);
+                black_box(zorambi_reference::find::find_model(*root, *least, schema, *schema_count, *n, &mut theirs));
+            },
+        );
+        let size = formula::size(schema, *schema_count, *root).unwrap_or_default();
+        println!("| {name} | {schema_count} | {size} | {n} | {answer} | {} |", times.cells());
+    }
+}
+
 fn text_row(name: &str, bytes: usize, times: Times) {
     let speed = bytes as f64 / times.library / 1e6;
     println!("| {name} | {bytes} | {speed:.0} | {} |", times.cells());
@@ -467,6 +500,7 @@ fn main() {
     checks(&shipped);
     none_twice();
     models(&shipped);
+    finds();
     texts(&shipped);
     all_growth();
 }
