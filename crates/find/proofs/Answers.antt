@@ -3,7 +3,7 @@ use Prim.Native.Nat.{ℕ, _^_, _≤_, _<_}
 use native.Mathlib.Omega.{arith}
 use native.Mathlib.Nat.{min-eq-left, min-eq-right}
 use native.Mathlib.Decide.{decLt}
-use mathlib.Core.Path.{_≡_, refl, sym, _∙_, ap, subst}
+use mathlib.Core.Path.{_≡_, refl, sym, _∙_, ap}
 use mathlib.Core.Bool.{Bool}
 use mathlib.Core.List.{List, []}
 use mathlib.Core.Option.{Option, none, some, Option·map}
@@ -29,8 +29,7 @@ use Rattle.stab.proofs.Bools.{if-true, none-unless, some-unless, otherwise-none
 use Rattle.found.specs.Find.{Query, formula, wires, among, holdsWith, firstModel, findRefusal, modelOr, foundBy, find, modelPairs, givenBy, given, foundTable}
 use Rattle.found.specs.Number.{numbered, leastBelow, leastOr}
 use Rattle.found.specs.Keys.{keysOf}
-use Rattle.found.specs.declared.ModelFound.{ModelFound}
-use Rattle.found.specs.declared.ModelFound.the-variants.{Model, None, Refused as FindRefused}
+use Rattle.found.specs.declared.ModelFound.the-variants.{Refused as FindRefused}
 use Rattle.found.proofs.Numbers.{least-none, least-is, first-by-number}
 use Rattle.occurring.specs.Held.{heldCount, keyTable}
 use Rattle.occurring.proofs.Keys.{keys-length}

@@ -1,22 +1,18 @@
 -- The pairs of an assignment, put in a table one by one.
-use Prim.Native.Nat.{ℕ, zero, suc, _+_, _-_, _*_, _/_, _%_, _^_, _<_, _≤_}
+use Prim.Native.Nat.{ℕ, zero, suc, _+_, _-_, _*_, _/_, _%_, _<_, _≤_}
 use native.Mathlib.Omega.{arith}
 use native.Mathlib.Numerals.{add-one}
 use mathlib.Core.Path.{_≡_, refl, sym, _∙_, ap, ap₂, subst₂}
 use mathlib.Core.Logic.{⊎-elim}
-use mathlib.Core.Bool.{Bool, true, false}
+use mathlib.Core.Bool.{true, false}
 use mathlib.Core.List.{List, [], _∷_, _++_, append-nil, append-assoc, List·Memᴰ·head, List·Memᴰ·tail}
-use lib.Dec.{eqb}
 use lib.IntN.{ℤ, pos, _+ℤ_}
 use lib.ListN.{length, getD, take, drop, set, length-set, drop-of-length-le}
 use lib.Seq.{take-suc-set, length-take-le, getD-take}
 use Rattle.stab.specs.Basic.{if_then_else_, nat}
 use Rattle.stab.specs.Occurs.{Wire, table}
-use Rattle.stab.specs.Text.{padded}
 use Rattle.stab.proofs.Bools.{if-true, if-false, decide}
 use Rattle.stab.proofs.Wires.Lists.{same-wire}
-use Rattle.signed.specs.Numbers.{cleared}
-use Rattle.signed.proofs.Tables.{cleared-padded}
 use Rattle.pairs.specs.Index.{unbiased}
 use Rattle.found.specs.Keys.{keyOf, keysOf}
 use Rattle.found.specs.Number.{numbered}

@@ -1,7 +1,7 @@
 -- The laws of the search's parts.
-use Prim.Native.Nat.{ℕ, _*_, _≤_, _<_}
+use Prim.Native.Nat.{ℕ, _*_, _≤_}
 use native.Mathlib.Omega.{arith}
-use mathlib.Core.Path.{_≡_, refl, sym, _∙_, ap, ap₂}
+use mathlib.Core.Path.{_≡_, sym, _∙_, ap}
 use mathlib.Core.Bool.{Bool, true, false}
 use mathlib.Core.List.{List}
 use mathlib.Core.Option.{Option, none, some}
@@ -9,7 +9,7 @@ use lib.Dec.{leb}
 use lib.IntN.{ℤ, pos}
 use lib.Signed.{leZ}
 use lib.ListN.{length}
-use Rattle.stab.specs.Basic.{_and_, nat, _otherwise_}
+use Rattle.stab.specs.Basic.{_and_, _otherwise_}
 use Rattle.stab.specs.Formula.{rowAt}
 use Rattle.stab.specs.Check.{finding, wholeUnless, atUnless, holds, formulasRefusal}
 use Rattle.stab.specs.declared.Place.{Place}
@@ -17,7 +17,7 @@ use Rattle.stab.specs.declared.Place.the-variants.{At}
 use Rattle.stab.specs.declared.Refusal.{Refusal}
 use Rattle.stab.specs.declared.Refusal.the-variants.{TableTooShort, TooMany, Width}
 use Rattle.stab.specs.declared.Finding.{Finding}
-use Rattle.stab.specs.declared.Finding.the-variants.{Nothing, Found}
+use Rattle.stab.specs.declared.Finding.the-variants.{Found}
 use Rattle.stab.specs.declared.Verdict.{Verdict}
 use Rattle.stab.specs.declared.Verdict.the-variants.{Refused}
 use Rattle.stab.proofs.Bools.{none-unless, some-unless, unless-none, otherwise-first, otherwise-second, otherwise-none, otherwise-some}

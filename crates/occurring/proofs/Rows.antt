@@ -4,12 +4,12 @@ use native.Mathlib.Omega.{arith}
 use native.Mathlib.Numerals.{add-one}
 use mathlib.Core.Path.{_≡_, refl, sym, _∙_, ap, subst}
 use mathlib.Core.Logic.{_⊎_, inl, inr, ⊎-elim}
-use mathlib.Core.Bool.{Bool, true, false, true≢false, false≢true}
+use mathlib.Core.Bool.{true, false, true≢false, false≢true}
 use mathlib.Core.List.{List, [], _∷_, List·Memᴰ, List·Memᴰ·cases-cons, List·Memᴰ·not-nil}
 use lib.IntN.{ℤ, pos, _+ℤ_, _-ℤ_}
 use lib.ListN.{length}
 use Rattle.stab.specs.Basic.{nat, _or_}
-use Rattle.stab.specs.Formula.{Row, Op, Formula, const, lit, join, iter, Base, nothing, parameter, index, onIndex, loose, fixed, isBody, tree, wellFormed}
+use Rattle.stab.specs.Formula.{Row, Op, Formula, const, lit, join, iter, nothing, parameter, index, onIndex, loose, fixed, isBody, tree, wellFormed}
 use Rattle.stab.specs.Meaning.{base, rangeSize}
 use Rattle.stab.specs.Occurs.{Occurs, Wire, insert, gathered, inserted, Before, Ascends}
 use Rattle.stab.proofs.Bools.{or-cases, or-false-left, or-false-right, false-of-not}

@@ -1,5 +1,5 @@
 use native.Mathlib.Omega.{arith}
-use mathlib.Core.Path.{_≡_, refl, sym, _∙_, ap, ap₂, subst₂}
+use mathlib.Core.Path.{_≡_, refl, sym, _∙_, ap, ap₂}
 use mathlib.Core.List.{List}
 use lib.IntN.{ℤ, pos}
 use lib.ListN.{length}
@@ -12,8 +12,8 @@ use Rattle.stab.specs.Text.{padded}
 use Rattle.signed.proofs.Tables.{cleared-padded}
 use Rattle.model.proofs.Passes.{same₃}
 use Rattle.found.specs.Find.{Query, foundBy, givenBy}
-use Rattle.find.specs.Search.{queryRefusal, wiresRefusal, asked, Ready}
-use Rattle.find.proofs.Answers.{refused-is, refused-table, query-none, searched-is, searched-table, asked-found, asked-given}
+use Rattle.find.specs.Search.{queryRefusal, wiresRefusal, asked}
+use Rattle.find.proofs.Answers.{refused-is, refused-table, searched-is, searched-table, asked-found, asked-given}
 use Rattle.find.proofs.find_model.Statement.{statement}
 use Rattle.find.proofs.find_model.Tie as tie
 

@@ -1,8 +1,7 @@
 use Prim.Native.Nat.{ℕ, _+_, _≤_, _<_}
 use native.Mathlib.Omega.{arith}
 use mathlib.Core.Path.{_≡_, refl, sym, _∙_, ap, ap₂, subst}
-use mathlib.Core.List.{List, []}
-use mathlib.Core.Option.{Option}
+use mathlib.Core.List.{List}
 use lib.IntN.{ℤ, pos}
 use lib.ListN.{length}
 use mir.Facts.{toZ-ofZ}
@@ -14,7 +13,7 @@ use Rattle.stab.specs.Occurs.{Wire, occurring, table}
 use Rattle.stab.specs.Text.{padded}
 use Rattle.signed.proofs.Tables.{cleared-padded}
 use Rattle.formula.specs.Rows.{Passed}
-use Rattle.found.specs.Find.{Query, formula, wires, holdsWith, firstModel, modelOr, modelPairs}
+use Rattle.found.specs.Find.{Query, formula, wires, holdsWith, firstModel, modelOr}
 use Rattle.occurring.specs.Held.{heldCount}
 use Rattle.find.specs.Search.{asked, firstAt}
 use Rattle.find.proofs.Answers.{held-few, held-many, held-keys, answer-over, given-over, answer-few, given-few}

@@ -1,4 +1,4 @@
-use mathlib.Core.Path.{_∙_, sym, ap₂}
+use mathlib.Core.Path.{_∙_, ap₂}
 use mir.Facts.{toZ-ofZ}
 use denote.Ref.{now}
 use borrow.Author.Needs.{needs}
