@@ -33,6 +33,7 @@ pub fn number(why: Refusal) -> u64
         Refusal::False => 20,
         Refusal::Number => 21,
         Refusal::Output => 22,
+        Refusal::Plain => 23,
         Refusal::Repeated => 27,
         Refusal::Wires => 30,
     }

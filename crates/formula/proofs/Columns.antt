@@ -1,11 +1,13 @@
 -- Where the columns of a row stand in its table.
 use Prim.Native.Nat.{ℕ, zero, suc, _+_, _-_, _*_, _<_, _≤_}
 use native.Mathlib.Omega.{arith}
-use mathlib.Core.Path.{_≡_, refl, sym, _∙_, ap}
+use native.Mathlib.Decide.{decLt}
+use mathlib.Core.Path.{_≡_, refl, sym, _∙_, ap, fun-ext}
 use mathlib.Core.List.{List}
 use lib.Dec.{ltb}
 use lib.IntN.{ℤ, pos}
-use lib.ListN.{getD}
+use lib.ListN.{length, getD, take, drop, length-drop}
+use lib.Seq.{take-all, getD-drop}
 use borrow.Author.Tests.{lt-ltb, le-ltb}
 use Rattle.stab.specs.Formula.{Row, rowAt, joined}
 use Rattle.stab.proofs.Bools.{if-true, if-false}
@@ -33,3 +35,33 @@ module _ (schema : List ℤ) (s : ℕ) (proof : List ℤ) (r k : ℕ) where
 
   pub proof-column : s ≤ r → k < 4 → getD proof (4 * (r - s) + k) (pos 0) ≡ column (joined schema s proof r) k
   proof-column h p = column-at proof (r - s) k p ∙ ap (λ (w : Row). column w k) (sym (joined-proof schema s proof r h))
+
+-- ---- one table as a schema and the rest of it
+
+-- the rest of a table after s rows, read from row s on
+rest-at : (t : List ℤ) (s r k : ℕ) → s ≤ r → getD (drop (4 * s) t) (4 * (r - s) + k) (pos 0) ≡ getD t (4 * r + k) (pos 0)
+rest-at t s r k h =
+    let e : 4 * s + (4 * (r - s) + k) ≡ 4 * r + k = omega arith in
+    getD-drop (4 * s) t (4 * (r - s) + k) (pos 0) ∙ ap (λ (i : ℕ). getD t i (pos 0)) e
+
+rest-first : (t : List ℤ) (s r : ℕ) → s ≤ r → getD (drop (4 * s) t) (4 * (r - s)) (pos 0) ≡ getD t (4 * r) (pos 0)
+rest-first t s r h =
+    let e : 4 * s + 4 * (r - s) ≡ 4 * r = omega arith in
+    getD-drop (4 * s) t (4 * (r - s)) (pos 0) ∙ ap (λ (i : ℕ). getD t i (pos 0)) e
+
+rest-row : (t : List ℤ) (s r : ℕ) → s ≤ r → rowAt (drop (4 * s) t) (r - s) ≡ rowAt t r
+unfolding rowAt
+rest-row t s r h =
+    λ i. record { kind = rest-first t s r h i; a = rest-at t s r 1 h i; b = rest-at t s r 2 h i; c = rest-at t s r 3 h i }
+
+-- the rows of a table, from its first s rows and the rest of it
+pub joined-rest : (t : List ℤ) (s : ℕ) → joined t s (drop (4 * s) t) ≡ rowAt t
+joined-rest t s = fun-ext (λ r. go r (decLt r s))
+  where
+    go : (r : ℕ) → Dec (r < s) → joined t s (drop (4 * s) t) r ≡ rowAt t r
+    go r (yes h) = joined-schema t s (drop (4 * s) t) r h
+    go r (no h) = joined-proof t s (drop (4 * s) t) r (omega arith) ∙ rest-row t s r (omega arith)
+
+-- the same where the rest is a part of the slice
+pub joined-part : (t : List ℤ) (s : ℕ) → joined t s (take (length t - 4 * s) (drop (4 * s) t)) ≡ rowAt t
+joined-part t s = ap (joined t s) (take-all (length t - 4 * s) (drop (4 * s) t) (omega (arith, length-drop (4 * s) t))) ∙ joined-rest t s

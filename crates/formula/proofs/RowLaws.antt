@@ -11,21 +11,23 @@ use lib.Dec.{eqb, leb, ltb, leb·zero, leb·suc-suc}
 use lib.ListN.{length}
 use lib.IntN.{ℤ, pos, negsuc, negℤ}
 use borrow.Author.Tests.{eqb-true, eqb-false, le-leb, lt-leb, leb-true}
-use Rattle.stab.specs.Basic.{if_then_else_, _and_, _or_, eqZ, within, nat, below, _otherwise_, scan}
+use Rattle.stab.specs.Basic.{if_then_else_, _and_, _or_, eqZ, within, nat, below, _otherwise_, scan, unless}
 use Rattle.stab.specs.Formula as F
-use Rattle.stab.specs.Formula.{Row, Op, conj, disj, Kind, constant, literal, junction, iteration, unknown, kindOf, Base, nothing, parameter, index, baseOf, Formula, lit, join, iter, decode, tree, onIndex, isOuter, offset, wellFormedAs, wellFormed, smallEnough}
-use Rattle.stab.specs.Check.{atUnless, wholeUnless, rowRefusal, rootFits, formulasBy, formulasRefusal}
+use Rattle.stab.specs.Formula.{Row, Op, conj, disj, Kind, constant, literal, junction, iteration, unknown, kindOf, Base, nothing, parameter, index, baseOf, Formula, lit, join, iter, decode, tree, onIndex, isBody, mixes, offset, wellFormedAs, wellFormed, smallEnough}
+use Rattle.stab.specs.Check.{atUnless, wholeUnless, rowRefusal, rootFits}
 use Rattle.stab.specs.declared.Place.the-variants.{Whole, At}
 use Rattle.stab.specs.declared.Refusal.the-variants.{Root, IllFormed, TooLarge}
 use Rattle.stab.specs.declared.Verdict.{Verdict}
 use Rattle.stab.specs.declared.Verdict.the-variants.{Refused}
-use Rattle.stab.proofs.Bools.{decide, and-both, and-left, and-right, and-first-false, and-second-false, if-true, if-false, not-of-false, not-of-true, false-of-not, true-of-not, otherwise-none, otherwise-some, none-unless, some-unless}
+use Rattle.stab.proofs.Bools.{decide, and-both, and-left, and-right, and-first-false, if-true, if-false, not-of-false, not-of-true, false-of-not, true-of-not, otherwise-none, otherwise-some, otherwise-first, otherwise-second, none-unless, some-unless, unless-none}
 use Rattle.stab.proofs.Whole.{num, of-eq, eqZ-of, eqZ-not, nat-pos, at-least-0, below-0}
 use Rattle.stab.proofs.Scans.{below-suc, scan-found}
-use Rattle.stab.proofs.Decoded.{decoded}
+use Rattle.stab.proofs.Decoded.{decoded, junction-tree, iteration-tree}
+use Rattle.stab.proofs.Trees.{below-nat}
 use Rattle.formula.specs.Facts.{bit, Known}
-use Rattle.formula.specs.Rows.{factsOf, factsAt, keptFacts, keptIf, factsTable, judged, Passed}
+use Rattle.formula.specs.Rows.{factsOf, factsAt, bothFacts, overFacts, keptFacts, keptIf, factsTableBy, judged, unmixed, pairJudged, bodyJudged, judgedRefusal, keptJudged, Summable, Passed}
 use Rattle.formula.specs.declared.rows.Facts.{Facts}
+use Rattle.formula.specs.declared.rows.Judged.{Judged}
 use Rattle.formula.specs.declared.rows.Judged.the-variants.{Ill, Formed}
 use Rattle.formula.proofs.KeptLaws.{kept-other, kept-length, kept-first, kept-second, kept-third, kept-fourth}
 
@@ -148,7 +150,7 @@ on-index-is z t u p q = ap₂ (λ (v w : Bool). bit (onIndex (if v then nothing 
 pub facts-same : {f g : Facts} → f .size ≡ g .size → f .depth ≡ g .depth → f .loose ≡ g .loose → f .fixed ≡ g .fixed → f ≡ g
 facts-same p q s t i = record { size = p i; depth = q i; loose = s i; fixed = t i }
 
-bit-or : (a b : Bool) → max (bit a) (bit b) ≡ bit (a or b)
+pub bit-or : (a b : Bool) → max (bit a) (bit b) ≡ bit (a or b)
 unfolding bit _or_
 bit-or true true = refl
 bit-or true false = refl
@@ -182,25 +184,16 @@ unfolding factsOf F.size F.depth F.loose F.fixed
 literal-facts v s x c p q l d = facts-same p q l (d ∙ bit-not (onIndex x))
 
 -- the numbers of an and or an or, by those of its parts
-pub both-facts : (o : Op) (x y : Formula) {f g v : Facts} → f ≡ factsOf x → g ≡ factsOf y
-    → v .size ≡ 1 + f .size + g .size → v .depth ≡ 1 + max (f .depth) (g .depth)
-    → v .loose ≡ max (f .loose) (g .loose) → v .fixed ≡ max (f .fixed) (g .fixed) → v ≡ factsOf (join o x y)
-unfolding factsOf F.size F.depth F.loose F.fixed
-both-facts o x y p q a b c d =
-    facts-same
-    (a ∙ ap₂ (λ (f g : Facts). 1 + f .size + g .size) p q)
-    (b ∙ ap₂ (λ (f g : Facts). 1 + max (f .depth) (g .depth)) p q)
-    (c ∙ ap₂ (λ (f g : Facts). max (f .loose) (g .loose)) p q ∙ bit-or (F.loose x) (F.loose y))
-    (d ∙ ap₂ (λ (f g : Facts). max (f .fixed) (g .fixed)) p q ∙ bit-or (F.fixed x) (F.fixed y))
+pub both-facts : (o : Op) (x y : Formula) → bothFacts (factsOf x) (factsOf y) ≡ factsOf (join o x y)
+unfolding bothFacts factsOf F.size F.depth F.loose F.fixed
+both-facts o x y = facts-same refl refl (bit-or (F.loose x) (F.loose y)) (bit-or (F.fixed x) (F.fixed y))
 
 -- those of an iteration, by its body's
-pub over-facts : (o : Op) (x : Formula) (b c : ℤ) {f v : Facts} → f ≡ factsOf x
-    → v .size ≡ 1 + f .size → v .depth ≡ 1 + f .depth → v .loose ≡ 0 → v .fixed ≡ 1 → v ≡ factsOf (iter o x b c)
-unfolding factsOf F.size F.depth F.loose F.fixed bit
-over-facts o x b c p s d l e =
-    facts-same (s ∙ ap (λ (f : Facts). 1 + f .size) p) (d ∙ ap (λ (f : Facts). 1 + f .depth) p) l e
+pub over-facts : (o : Op) (x : Formula) (b c : ℤ) → overFacts (factsOf x) ≡ factsOf (iter o x b c)
+unfolding overFacts factsOf F.size F.depth F.loose F.fixed bit
+over-facts o x b c = refl
 
--- what the two numbers about mixing say
+-- what the number about literals on i says
 module _ (x : Formula) {f : Facts} (e : f ≡ factsOf x) where
   pub loose-none : f .loose ≡ 0 → F.loose x ≡ false
   unfolding factsOf
@@ -209,14 +202,6 @@ module _ (x : Formula) {f : Facts} (e : f ≡ factsOf x) where
   pub loose-some : (f .loose ≡ 0 → ⊥) → F.loose x ≡ true
   unfolding factsOf
   loose-some h = bit-one (F.loose x) (λ b. h (ap (λ (g : Facts). g .loose) e ∙ b))
-
-  pub fixed-none : f .fixed ≡ 0 → F.fixed x ≡ false
-  unfolding factsOf
-  fixed-none h = bit-zero (F.fixed x) (sym (ap (λ (g : Facts). g .fixed) e) ∙ h)
-
-  pub fixed-some : (f .fixed ≡ 0 → ⊥) → F.fixed x ≡ true
-  unfolding factsOf
-  fixed-some h = bit-one (F.fixed x) (λ b. h (ap (λ (g : Facts). g .fixed) e ∙ b))
 
 -- ---- one row, by its kind
 
@@ -236,6 +221,42 @@ module _ (rows : ℕ → Row) (r : ℕ) (k : Kind) (kind : kindOf (rows r .kind)
   -- the same, by what the row is decoded to
   pub formed : wellFormedAs rows r (rows r) k ≡ true → {f : Facts} → f ≡ factsOf (decode r (rows r) k (tree rows)) → Formed f ≡ judged rows r
   formed h p = formed-tree h (p ∙ ap factsOf (sym (decoded rows r k kind)))
+
+-- ---- a row with parts, judged by the numbers that are kept
+
+bit-none : (a : Bool) → eqb (bit a) 0 ≡ not a
+unfolding bit
+bit-none true = refl
+bit-none false = refl
+
+-- where nothing is mixed, the numbers are those of a well-formed row
+unmixed-is : (l d : Bool) (f : Facts) → f .loose ≡ bit l → f .fixed ≡ bit d → unmixed f ≡ (if not (l and d) then Formed f else Ill)
+unfolding unmixed bit _or_ _and_
+unmixed-is l d f p q = ap₂ (λ (m n : ℕ). if eqb m 0 or eqb n 0 then Formed f else Ill) p q ∙ go l d
+  where
+    go : (l d : Bool) → (if eqb (bit l) 0 or eqb (bit d) 0 then Formed f else Ill) ≡ (if not (l and d) then Formed f else Ill)
+    go true true = refl
+    go true false = refl
+    go false true = refl
+    go false false = refl
+
+-- a row with two parts that passes three tests, and mixes only where l and d
+pub pair-same : (x y z l d : Bool) (f : Facts) {g : Facts} → f .loose ≡ bit l → f .fixed ≡ bit d → ((x and y and z) ≡ true → g ≡ f)
+    → (if x and y and z then unmixed g else Ill) ≡ (if x and y and z and not (l and d) then Formed f else Ill)
+unfolding if_then_else_ _and_
+pair-same true true true l d f p q h = ap unmixed (h refl) ∙ unmixed-is l d f p q
+pair-same true true false l d f p q h = refl
+pair-same true false z l d f p q h = refl
+pair-same false y z l d f p q h = refl
+
+-- an iteration that passes three tests, and whose body is fixed only where d
+pub body-same : (x y z d : Bool) (f g : Facts) → (x ≡ true → g .fixed ≡ bit d) → (x ≡ true → overFacts g ≡ f)
+    → (if x and y and z and eqb (g .fixed) 0 then Formed (overFacts g) else Ill) ≡ (if x and y and z and not d then Formed f else Ill)
+unfolding if_then_else_ _and_
+body-same true true true d f g p q = ap₂ (λ (t : Bool) (h : Facts). if t then Formed h else Ill) (ap (λ (n : ℕ). eqb n 0) (p refl) ∙ bit-none d) (q refl)
+body-same true true false d f g p q = refl
+body-same true false z d f g p q = refl
+body-same false y z d f g p q = refl
 
 -- ---- rows that passed
 
@@ -263,69 +284,102 @@ module _ {rows : ℕ → Row} {facts : List ℕ} {n : ℕ} (passed : Passed rows
   unfolding factsAt
   kept-depth = omega (arith, passed .known a less .depth, small-depth rows a (passed .small a less))
 
+pub passed-sums : {rows : ℕ → Row} {facts : List ℕ} {n : ℕ} → Passed rows facts n → Summable facts n
+passed-sums passed = record { room = passed .room; size = λ a l. kept-size passed a l; depth = λ a l. kept-depth passed a l }
+
+module _ (rows : ℕ → Row) (facts : List ℕ) (r : ℕ) (passed : Passed rows facts r) where
+  known-part : (z : ℤ) → below r z ≡ true → factsAt facts (nat z) ≡ factsOf (tree rows (nat z))
+  known-part z h = kept-facts passed (nat z) (below-nat r z h)
+
+  -- what the numbers kept say of an and or an or is what is to be said
+  pub pair-judged : (o : Op) → kindOf (rows r .kind) ≡ junction o → pairJudged r (rows r) facts ≡ judged rows r
+  unfolding pairJudged judged wellFormedAs mixes factsOf
+  pair-judged o kind =
+      pair-same (below r (rows r .a)) (below r (rows r .b)) (eqZ (rows r .c) (pos 0)) _ _ (factsOf (tree rows r)) refl refl
+      (λ h.
+      let p = and-left _ _ h in
+      let q = and-left _ _ (and-right (below r (rows r .a)) _ h) in
+      ap₂ bothFacts (known-part _ p) (known-part _ q) ∙ both-facts o _ _ ∙ ap factsOf (sym (junction-tree rows r o kind p q)))
+      ∙ ap (λ (t : Bool). if t then Formed (factsOf (tree rows r)) else Ill) (sym (formed-as rows r (junction o) kind))
+
+  -- and of an iteration
+  pub body-judged : (o : Op) → kindOf (rows r .kind) ≡ iteration o → bodyJudged r (rows r) facts ≡ judged rows r
+  unfolding bodyJudged judged wellFormedAs isBody factsOf
+  body-judged o kind =
+      body-same (below r (rows r .a)) (offset (rows r .b)) (offset (rows r .c)) _ (factsOf (tree rows r)) (factsAt facts (nat (rows r .a)))
+      (λ p. ap (λ (g : Facts). g .fixed) (known-part _ p))
+      (λ p. ap overFacts (known-part _ p) ∙ over-facts o _ _ _ ∙ ap factsOf (sym (iteration-tree rows r o kind p)))
+      ∙ ap (λ (t : Bool). if t then Formed (factsOf (tree rows r)) else Ill) (sym (formed-as rows r (iteration o) kind))
+
 -- ---- what is found at a row
 
+-- where something is found, nothing is kept
+pub none-kept : {o : Option Verdict} {x : Verdict} (facts : List ℕ) (r : ℕ) (f : Facts) → some x ≡ o → facts ≡ keptIf o facts r f
+unfolding keptIf
+none-kept facts r f h = ap (λ (o : Option Verdict). keptIf o facts r f) h
+
+module _ (facts : List ℕ) (r : ℕ) {j : Judged} where
+  pub ill-found : j ≡ Ill → (some (Refused IllFormed (At r)) ≡ judgedRefusal j r) × (facts ≡ keptJudged j facts r)
+  unfolding judgedRefusal keptJudged
+  ill-found e = (ap (λ (i : Judged). judgedRefusal i r) (sym e), ap (λ (i : Judged). keptJudged i facts r) (sym e))
+
+  module _ (f : Facts) (e : j ≡ Formed f) where
+    pub large-found : (leb (f .size) 4096 and leb (f .depth) 64) ≡ false → (some (Refused TooLarge (At r)) ≡ judgedRefusal j r) × (facts ≡ keptJudged j facts r)
+    unfolding judgedRefusal keptJudged atUnless
+    large-found h =
+        let found = sym (some-unless (leb (f .size) 4096 and leb (f .depth) 64) (Refused TooLarge (At r)) h) in
+        (found ∙ ap (λ (i : Judged). judgedRefusal i r) (sym e), none-kept facts r f found ∙ ap (λ (i : Judged). keptJudged i facts r) (sym e))
+
+    pub small-found : f .size ≤ 4096 → f .depth ≤ 64 → (none ≡ judgedRefusal j r) × (keptFacts facts r f ≡ keptJudged j facts r)
+    unfolding judgedRefusal keptJudged atUnless keptIf
+    small-found p q =
+        let h = and-both _ _ (le-leb (f .size) 4096 p) (le-leb (f .depth) 64 q) in
+        let found = sym (none-unless (leb (f .size) 4096 and leb (f .depth) 64) (Refused TooLarge (At r)) h) in (
+          found ∙ ap (λ (i : Judged). judgedRefusal i r) (sym e),
+          ap (λ (o : Option Verdict). keptIf o facts r f) found ∙ ap (λ (i : Judged). keptJudged i facts r) (sym e),
+        )
+
+module _ (ok : Bool) (f : Facts) (r : ℕ) where
+  pub judged-refusal : judgedRefusal (if ok then Formed f else Ill) r ≡ (atUnless ok IllFormed r otherwise atUnless (leb (f .size) 4096 and leb (f .depth) 64) TooLarge r)
+  unfolding judgedRefusal if_then_else_ atUnless unless _otherwise_
+  judged-refusal = go ok
+    where
+      go : (t : Bool) → judgedRefusal (if t then Formed f else Ill) r ≡ (atUnless t IllFormed r otherwise atUnless (leb (f .size) 4096 and leb (f .depth) 64) TooLarge r)
+      go true = refl
+      go false = refl
+
+  pub judged-kept : (facts : List ℕ) → keptJudged (if ok then Formed f else Ill) facts r ≡ keptIf (judgedRefusal (if ok then Formed f else Ill) r) facts r f
+  unfolding keptJudged judgedRefusal keptIf if_then_else_
+  judged-kept facts = go ok
+    where
+      go : (t : Bool) → keptJudged (if t then Formed f else Ill) facts r ≡ keptIf (judgedRefusal (if t then Formed f else Ill) r) facts r f
+      go true = refl
+      go false = refl
+
 module _ (rows : ℕ → Row) (r : ℕ) where
-  judged-ill : Ill ≡ judged rows r → wellFormed rows r ≡ false
-  unfolding judged if_then_else_
-  judged-ill h = go (wellFormed rows r) h
-    where
-      go : (w : Bool) → Ill ≡ (if w then Formed (factsOf (tree rows r)) else Ill) → w ≡ false
-      go true e = cc
-      go false e = refl
+  pub row-found : judgedRefusal (judged rows r) r ≡ rowRefusal rows r
+  unfolding judged rowRefusal smallEnough factsOf
+  row-found = judged-refusal (wellFormed rows r) (factsOf (tree rows r)) r
 
-  judged-formed : {f : Facts} → Formed f ≡ judged rows r → (wellFormed rows r ≡ true) × (f ≡ factsOf (tree rows r))
-  unfolding judged if_then_else_
-  judged-formed {f} h = go (wellFormed rows r) h
-    where
-      go : (w : Bool) → Formed f ≡ (if w then Formed (factsOf (tree rows r)) else Ill) → (w ≡ true) × (f ≡ factsOf (tree rows r))
-      go true e = (refl, cc)
-      go false e = (cc, cc)
+  pub row-kept : (facts : List ℕ) → keptJudged (judged rows r) facts r ≡ keptIf (rowRefusal rows r) facts r (factsOf (tree rows r))
+  unfolding judged
+  row-kept facts =
+      judged-kept (wellFormed rows r) (factsOf (tree rows r)) r facts
+      ∙ ap (λ (o : Option Verdict). keptIf o facts r (factsOf (tree rows r))) row-found
 
-  pub row-ill : Ill ≡ judged rows r → some (Refused IllFormed (At r)) ≡ rowRefusal rows r
-  unfolding rowRefusal atUnless
-  row-ill h = sym (otherwise-some _ _ _ (some-unless (wellFormed rows r) _ (judged-ill h)))
-
-  module _ {f : Facts} (h : Formed f ≡ judged rows r) where
-    row-large : smallEnough rows r ≡ false → some (Refused TooLarge (At r)) ≡ rowRefusal rows r
+  module _ (h : rowRefusal rows r ≡ none) where
+    row-formed : wellFormed rows r ≡ true
     unfolding rowRefusal atUnless
-    row-large s =
-        sym (otherwise-none _ _ (none-unless (wellFormed rows r) _ (judged-formed h .0)) ∙ some-unless (smallEnough rows r) _ s)
+    row-formed = unless-none _ _ (otherwise-first _ _ h)
 
-    abbrev size-is : f .size ≡ F.size (tree rows r)
-    unfolding factsOf
-    size-is = ap (λ (g : Facts). g .size) (judged-formed h .1)
-
-    abbrev depth-is : f .depth ≡ F.depth (tree rows r)
-    unfolding factsOf
-    depth-is = ap (λ (g : Facts). g .depth) (judged-formed h .1)
-
-    pub row-wide : 4096 < f .size → some (Refused TooLarge (At r)) ≡ rowRefusal rows r
-    unfolding smallEnough
-    row-wide l = row-large (and-first-false _ _ (lt-leb (F.size (tree rows r)) 4096 (omega (arith, size-is))))
-
-    pub row-deep : 64 < f .depth → some (Refused TooLarge (At r)) ≡ rowRefusal rows r
-    unfolding smallEnough
-    row-deep l = row-large (and-second-false _ _ (lt-leb (F.depth (tree rows r)) 64 (omega (arith, depth-is))))
-
-    row-small : f .size ≤ 4096 → f .depth ≤ 64 → smallEnough rows r ≡ true
-    unfolding smallEnough
-    row-small p q =
-        and-both _ _
-        (le-leb (F.size (tree rows r)) 4096 (omega (arith, size-is)))
-        (le-leb (F.depth (tree rows r)) 64 (omega (arith, depth-is)))
-
-    pub row-nothing : f .size ≤ 4096 → f .depth ≤ 64 → none ≡ rowRefusal rows r
+    row-small : smallEnough rows r ≡ true
     unfolding rowRefusal atUnless
-    row-nothing p q =
-        sym
-        (otherwise-none _ _ (none-unless (wellFormed rows r) _ (judged-formed h .0))
-        ∙ none-unless (smallEnough rows r) _ (row-small p q))
+    row-small = unless-none _ _ (otherwise-second (unless (wellFormed rows r) _) _ h)
 
 -- ---- one row more
 
 module _ (facts : List ℕ) (r : ℕ) (f : Facts) where
-  facts-other : (a : ℕ) → a < r → factsAt (keptFacts facts r f) a ≡ factsAt facts a
+  pub facts-other : (a : ℕ) → a < r → factsAt (keptFacts facts r f) a ≡ factsAt facts a
   unfolding factsAt
   facts-other a h =
       let other = kept-other facts r (f .size) (f .depth) (f .loose) (f .fixed) in
@@ -335,7 +389,7 @@ module _ (facts : List ℕ) (r : ℕ) (f : Facts) where
       (other (4 * a + 2) (λ k l q. omega arith))
       (other (4 * a + 3) (λ k l q. omega arith))
 
-  facts-here : 4 * r + 3 < length facts → factsAt (keptFacts facts r f) r ≡ f
+  pub facts-here : 4 * r + 3 < length facts → factsAt (keptFacts facts r f) r ≡ f
   unfolding factsAt
   facts-here h =
       facts-same
@@ -355,7 +409,7 @@ known-of rows facts r e =
     }
 
 -- what holds of each row below r, and of r, holds of each below r + 1
-each-more : {P : ℕ → Type 0} (r : ℕ) → ((a : ℕ) → a < r → P a) → P r → (a : ℕ) → a < r + 1 → P a
+pub each-more : {P : ℕ → Type 0} (r : ℕ) → ((a : ℕ) → a < r → P a) → P r → (a : ℕ) → a < r + 1 → P a
 each-more {P} r h k a l = ⊎-elim (λ p. h a p) (λ e. subst P (sym e) k) (below-suc a r (omega arith))
 
 pub passed-none : (rows : ℕ → Row) (facts : List ℕ) → Passed rows facts 0
@@ -367,17 +421,20 @@ passed-none rows facts =
       small = λ a l. absurd (omega arith);
     }
 
-pub passed-more : (rows : ℕ → Row) (facts : List ℕ) (r : ℕ) (f : Facts) → Passed rows facts r → 4 * r + 3 < length facts
-    → Formed f ≡ judged rows r → f .size ≤ 4096 → f .depth ≤ 64 → Passed rows (keptFacts facts r f) (r + 1)
-passed-more rows facts r f passed room h p q =
+pub passed-more : (rows : ℕ → Row) (facts : List ℕ) (r : ℕ) → Passed rows facts r → 4 * r + 3 < length facts → rowRefusal rows r ≡ none
+    → Passed rows (keptIf (rowRefusal rows r) facts r (factsOf (tree rows r))) (r + 1)
+unfolding keptIf
+passed-more rows facts r passed room h =
+    let f = factsOf (tree rows r) in
+    subst (λ (o : Option Verdict). Passed rows (keptIf o facts r f) (r + 1)) (sym h)
     record {
       room = omega (arith, kept-length facts r (f .size) (f .depth) (f .loose) (f .fixed));
       known =
           each-more r
           (λ a l. known-of rows (keptFacts facts r f) a (facts-other facts r f a l ∙ kept-facts passed a l))
-          (known-of rows (keptFacts facts r f) r (facts-here facts r f room ∙ judged-formed rows r h .1));
-      formed = each-more r (passed .formed) (judged-formed rows r h .0);
-      small = each-more r (passed .small) (row-small rows r h p q);
+          (known-of rows (keptFacts facts r f) r (facts-here facts r f room));
+      formed = each-more r (passed .formed) (row-formed rows r h);
+      small = each-more r (passed .small) (row-small rows r h);
     }
 
 -- a refusal is not nothing
@@ -386,64 +443,58 @@ never {A} {o} {x} p q = absurd (Option·some-ne-none x (p ∙ q))
 
 -- ---- the table of what is kept
 
-module _ (rows : ℕ → Row) (facts : List ℕ) (r : ℕ) where
-  -- a row that is refused keeps nothing
-  pub none-kept : {x : Verdict} → some x ≡ rowRefusal rows r → facts ≡ keptIf (rowRefusal rows r) facts r (factsOf (tree rows r))
-  unfolding keptIf
-  none-kept h = ap (λ (o : Option Verdict). keptIf o facts r (factsOf (tree rows r))) h
-
-  -- one that passes keeps its numbers
-  pub some-kept : {f : Facts} → Formed f ≡ judged rows r → none ≡ rowRefusal rows r → keptFacts facts r f ≡ keptIf (rowRefusal rows r) facts r (factsOf (tree rows r))
-  unfolding keptIf
-  some-kept h n = ap (keptFacts facts r) (judged-formed rows r h .1) ∙ ap (λ (o : Option Verdict). keptIf o facts r (factsOf (tree rows r))) n
+module _ (judge : ℕ → Option Verdict) (want : ℕ → Facts) (facts : List ℕ) where
+  pub table-none : facts ≡ factsTableBy judge want facts 0
+  unfolding factsTableBy
+  table-none = refl
 
   -- one row more
-  pub table-more : {u w : List ℕ} → scan (rowRefusal rows) (r + 1) ≡ none → rowRefusal rows r ≡ none → u ≡ factsTable rows facts r
-      → w ≡ keptIf (rowRefusal rows r) u r (factsOf (tree rows r)) → w ≡ factsTable rows facts (r + 1)
-  unfolding factsTable
-  table-more {u} {w} s h e k =
-      subst (λ (m : ℕ). w ≡ factsTable rows facts m) (sym (add-one r))
+  pub table-more : (r : ℕ) {u w : List ℕ} → scan judge (r + 1) ≡ none → judge r ≡ none → u ≡ factsTableBy judge want facts r
+      → w ≡ keptIf (judge r) u r (want r) → w ≡ factsTableBy judge want facts (r + 1)
+  unfolding factsTableBy
+  table-more r {u} {w} s h e k =
+      subst (λ (m : ℕ). w ≡ factsTableBy judge want facts m) (sym (add-one r))
       (k
-      ∙ ap (λ (o : Option Verdict). keptIf o u r (factsOf (tree rows r))) (h ∙ sym (subst (λ (m : ℕ). scan (rowRefusal rows) m ≡ none) (add-one r) s))
-      ∙ ap (λ (l : List ℕ). keptIf (scan (rowRefusal rows) (suc r)) l r (factsOf (tree rows r))) e)
+      ∙ ap (λ (o : Option Verdict). keptIf o u r (want r)) (h ∙ sym (subst (λ (m : ℕ). scan judge m ≡ none) (add-one r) s))
+      ∙ ap (λ (l : List ℕ). keptIf (scan judge (suc r)) l r (want r)) e)
 
-pub table-none : (rows : ℕ → Row) (facts : List ℕ) → facts ≡ factsTable rows facts 0
-unfolding factsTable
-table-none rows facts = refl
+  table-next : (n : ℕ) {x : Verdict} → scan judge (suc n) ≡ some x → factsTableBy judge want facts (suc n) ≡ factsTableBy judge want facts n
+  unfolding factsTableBy keptIf
+  table-next n e = ap (λ (o : Option Verdict). keptIf o (factsTableBy judge want facts n) n (want n)) e
 
-table-next : (rows : ℕ → Row) (facts : List ℕ) (n : ℕ) {x : Verdict} → scan (rowRefusal rows) (suc n) ≡ some x → factsTable rows facts (suc n) ≡ factsTable rows facts n
-unfolding factsTable keptIf
-table-next rows facts n e = ap (λ (o : Option Verdict). keptIf o (factsTable rows facts n) n (factsOf (tree rows n))) e
-
--- after a row that is refused nothing is kept
-pub table-stays : (rows : ℕ → Row) (facts : List ℕ) (r n : ℕ) {x : Verdict} → scan (rowRefusal rows) r ≡ none → rowRefusal rows r ≡ some x → r ≤ n → factsTable rows facts n ≡ factsTable rows facts r
-table-stays rows facts r zero s h l = let e : zero ≡ r = omega arith in ap (factsTable rows facts) e
-table-stays rows facts r (suc n) {x} s h l =
-    ⊎-elim
-    (λ p. table-next rows facts n (scan-found (rowRefusal rows) (suc n) r x p s h) ∙ table-stays rows facts r n s h (omega arith))
-    (λ e. ap (factsTable rows facts) (sym e))
-    (below-suc r (suc n) (omega arith))
+  -- after a row that is refused nothing is kept
+  pub table-stays : (r n : ℕ) {x : Verdict} → scan judge r ≡ none → judge r ≡ some x → r ≤ n → factsTableBy judge want facts n ≡ factsTableBy judge want facts r
+  table-stays r zero s h l = let e : zero ≡ r = omega arith in ap (factsTableBy judge want facts) e
+  table-stays r (suc n) {x} s h l =
+      ⊎-elim
+      (λ p. table-next n (scan-found judge (suc n) r x p s h) ∙ table-stays r n s h (omega arith))
+      (λ e. ap (factsTableBy judge want facts) (sym e))
+      (below-suc r (suc n) (omega arith))
 
 -- ---- the formulas together
 
-module _ (rows : ℕ → Row) (n s : ℕ) (root least : ℤ) where
-  pub formulas-root : rootFits s root least ≡ false → some (Refused Root Whole) ≡ formulasRefusal rows n s root least
-  unfolding formulasRefusal formulasBy wholeUnless
+-- what is found of the root and the least value, of each row by `judge`, and of the root again, which is loose or not
+module _ (judge : ℕ → Option Verdict) (n s : ℕ) (root least : ℤ) (loose : Bool) where
+  abbrev foundBy : Option Verdict
+  foundBy = wholeUnless (rootFits s root least) Root otherwise scan judge n otherwise wholeUnless (not loose) Root
+
+  pub formulas-root : rootFits s root least ≡ false → some (Refused Root Whole) ≡ foundBy
+  unfolding wholeUnless
   formulas-root h = sym (otherwise-some _ _ _ (some-unless (rootFits s root least) _ h))
 
   module _ (fits : rootFits s root least ≡ true) where
-    after-root : formulasRefusal rows n s root least ≡ (scan (rowRefusal rows) n otherwise wholeUnless (isOuter (tree rows (nat root))) Root)
-    unfolding formulasRefusal formulasBy wholeUnless
+    after-root : foundBy ≡ (scan judge n otherwise wholeUnless (not loose) Root)
+    unfolding wholeUnless
     after-root = otherwise-none _ _ (none-unless (rootFits s root least) _ fits)
 
-    pub formulas-row : {x : Verdict} → some x ≡ scan (rowRefusal rows) n → some x ≡ formulasRefusal rows n s root least
+    pub formulas-row : {x : Verdict} → some x ≡ scan judge n → some x ≡ foundBy
     formulas-row h = sym (after-root ∙ otherwise-some _ _ _ (sym h))
 
-    module _ (none-found : scan (rowRefusal rows) n ≡ none) where
-      pub formulas-loose : F.loose (tree rows (nat root)) ≡ true → some (Refused Root Whole) ≡ formulasRefusal rows n s root least
-      unfolding wholeUnless isOuter
-      formulas-loose h = sym (after-root ∙ otherwise-none _ _ none-found ∙ some-unless (isOuter (tree rows (nat root))) _ (not-of-true _ h))
+    module _ (none-found : scan judge n ≡ none) where
+      pub formulas-loose : loose ≡ true → some (Refused Root Whole) ≡ foundBy
+      unfolding wholeUnless
+      formulas-loose h = sym (after-root ∙ otherwise-none _ _ none-found ∙ some-unless (not loose) _ (not-of-true _ h))
 
-      pub formulas-none : F.loose (tree rows (nat root)) ≡ false → none ≡ formulasRefusal rows n s root least
-      unfolding wholeUnless isOuter
-      formulas-none h = sym (after-root ∙ otherwise-none _ _ none-found ∙ none-unless (isOuter (tree rows (nat root))) _ (not-of-false _ h))
+      pub formulas-none : loose ≡ false → none ≡ foundBy
+      unfolding wholeUnless
+      formulas-none h = sym (after-root ∙ otherwise-none _ _ none-found ∙ none-unless (not loose) _ (not-of-false _ h))

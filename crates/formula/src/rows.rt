@@ -5,13 +5,13 @@ ghost use mathlib.Core.Bool.{Bool, true};
 ghost use mathlib.Core.Option.{none};
 ghost use Prim.Native.Nat.{_+_, _*_, _<_, _≤_, _^_, max};
 ghost use lib.ListN.{length};
-ghost use lib.IntN.{ℤ, pos};
+ghost use lib.IntN.{pos};
 ghost use Rattle.stab.specs.Basic.{nat, below, scan};
-ghost use Rattle.stab.specs.Formula.{joined, offset, kindOf, constant, literal, junction, iteration, Op, baseOf, onIndex, Formula, join, iter, tree};
+ghost use Rattle.stab.specs.Formula.{joined, offset, kindOf, constant, literal, baseOf, onIndex, tree};
 ghost use Rattle.stab.specs.Check.{rowRefusal, rootFits, formulasRefusal, finding};
 ghost use Rattle.formula.specs.Column.{column};
 ghost use Rattle.formula.specs.Facts.{bit};
-ghost use Rattle.formula.specs.Rows.{factsOf, factsAt, keptIf, factsTable, formulasTable, judged, Passed};
+ghost use Rattle.formula.specs.Rows.{factsOf, factsAt, bothFacts, overFacts, keptIf, factsTable, formulasTable, judged, pairJudged, bodyJudged, judgedRefusal, keptJudged, Summable, Passed};
 use crate::A;
 use crate::B;
 use crate::C;
@@ -51,7 +51,7 @@ pub enum Judged {
 // ---- columns
 
 // Column k of row r is one of 0 .. m - 1.
-fn below_in(schema: &[i32], s: usize, proof: &[i32], r: usize, k: usize, m: usize) -> bool
+pub fn below_in(schema: &[i32], s: usize, proof: &[i32], r: usize, k: usize, m: usize) -> bool
     requires { ⌜ (r < 2 ^ 32) × (k < 4) ⌝ }
     ensures { λ v. ⌜ v ≡ below m (column (joined (now (schema .entry)) s (now (proof .entry)) r) k) ⌝ }
 {
@@ -100,7 +100,7 @@ fn on_index(schema: &[i32], s: usize, proof: &[i32], r: usize) -> u32
 // ---- what is kept
 
 // The four numbers that are kept for row r.
-fn known(facts: &[u32], r: usize) -> Facts
+pub fn known(facts: &[u32], r: usize) -> Facts
     requires { ⌜ 4 * r + 3 < length (now facts) ⌝ }
     ensures { λ v. ⌜ v ≡ factsAt (now (facts .entry)) r ⌝ }
 {
@@ -119,10 +119,10 @@ fn larger(a: u32, b: u32) -> u32
     if a < b { b } else { a }
 }
 
-// The numbers of an and or an or, by those of its parts.
+// The numbers of a formula with two parts, by those of its parts.
 fn both(f: Facts, g: Facts) -> Facts
     requires { ⌜ (f .size ≤ 4096) × (g .size ≤ 4096) × (f .depth ≤ 64) × (g .depth ≤ 64) ⌝ }
-    ensures { λ v. ⌜ ((o : Op) (x y : Formula) → f ≡ factsOf x → g ≡ factsOf y → v ≡ factsOf (join o x y)) ⌝ }
+    ensures { λ v. ⌜ v ≡ bothFacts f g ⌝ }
 {
     Facts {
         size: 1 + f.size + g.size,
@@ -135,7 +135,7 @@ fn both(f: Facts, g: Facts) -> Facts
 // Those of an iteration, by its body's.
 fn over(f: Facts) -> Facts
     requires { ⌜ (f .size ≤ 4096) × (f .depth ≤ 64) ⌝ }
-    ensures { λ v. ⌜ ((o : Op) (x : Formula) (b c : ℤ) → f ≡ factsOf x → v ≡ factsOf (iter o x b c)) ⌝ }
+    ensures { λ v. ⌜ v ≡ overFacts f ⌝ }
 {
     Facts {
         size: 1 + f.size,
@@ -148,7 +148,7 @@ fn over(f: Facts) -> Facts
 // ---- one row
 
 // Row r is true or false: a, b, c are 0.
-fn constant(schema: &[i32], s: usize, proof: &[i32], r: usize) -> Judged
+pub fn constant(schema: &[i32], s: usize, proof: &[i32], r: usize) -> Judged
     requires { ⌜ (r < 1024) × ((v : Bool) × (kindOf (joined (now schema) s (now proof) r .kind) ≡ constant v)) ⌝ }
     ensures { λ v. ⌜ v ≡ judged (joined (now (schema .entry)) s (now (proof .entry))) r ⌝ }
 {
@@ -170,7 +170,7 @@ fn constant(schema: &[i32], s: usize, proof: &[i32], r: usize) -> Judged
 }
 
 // A literal: a is 0..255, b 0..2, c -9999..9999.
-fn literal(schema: &[i32], s: usize, proof: &[i32], r: usize) -> Judged
+pub fn literal(schema: &[i32], s: usize, proof: &[i32], r: usize) -> Judged
     requires { ⌜ (r < 1024) × ((v : Bool) × (kindOf (joined (now schema) s (now proof) r .kind) ≡ literal v)) ⌝ }
     ensures { λ v. ⌜ v ≡ judged (joined (now (schema .entry)) s (now (proof .entry))) r ⌝ }
 {
@@ -193,20 +193,18 @@ fn literal(schema: &[i32], s: usize, proof: &[i32], r: usize) -> Judged
 }
 
 // The numbers of the smaller row that column k of row r points to.
-fn part(schema: &[i32], s: usize, proof: &[i32], r: usize, k: usize, facts: &[u32]) -> Facts
-    requires { ⌜ (r < 1024) × (k < 4) × (below r (column (joined (now schema) s (now proof) r) k) ≡ true) ⌝ }
-    requires { ⌜ Passed (joined (now schema) s (now proof)) (now facts) r ⌝ }
-    ensures { λ v. ⌜ v ≡ factsOf (tree (joined (now (schema .entry)) s (now (proof .entry))) (nat (column (joined (now (schema .entry)) s (now (proof .entry)) r) k))) ⌝ }
+pub fn part(schema: &[i32], s: usize, proof: &[i32], r: usize, k: usize, facts: &[u32]) -> Facts
+    requires { ⌜ (r < 1024) × (k < 4) × (below r (column (joined (now schema) s (now proof) r) k) ≡ true) × Summable (now facts) r ⌝ }
+    ensures { λ v. ⌜ v ≡ factsAt (now (facts .entry)) (nat (column (joined (now (schema .entry)) s (now (proof .entry)) r) k)) ⌝ }
     ensures { λ v. ⌜ (v .size ≤ 4096) × (v .depth ≤ 64) ⌝ }
 {
     known(facts, natural_in(schema, s, proof, r, k))
 }
 
-// An and or an or: a and b are smaller rows, c is 0, and the parts do not mix.
-fn junction(schema: &[i32], s: usize, proof: &[i32], r: usize, facts: &[u32]) -> Judged
-    requires { ⌜ (r < 1024) × ((o : Op) × (kindOf (joined (now schema) s (now proof) r .kind) ≡ junction o)) ⌝ }
-    requires { ⌜ Passed (joined (now schema) s (now proof)) (now facts) r ⌝ }
-    ensures { λ v. ⌜ v ≡ judged (joined (now (schema .entry)) s (now (proof .entry))) r ⌝ }
+// A row with two parts: a and b are smaller rows, c is 0, and the parts do not mix.
+pub fn junction(schema: &[i32], s: usize, proof: &[i32], r: usize, facts: &[u32]) -> Judged
+    requires { ⌜ (r < 1024) × Summable (now facts) r ⌝ }
+    ensures { λ v. ⌜ v ≡ pairJudged r (joined (now (schema .entry)) s (now (proof .entry)) r) (now (facts .entry)) ⌝ }
 {
     if !below_in(schema, s, proof, r, A, r) {
         return Judged::Ill;
@@ -230,10 +228,9 @@ fn junction(schema: &[i32], s: usize, proof: &[i32], r: usize, facts: &[u32]) ->
 }
 
 // An iteration: a is a smaller row that is a body, b and c are -9999..9999.
-fn iteration(schema: &[i32], s: usize, proof: &[i32], r: usize, facts: &[u32]) -> Judged
-    requires { ⌜ (r < 1024) × ((o : Op) × (kindOf (joined (now schema) s (now proof) r .kind) ≡ iteration o)) ⌝ }
-    requires { ⌜ Passed (joined (now schema) s (now proof)) (now facts) r ⌝ }
-    ensures { λ v. ⌜ v ≡ judged (joined (now (schema .entry)) s (now (proof .entry))) r ⌝ }
+pub fn iteration(schema: &[i32], s: usize, proof: &[i32], r: usize, facts: &[u32]) -> Judged
+    requires { ⌜ (r < 1024) × Summable (now facts) r ⌝ }
+    ensures { λ v. ⌜ v ≡ bodyJudged r (joined (now (schema .entry)) s (now (proof .entry)) r) (now (facts .entry)) ⌝ }
 {
     if !below_in(schema, s, proof, r, A, r) {
         return Judged::Ill;
@@ -275,15 +272,13 @@ fn row(schema: &[i32], s: usize, proof: &[i32], r: usize, facts: &[u32]) -> Judg
 
 // ---- every row
 
-// What is found at row r; its numbers are kept where that is nothing.
-fn step(schema: &[i32], s: usize, proof: &[i32], r: usize, facts: &mut [u32]) -> Finding
-    requires { ⌜ (r < 1024) × (4 * r + 3 < length (now facts)) ⌝ }
-    requires { ⌜ Passed (joined (now schema) s (now proof)) (now facts) r ⌝ }
-    ensures { λ v. ⌜ finding v ≡ rowRefusal (joined (now (schema .entry)) s (now (proof .entry))) r ⌝ }
-    ensures { λ v. ⌜ (rowRefusal (joined (now (schema .entry)) s (now (proof .entry))) r ≡ none → Passed (joined (now (schema .entry)) s (now (proof .entry))) (now (facts .exit)) (r + 1)) ⌝ }
-    ensures { λ v. ⌜ now (facts .exit) ≡ keptIf (rowRefusal (joined (now (schema .entry)) s (now (proof .entry))) r) (now (facts .entry)) r (factsOf (tree (joined (now (schema .entry)) s (now (proof .entry))) r)) ⌝ }
+// What is found of row r, which was judged so; its numbers are kept where that is nothing.
+pub fn sized(row: Judged, r: usize, facts: &mut [u32]) -> Finding
+    requires { ⌜ 4 * r + 3 < length (now facts) ⌝ }
+    ensures { λ v. ⌜ finding v ≡ judgedRefusal row r ⌝ }
+    ensures { λ v. ⌜ now (facts .exit) ≡ keptJudged row (now (facts .entry)) r ⌝ }
 {
-    let Judged::Formed(f) = row(schema, s, proof, r, facts) else {
+    let Judged::Formed(f) = row else {
         return Finding::Found {
             why: Refusal::IllFormed,
             place: Place::At(r),
@@ -303,6 +298,18 @@ fn step(schema: &[i32], s: usize, proof: &[i32], r: usize, facts: &mut [u32]) ->
     }
     kept::keep(facts, r, f.size, f.depth, f.loose, f.fixed);
     Finding::Nothing
+}
+
+// What is found at row r; its numbers are kept where that is nothing.
+fn step(schema: &[i32], s: usize, proof: &[i32], r: usize, facts: &mut [u32]) -> Finding
+    requires { ⌜ (r < 1024) × (4 * r + 3 < length (now facts)) ⌝ }
+    requires { ⌜ Passed (joined (now schema) s (now proof)) (now facts) r ⌝ }
+    ensures { λ v. ⌜ finding v ≡ rowRefusal (joined (now (schema .entry)) s (now (proof .entry))) r ⌝ }
+    ensures { λ v. ⌜ (rowRefusal (joined (now (schema .entry)) s (now (proof .entry))) r ≡ none → Passed (joined (now (schema .entry)) s (now (proof .entry))) (now (facts .exit)) (r + 1)) ⌝ }
+    ensures { λ v. ⌜ now (facts .exit) ≡ keptIf (rowRefusal (joined (now (schema .entry)) s (now (proof .entry))) r) (now (facts .entry)) r (factsOf (tree (joined (now (schema .entry)) s (now (proof .entry))) r)) ⌝ }
+{
+    let found = row(schema, s, proof, r, facts);
+    sized(found, r, facts)
 }
 
 // What is found first among n rows. The table holds the numbers of each before it.

@@ -1,19 +1,17 @@
 -- The laws of the passes that the model check is made of.
-use Prim.Native.Nat.{ℕ, _+_, _-_, _*_, _≤_, _<_}
+use Prim.Native.Nat.{ℕ, _+_, _*_, _≤_, _<_}
 use native.Mathlib.Omega.{arith}
-use native.Mathlib.Decide.{decLt}
-use mathlib.Core.Path.{_≡_, sym, _∙_, ap, fun-ext}
+use mathlib.Core.Path.{_≡_, sym, _∙_, ap}
 use mathlib.Core.Bool.{Bool, true, false}
 use mathlib.Core.List.{List}
 use mathlib.Core.Option.{Option, none, some}
 use lib.Dec.{leb}
 use lib.IntN.{ℤ, pos, negℤ}
-use lib.ListN.{length, getD, take, drop, length-drop}
-use lib.Seq.{take-all, getD-drop}
+use lib.ListN.{length}
 use lib.Signed.{leZ}
 use borrow.Author.Tests.{leb-true, le-leb}
 use Rattle.stab.specs.Basic.{_and_, nat, below, _otherwise_, scan}
-use Rattle.stab.specs.Formula.{Row, rowAt, joined}
+use Rattle.stab.specs.Formula.{Row, rowAt}
 use Rattle.stab.specs.Model.{Model, pairRefusal, modelRefusal, satisfied, assignment, schemaRow}
 use Rattle.stab.specs.Check.{finding, wholeUnless, holds, rootFits, formulasBy, formulasRefusal, verdict}
 use Rattle.stab.specs.declared.Place.{Place}
@@ -28,7 +26,7 @@ use Rattle.stab.proofs.Bools.{and-left, and-right, same-test, none-unless, unle
 use Rattle.stab.proofs.Findings.{otherwise-assoc}
 use Rattle.stab.proofs.Trees.{below-nat}
 use Rattle.stab.proofs.Whole.{atom, le-of, of-le, plus-nat, minus-nat}
-use Rattle.formula.proofs.Columns.{joined-schema, joined-proof}
+pub use Rattle.formula.proofs.Columns.{joined-part}
 use Rattle.model.specs.Passes.{tablesRefusal, truthRefusal}
 use Rattle.pairs.proofs.Parts.{high-is}
 
@@ -72,36 +70,6 @@ module _ (ok : Bool) (why : Refusal) where
 -- three numbers at once
 pub same₃ : {B : Type 0} (f : ℤ → ℤ → ℤ → B) {x x′ y y′ z z′ : ℤ} → x ≡ x′ → y ≡ y′ → z ≡ z′ → f x y z ≡ f x′ y′ z′
 same₃ f p q r = λ i. f (p i) (q i) (r i)
-
--- ---- the schema rows
-
--- the rest of a table after s rows, read from row s on
-rest-at : (t : List ℤ) (s r k : ℕ) → s ≤ r → getD (drop (4 * s) t) (4 * (r - s) + k) (pos 0) ≡ getD t (4 * r + k) (pos 0)
-rest-at t s r k h =
-    let e : 4 * s + (4 * (r - s) + k) ≡ 4 * r + k = omega arith in
-    getD-drop (4 * s) t (4 * (r - s) + k) (pos 0) ∙ ap (λ (i : ℕ). getD t i (pos 0)) e
-
-rest-first : (t : List ℤ) (s r : ℕ) → s ≤ r → getD (drop (4 * s) t) (4 * (r - s)) (pos 0) ≡ getD t (4 * r) (pos 0)
-rest-first t s r h =
-    let e : 4 * s + 4 * (r - s) ≡ 4 * r = omega arith in
-    getD-drop (4 * s) t (4 * (r - s)) (pos 0) ∙ ap (λ (i : ℕ). getD t i (pos 0)) e
-
-rest-row : (t : List ℤ) (s r : ℕ) → s ≤ r → rowAt (drop (4 * s) t) (r - s) ≡ rowAt t r
-unfolding rowAt
-rest-row t s r h =
-    λ i. record { kind = rest-first t s r h i; a = rest-at t s r 1 h i; b = rest-at t s r 2 h i; c = rest-at t s r 3 h i }
-
--- the rows of a table, from its first s rows and the rest of it
-pub joined-rest : (t : List ℤ) (s : ℕ) → joined t s (drop (4 * s) t) ≡ rowAt t
-joined-rest t s = fun-ext (λ r. go r (decLt r s))
-  where
-    go : (r : ℕ) → Dec (r < s) → joined t s (drop (4 * s) t) r ≡ rowAt t r
-    go r (yes h) = joined-schema t s (drop (4 * s) t) r h
-    go r (no h) = joined-proof t s (drop (4 * s) t) r (omega arith) ∙ rest-row t s r (omega arith)
-
--- the same where the rest is a part of the slice
-pub joined-part : (t : List ℤ) (s : ℕ) → joined t s (take (length t - 4 * s) (drop (4 * s) t)) ≡ rowAt t
-joined-part t s = ap (joined t s) (take-all (length t - 4 * s) (drop (4 * s) t) (omega (arith, length-drop (4 * s) t))) ∙ joined-rest t s
 
 -- ---- what passed
 

@@ -32,6 +32,7 @@ pub enum Refusal {
     False,
     Number,
     Output,
+    Plain,
     Repeated,
     Wires,
 }

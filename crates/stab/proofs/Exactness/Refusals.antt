@@ -56,7 +56,7 @@ unfolding _otherwise_
 once {x = none} f g = g refl
 once {x = some a} f g = f
 
-of-scan : (f : ℕ → Option Verdict) (n : ℕ) → n ≤ 4096 → ((k : ℕ) → k < 4096 → FindsRefusals (f k)) → FindsRefusals (scan f n)
+pub of-scan : (f : ℕ → Option Verdict) (n : ℕ) → n ≤ 4096 → ((k : ℕ) → k < 4096 → FindsRefusals (f k)) → FindsRefusals (scan f n)
 unfolding scan
 of-scan f zero l h v e = absurd (Option·none-ne-some v e)
 of-scan f (suc n) l h v e = _or-else_ (of-scan f n (omega arith) h) (h n (omega arith)) v e

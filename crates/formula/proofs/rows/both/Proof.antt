@@ -1,4 +1,5 @@
-use Rattle.formula.proofs.RowLaws.{both-facts}
+use Rattle.formula.proofs.RowLaws.{facts-same}
+use Rattle.formula.specs.Rows.{bothFacts}
 use Prim.Native.Nat.{ℕ, _+_}
 use mathlib.Core.Path.{refl, ap}
 use borrow.Author.Needs.{needs}
@@ -24,8 +25,8 @@ larger-requires-3 : tie.Need-larger-requires-3
 larger-requires-3 c κs = search needs
 
 returns : tie.Need-returns
-returns c o x y p q =
-    both-facts o x y p q refl (ap (λ (n : ℕ). 1 + n) (c .before .before .larger .ensures)) (c .before .larger2 .ensures) (c .larger3 .ensures)
+unfolding bothFacts
+returns c = facts-same refl (ap (λ (n : ℕ). 1 + n) (c .before .before .larger .ensures)) (c .before .larger2 .ensures) (c .larger3 .ensures)
 
 pub both-spec : {M : Type 1} → statement M
 both-spec =

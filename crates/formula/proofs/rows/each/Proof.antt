@@ -25,7 +25,8 @@ abbrev μ-loop : tie.MeasureT-loop
 μ-loop schema s proof n facts₀ r₀ facts r = n - r
 
 loop-holds : tie.Need-loop-holds Inv-loop μ-loop
-loop-holds c = (omega arith, refl, scan-none _ 0 (λ k l. absurd (omega arith)), passed-none _ _, table-none _ _)
+unfolding factsTable
+loop-holds c = (omega arith, refl, scan-none _ 0 (λ k l. absurd (omega arith)), passed-none _ _, table-none _ _ _)
 
 step-requires : tie.Need-step-requires Inv-loop μ-loop
 step-requires c κs = (omega arith, c .before .before .loop .inv .3)
@@ -42,7 +43,7 @@ same-length c =
     s .step .kept .1 .1 .1 .1 .0 ∙ s .before .before .before .loop .inv .1
 
 returns : tie.Need-returns Inv-loop μ-loop
-unfolding finding
+unfolding finding factsTable
 returns c =
     let s = c .before .before .before .before in
     let e = ap finding (c .enum-told2 .given .1) in
@@ -53,9 +54,9 @@ returns c =
       (
         never h,
         s .step .ensures .1 .1
-            ∙ sym (none-kept _ (l .facts) _ (sym found))
+            ∙ sym (none-kept (l .facts) _ _ (sym found))
             ∙ l .inv .4
-            ∙ sym (table-stays _ _ _ _ (l .inv .2) found (omega arith)),
+            ∙ sym (table-stays _ _ _ _ _ (l .inv .2) found (omega arith)),
       ),
     )
 
@@ -66,13 +67,13 @@ loop-less : tie.Need-loop-less Inv-loop μ-loop
 loop-less c = omega arith
 
 loop-again : tie.Need-loop-again Inv-loop μ-loop
-unfolding finding
+unfolding finding factsTable
 loop-again c =
     let s = c .before .before .before .before in
     let h = sym (s .step .ensures .0) ∙ ap finding (c .enum-told .given .1) in
     let l = s .before .before .before .loop in
     let more = scan-more _ _ (l .inv .2) h in
-    (omega arith, s .step .kept .1 .1 .1 .1 .0 ∙ l .inv .1, more, s .step .ensures .1 .0 h, table-more _ _ _ more h (l .inv .4) (s .step .ensures .1 .1))
+    (omega arith, s .step .kept .1 .1 .1 .1 .0 ∙ l .inv .1, more, s .step .ensures .1 .0 h, table-more _ _ _ _ more h (l .inv .4) (s .step .ensures .1 .1))
 
 same-length-2 : tie.Need-same-length-2 Inv-loop μ-loop
 same-length-2 c = c .before .loop .inv .1

@@ -1,13 +1,13 @@
 use native.Mathlib.Omega.{arith}
 use Prim.Native.Nat.{_<_}
 use mathlib.Core.Path.{_≡_, sym, _∙_, ap, ap₂}
-use mathlib.Core.Bool.{true}
+use mathlib.Core.Bool.{Bool, true}
 use mathlib.Core.Option.{none}
 use mir.Facts.{toZ-ofZ}
 use borrow.Author.Needs.{needs}
 use Rattle.stab.specs.Basic.{nat, scan}
-use Rattle.stab.specs.Check.{rootFits, rowRefusal, finding}
-use Rattle.stab.specs.Formula.{joined, tree}
+use Rattle.stab.specs.Check.{rootFits, rowRefusal, formulasBy, formulasRefusal, finding}
+use Rattle.stab.specs.Formula.{joined, tree, loose, isOuter}
 use Rattle.stab.proofs.Bools.{and-left, if-true, if-false}
 use Rattle.stab.proofs.Trees.{below-nat}
 use Rattle.formula.specs.Rows.{factsOf, factsAt, formulasTable}
@@ -24,11 +24,15 @@ said c =
     let a = c .before .before in
     c .root-fits .ensures ∙ ap₂ (rootFits (a .args .s)) (toZ-ofZ (a .fits .root)) (toZ-ofZ (a .fits .least))
 
+-- a literal on i stands in the root outside an iteration
+abbrev root-loose : tie.Start → Bool
+root-loose s = let a = s .args in loose (tree (joined (a .schema .now) (a .s) (a .proof .now)) (nat (a .root)))
+
 returns : tie.Need-returns
-unfolding finding formulasTable
+unfolding finding formulasTable formulasRefusal formulasBy isOuter
 returns c =
     let unfit = fails _ (said (c .before)) (c .if1 .taken) in
-    let h = formulas-root _ _ _ _ _ unfit in
+    let h = formulas-root _ _ _ _ _ (root-loose (c .before .before .before)) unfit in
     (h, (never h, sym (if-false _ _ _ unfit)))
 
 each-requires : tie.Need-each-requires
@@ -44,12 +48,12 @@ same-length : tie.Need-same-length
 same-length c = search needs
 
 returns-2 : tie.Need-returns-2
-unfolding finding formulasTable
+unfolding finding formulasTable formulasRefusal formulasBy isOuter
 returns-2 c =
     let e = c .before .before .before .before in
     let f = ap finding (c .enum-told2 .given .1) in
     let fit = passes _ (said (e .before .before .before)) (e .before .before .if1 .left) in
-    let h = formulas-row _ _ _ _ _ fit (sym f ∙ e .each .ensures .0) in
+    let h = formulas-row _ _ _ _ _ (root-loose (e .before .before .before .before .before)) fit (sym f ∙ e .each .ensures .0) in
     (f ∙ h, (never h, e .each .ensures .1 .1 ∙ sym (if-true _ _ _ fit)))
 
 natural-requires : tie.Need-natural-requires
@@ -91,11 +95,11 @@ same-length-2 : tie.Need-same-length-2
 same-length-2 c = search needs
 
 returns-3 : tie.Need-returns-3
-unfolding finding formulasTable
+unfolding finding formulasTable formulasRefusal formulasBy isOuter
 returns-3 c =
     let k = c .before .before in
     let b = k .before in (
-      formulas-none _ _ _ _ _ (fits b) (nothing b) (loose-none _ (known k) (c .if2 .taken)),
+      formulas-none _ _ _ _ _ _ (fits b) (nothing b) (loose-none _ (known k) (c .if2 .taken)),
       (λ _. passed b .each .ensures .1 .0 (nothing b), passed b .each .ensures .1 .1 ∙ sym (if-true _ _ _ (fits b))),
     )
 
@@ -103,11 +107,11 @@ same-length-3 : tie.Need-same-length-3
 same-length-3 c = search needs
 
 returns-4 : tie.Need-returns-4
-unfolding finding formulasTable
+unfolding finding formulasTable formulasRefusal formulasBy isOuter
 returns-4 c =
     let k = c .before .before in
     let b = k .before in
-    let h = formulas-loose _ _ _ _ _ (fits b) (nothing b) (loose-some _ (known k) (c .if2 .left)) in
+    let h = formulas-loose _ _ _ _ _ _ (fits b) (nothing b) (loose-some _ (known k) (c .if2 .left)) in
     (h, (never h, passed b .each .ensures .1 .1 ∙ sym (if-true _ _ _ (fits b))))
 
 pub formulas-spec : {M : Type 1} → statement M

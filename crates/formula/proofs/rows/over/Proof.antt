@@ -1,4 +1,4 @@
-use Rattle.formula.proofs.RowLaws.{over-facts}
+use Rattle.formula.specs.Rows.{overFacts}
 use mathlib.Core.Path.{refl}
 use borrow.Author.Needs.{needs}
 use Rattle.formula.proofs.rows.over.Statement.{statement}
@@ -11,7 +11,8 @@ add-t3 : tie.Need-add-t3
 add-t3 c = search needs
 
 returns : tie.Need-returns
-returns c o x b d p = over-facts o x b d p refl refl refl refl
+unfolding overFacts
+returns c = refl
 
 pub over-spec : {M : Type 1} → statement M
 over-spec = tie.close (tie.spec add-t2 add-t3 returns)

@@ -5,7 +5,6 @@ use borrow.Author.Needs.{needs}
 use Rattle.stab.proofs.Trees.{below-nat}
 use Rattle.formula.specs.Rows.{factsAt}
 use Rattle.formula.specs.declared.rows.Facts.{Facts}
-use Rattle.formula.proofs.RowLaws.{kept-facts, kept-size, kept-depth}
 use Rattle.formula.proofs.rows.part.Statement.{statement}
 use Rattle.formula.proofs.rows.part.Tie as tie
 
@@ -15,17 +14,17 @@ natural-in-requires c κs = search needs
 known-requires : tie.Need-known-requires
 known-requires c κs =
     let p = c .before .before .pre in
-    omega (arith, c .natural-in .ensures, below-nat _ _ (p .0 .2), p .1 .room)
+    omega (arith, c .natural-in .ensures, below-nat _ _ (p .2), p .3 .room)
 
 returns : tie.Need-returns
 returns c =
     let p = c .before .before .before .pre in
-    let less = below-nat _ _ (p .0 .2) in
+    let less = below-nat _ _ (p .2) in
     let e = c .known .ensures ∙ ap (factsAt _) (c .before .natural-in .ensures) in (
-      e ∙ kept-facts (p .1) _ less,
+      e,
       (
-        subst (λ (f : Facts). f .size ≤ 4096) (sym e) (kept-size (p .1) _ less),
-        subst (λ (f : Facts). f .depth ≤ 64) (sym e) (kept-depth (p .1) _ less),
+        subst (λ (f : Facts). f .size ≤ 4096) (sym e) (p .3 .size _ less),
+        subst (λ (f : Facts). f .depth ≤ 64) (sym e) (p .3 .depth _ less),
       ),
     )
 

@@ -1,7 +1,7 @@
 use mathlib.Core.Path.{refl, sym, _∙_}
 use borrow.Author.Needs.{needs}
 use Rattle.stab.specs.Formula.{wellFormedAs}
-use Rattle.formula.proofs.RowLaws.{ill, constant-kind, literal-kind, junction-kind, iteration-kind, unknown-kind}
+use Rattle.formula.proofs.RowLaws.{ill, passed-sums, pair-judged, body-judged, constant-kind, literal-kind, junction-kind, iteration-kind, unknown-kind}
 use Rattle.formula.proofs.rows.row.Statement.{statement}
 use Rattle.formula.proofs.rows.row.Tie as tie
 
@@ -27,20 +27,24 @@ returns-2 c = search needs
 junction-requires : tie.Need-junction-requires
 junction-requires c κs =
     let d = c .before .before .before in
-    let k = junction-kind (d .kind-in .result) (c .before .if2 .left) (c .if3 .taken) in
-    ((search needs, (k .0, sym (d .kind-in .ensures) ∙ k .1)), d .before .before .pre .1)
+    (search needs, passed-sums (d .before .before .pre .1))
 
 returns-3 : tie.Need-returns-3
-returns-3 c = search needs
+returns-3 c =
+    let d = c .before .before .before .before in
+    let k = junction-kind (d .kind-in .result) (c .before .before .if2 .left) (c .before .if3 .taken) in
+    c .junction .ensures ∙ pair-judged _ _ _ (d .before .before .pre .1) (k .0) (sym (d .kind-in .ensures) ∙ k .1)
 
 iteration-requires : tie.Need-iteration-requires
 iteration-requires c κs =
     let d = c .before .before .before .before in
-    let k = iteration-kind (d .kind-in .result) (c .before .if3 .left) (c .if4 .taken) in
-    ((search needs, (k .0, sym (d .kind-in .ensures) ∙ k .1)), d .before .before .pre .1)
+    (search needs, passed-sums (d .before .before .pre .1))
 
 returns-4 : tie.Need-returns-4
-returns-4 c = search needs
+returns-4 c =
+    let d = c .before .before .before .before .before in
+    let k = iteration-kind (d .kind-in .result) (c .before .before .if3 .left) (c .before .if4 .taken) in
+    c .iteration .ensures ∙ body-judged _ _ _ (d .before .before .pre .1) (k .0) (sym (d .kind-in .ensures) ∙ k .1)
 
 returns-5 : tie.Need-returns-5
 unfolding wellFormedAs

@@ -1,0 +1,205 @@
+-- 02, No. 1: the plain rows are well formed, mean what the wide rows mean, and pass the check's tests of formula rows.
+use Prim.Native.Nat.{ℕ, zero, suc, _*_, _<_, _≤_}
+use native.Mathlib.Omega.{arith}
+use mathlib.Core.Path.{_≡_, refl, sym, _∙_, ap, ap₂}
+use mathlib.Core.Logic.{_↔_, Iff·trans, _⊎_, inl, inr, ⊎-elim}
+use mathlib.Core.Bool.{Bool, true, false, not}
+use mathlib.Core.Option.{Option, none, some}
+use lib.IntN.{ℤ, pos}
+use lib.ListN.{length}
+use Rattle.stab.specs.Basic.{nat, below, within, _otherwise_, scan, unless}
+use Rattle.stab.specs.Formula.{Row, rowAt, Formula, tree, isOuter, wellFormed, smallEnough}
+use Rattle.stab.specs.Meaning.{Assignment, value, signed, truth}
+use Rattle.stab.specs.Check.{wholeUnless, atUnless, holds, rowRefusal, rootFits, formulasBy, formulasRefusal}
+use Rattle.stab.specs.declared.Refusal.the-variants.{TableTooShort, TooMany, Root, IllFormed, TooLarge, Plain}
+use Rattle.stab.specs.declared.Verdict.{Verdict}
+use Rattle.stab.specs.declared.Verdict.the-variants.{Refused}
+use Rattle.stab.specs.declared.Place.the-variants.{Whole}
+use Rattle.stab.proofs.Bools.{otherwise-none, otherwise-some}
+use Rattle.stab.proofs.Scans.{scan-same}
+use Rattle.stab.proofs.Trees.{below-nat, below-of}
+use Rattle.stab.proofs.Tests.{itself, _&_, le-tests, _clears_, whole-clears, at-clears, _then_, scan-clears}
+use Rattle.wide.specs.WideFormula.{wideTree, isWideOuter, wideFormed, wideSmall}
+use Rattle.wide.specs.WideMeaning.{wideValue, wideTruth}
+use Rattle.wide.specs.Plain.{image, plainRows}
+use Rattle.wide.specs.Convert.{WideSchema, plainTable, plainCount, plainRoot, wideRowRefusal, wideRefusal, plainRefusal, convertRefusal}
+use Rattle.wide.proofs.Tables.{columns-row, small-agrees}
+use Rattle.wide.proofs.Places.{start-rises, plain-length}
+use Rattle.wide.proofs.PlainForms.{plain-value}
+use Rattle.wide.proofs.Images.{side, image-below, Stand}
+use Rattle.wide.proofs.ImageTrees.{image-tree}
+use Rattle.wide.proofs.PlainFormed.{rows-formed, image-outer}
+
+-- ---- when nothing is refused
+
+-- the wide rows, root and least value keep the rules
+pub record KeepsWide (rows : ℕ → Row) (n : ℕ) (root least : ℤ) : Type 0 where
+  pub rootRow : below n root ≡ true
+  pub leastRange : within (pos 0) (pos 9999) least ≡ true
+  pub formed : (r : ℕ) → r < n → wideFormed rows r ≡ true
+  pub small : (r : ℕ) → r < n → wideSmall rows r ≡ true
+  pub rootOuter : isWideOuter (wideTree rows (nat root)) ≡ true
+
+pub wide-clears : (rows : ℕ → Row) (n : ℕ) (root least : ℤ) → wideRefusal rows n root least clears KeepsWide rows n root least
+unfolding wideRefusal wideRowRefusal rootFits
+wide-clears rows n root least =
+    Iff·trans
+    (whole-clears Root (itself (below n root) & itself (within (pos 0) (pos 9999) least)) then
+    scan-clears (wideRowRefusal rows) n (λ r l. at-clears IllFormed r (itself (wideFormed rows r)) then at-clears TooLarge r (itself (wideSmall rows r))) then
+    whole-clears Root (itself (isWideOuter (wideTree rows (nat root))))) (
+      λ p. record { rootRow = p .0 .0; leastRange = p .0 .1; formed = λ r l. p .1 .0 r l .0; small = λ r l. p .1 .0 r l .1; rootOuter = p .1 .1 },
+      λ k. ((k .rootRow, k .leastRange), (λ r l. (k .formed r l, k .small r l), k .rootOuter)),
+    )
+
+pub record KeepsPlain (W : WideSchema) : Type 0 where
+  pub limit : plainCount W ≤ 1024
+  pub small : (r : ℕ) → r < plainCount W → smallEnough (rowAt (plainTable W)) r ≡ true
+
+pub plain-clears : (W : WideSchema) → plainRefusal W clears KeepsPlain W
+unfolding plainRefusal
+plain-clears W =
+    Iff·trans
+    (whole-clears Plain (le-tests (plainCount W) 1024) then
+    scan-clears _ (plainCount W) (λ r l. whole-clears Plain (itself (smallEnough (rowAt (plainTable W)) r))))
+    (λ p. record { limit = p .0; small = p .1 }, λ k. (k .limit, k .small))
+
+-- the converter fills the table
+pub record Converts (W : WideSchema) : Type 0 where
+  pub room : 4096 ≤ W .room
+  pub held : 4 * W .wideRows ≤ length (W .wide)
+  pub limit : W .wideRows ≤ 1024
+  pub wideRules : KeepsWide (rowAt (W .wide)) (W .wideRows) (W .root) (W .least)
+  pub plainRules : KeepsPlain W
+
+pub convert-clears : (W : WideSchema) → convertRefusal W clears Converts W
+unfolding convertRefusal holds
+convert-clears W =
+    Iff·trans
+    (at-clears TableTooShort 0 (le-tests 4096 (W .room)) then
+    whole-clears TableTooShort (le-tests (4 * W .wideRows) (length (W .wide))) then
+    whole-clears TooMany (le-tests (W .wideRows) 1024) then
+    wide-clears (rowAt (W .wide)) (W .wideRows) (W .root) (W .least) then
+    plain-clears W) (
+      λ p. record { room = p .0; held = p .1 .0; limit = p .1 .1 .0; wideRules = p .1 .1 .1 .0; plainRules = p .1 .1 .1 .1 },
+      λ k. (k .room, (k .held, (k .limit, (k .wideRules, k .plainRules)))),
+    )
+
+-- ---- the plain rows, in any table that has them
+
+otherwise-nothing : {A : Type 0} (x : Option A) → (x otherwise none) ≡ x
+unfolding _otherwise_
+otherwise-nothing none = refl
+otherwise-nothing (some a) = refl
+
+abbrev pub HasPlainRows : WideSchema → (ℕ → Row) → Type 0
+HasPlainRows W plains = (p : ℕ) → p < plainCount W → plains p ≡ rowAt (plainTable W) p
+
+module _ (W : WideSchema) (plains : ℕ → Row) (has : HasPlainRows W plains) where
+  stand : Stand (rowAt (W .wide)) (W .wideRows) plains
+  unfolding plainCount plainTable
+  stand p l =
+      has p (omega (arith, plain-length (rowAt (W .wide)) (W .wideRows))) ∙ columns-row (plainRows (rowAt (W .wide)) (W .wideRows)) p
+
+  module _ (formed : (r : ℕ) → r < W .wideRows → wideFormed (rowAt (W .wide)) r ≡ true) where
+    pub row-formed : (r : ℕ) → r < plainCount W → wellFormed plains r ≡ true
+    unfolding plainCount
+    row-formed r l =
+        rows-formed (rowAt (W .wide)) (W .wideRows) plains formed stand r (omega (arith, plain-length (rowAt (W .wide)) (W .wideRows)))
+
+    -- the row that stands for a wide row has its value, and the one that stands for its negation the other, at every n, i and assignment
+    pub row-means : (r : ℕ) → r < W .wideRows → (σ : Assignment) (n : ℕ) (i : ℤ)
+        → (value σ n (tree plains (image (rowAt (W .wide)) r .own)) i ≡ wideValue σ n (wideTree (rowAt (W .wide)) r) i) × (value σ n (tree plains (image (rowAt (W .wide)) r .negated)) i ≡ not (wideValue σ n (wideTree (rowAt (W .wide)) r) i))
+    unfolding side signed
+    row-means r l σ n i = (means true, means false)
+      where
+        means : (v : Bool) → value σ n (tree plains (side v (image (rowAt (W .wide)) r))) i ≡ signed v (wideValue σ n (wideTree (rowAt (W .wide)) r) i)
+        means v =
+            ap (λ (f : Formula). value σ n f i) (image-tree (rowAt (W .wide)) (W .wideRows) plains formed stand v r l)
+            ∙ plain-value v σ n (wideTree (rowAt (W .wide)) r) i
+
+    module _ (rootRow : below (W .wideRows) (W .root) ≡ true) where
+      pub root-below : plainRoot W < plainCount W
+      unfolding plainRoot plainCount side
+      root-below =
+          let l = below-nat (W .wideRows) (W .root) rootRow in
+          omega (arith, plain-length (rowAt (W .wide)) (W .wideRows), image-below (rowAt (W .wide)) (W .wideRows) formed true (nat (W .root)) l, start-rises (rowAt (W .wide)) (suc (nat (W .root))) (W .wideRows) l)
+
+      pub root-outer : isOuter (tree plains (plainRoot W)) ≡ isWideOuter (wideTree (rowAt (W .wide)) (nat (W .root)))
+      unfolding plainRoot side
+      root-outer = image-outer (rowAt (W .wide)) (W .wideRows) plains formed stand true (nat (W .root)) (below-nat (W .wideRows) (W .root) rootRow)
+
+      pub root-means : (σ : Assignment) (n : ℕ) → truth σ n (tree plains (plainRoot W)) ≡ wideTruth σ n (wideTree (rowAt (W .wide)) (nat (W .root)))
+      unfolding truth wideTruth plainRoot
+      root-means σ n = row-means (nat (W .root)) (below-nat (W .wideRows) (W .root) rootRow) σ n (pos 0) .0
+
+  -- all that the check's pass over formula rows can find of them is 8
+  finds-8 : KeepsWide (rowAt (W .wide)) (W .wideRows) (W .root) (W .least)
+      → formulasRefusal plains (plainCount W) (plainCount W) (pos (plainRoot W)) (W .least) ≡ scan (λ r. atUnless (smallEnough plains r) TooLarge r) (plainCount W)
+  unfolding formulasRefusal formulasBy rowRefusal rootFits nat
+  finds-8 K =
+      otherwise-none _ _ (whole-clears Root (itself (below (plainCount W) (pos (plainRoot W))) & itself (within (pos 0) (pos 9999) (W .least))) .1
+      (below-of (plainCount W) (plainRoot W) (root-below (K .formed) (K .rootRow)), K .leastRange))
+      ∙ ap₂ _otherwise_
+      (scan-same _ (λ r. atUnless (smallEnough plains r) TooLarge r) (plainCount W) (λ r l h. otherwise-none _ _ (at-clears IllFormed r (itself _) .1 (row-formed (K .formed) r l))))
+      (whole-clears Root (itself _) .1 (root-outer (K .formed) (K .rootRow) ∙ K .rootOuter))
+      ∙ otherwise-nothing _
+
+  pub judged : KeepsWide (rowAt (W .wide)) (W .wideRows) (W .root) (W .least)
+      → formulasRefusal plains (plainCount W) (plainCount W) (pos (plainRoot W)) (W .least) clears ((r : ℕ) → r < plainCount W → smallEnough (rowAt (plainTable W)) r ≡ true)
+  judged K =
+      Iff·trans (λ e. sym (finds-8 K) ∙ e, λ e. finds-8 K ∙ e)
+      (Iff·trans (scan-clears _ (plainCount W) (λ r l. at-clears TooLarge r (itself (smallEnough plains r)))) (
+        λ h r l. small-agrees (rowAt (plainTable W)) plains r (λ a m. sym (has a (omega arith))) ∙ h r l,
+        λ h r l. small-agrees plains (rowAt (plainTable W)) r (λ a m. has a (omega arith)) ∙ h r l,
+      ))
+
+-- ---- the theorems
+
+-- well-formed wide rows give well-formed plain rows, whatever their size
+pub plain-formed : (W : WideSchema) → ((r : ℕ) → r < W .wideRows → wideFormed (rowAt (W .wide)) r ≡ true) → (r : ℕ) → r < plainCount W → wellFormed (rowAt (plainTable W)) r ≡ true
+plain-formed W formed r l = row-formed W (rowAt (plainTable W)) (λ p h. refl) formed r l
+
+-- the plain root is a plain row, outer exactly if the wide root is
+pub plain-root : (W : WideSchema) → ((r : ℕ) → r < W .wideRows → wideFormed (rowAt (W .wide)) r ≡ true) → below (W .wideRows) (W .root) ≡ true
+    → (plainRoot W < plainCount W) × (isOuter (tree (rowAt (plainTable W)) (plainRoot W)) ≡ isWideOuter (wideTree (rowAt (W .wide)) (nat (W .root))))
+plain-root W formed rootRow =
+    let plains = rowAt (plainTable W) in
+    (root-below W plains (λ p h. refl) formed rootRow, root-outer W plains (λ p h. refl) formed rootRow)
+
+-- in a table that starts with the plain rows, the check's pass over formula rows finds nothing exactly if 23 is not given, where the wide
+-- rows pass and the plain rows are few enough
+pub plain-judged : (W : WideSchema) (plains : ℕ → Row) → HasPlainRows W plains → wideRefusal (rowAt (W .wide)) (W .wideRows) (W .root) (W .least) ≡ none → plainCount W ≤ 1024
+    → (formulasRefusal plains (plainCount W) (plainCount W) (pos (plainRoot W)) (W .least) ≡ none) ↔ (plainRefusal W ≡ none)
+plain-judged W plains has h few =
+    let j = judged W plains has (wide-clears _ _ _ _ .0 h) in (
+      λ e. plain-clears W .1 (record { limit = few; small = j .0 e }),
+      λ e. j .1 (plain-clears W .0 e .small),
+    )
+
+-- what it finds otherwise is 8
+pub plain-finds : (W : WideSchema) (plains : ℕ → Row) → HasPlainRows W plains → wideRefusal (rowAt (W .wide)) (W .wideRows) (W .root) (W .least) ≡ none
+    → formulasRefusal plains (plainCount W) (plainCount W) (pos (plainRoot W)) (W .least) ≡ scan (λ r. atUnless (smallEnough plains r) TooLarge r) (plainCount W)
+plain-finds W plains has h = finds-8 W plains has (wide-clears _ _ _ _ .0 h)
+
+-- nothing, or 23 of the whole
+abbrev Or23 : Option Verdict → Type 0
+Or23 x = (x ≡ none) ⊎ (x ≡ some (Refused Plain Whole))
+
+unless-23 : (t : Bool) → Or23 (wholeUnless t Plain)
+unfolding wholeUnless unless
+unless-23 true = inl refl
+unless-23 false = inr refl
+
+then-23 : (x y : Option Verdict) → Or23 x → Or23 y → Or23 (x otherwise y)
+then-23 x y (inl e) h = ⊎-elim (λ f. inl (otherwise-none x y e ∙ f)) (λ f. inr (otherwise-none x y e ∙ f)) h
+then-23 x y (inr e) h = inr (otherwise-some x y _ e)
+
+scan-23 : (f : ℕ → Option Verdict) (n : ℕ) → ((r : ℕ) → Or23 (f r)) → Or23 (scan f n)
+unfolding scan
+scan-23 f zero h = inl refl
+scan-23 f (suc n) h = then-23 (scan f n) (f n) (scan-23 f n h) (h n)
+
+-- what the plain rows are refused with has place -1
+pub plain-refused : (W : WideSchema) → (plainRefusal W ≡ none) ⊎ (plainRefusal W ≡ some (Refused Plain Whole))
+unfolding plainRefusal
+plain-refused W = then-23 _ _ (unless-23 _) (scan-23 _ (plainCount W) (λ r. unless-23 _))

@@ -1,0 +1,120 @@
+-- 02, No. 1: the table that the converter fills means what the wide schema means, and a tableau of it refutes the wide schema.
+use Prim.Native.Nat.{ℕ, zero, suc, _+_, _*_, _-_, _≤_}
+use native.Mathlib.Omega.{arith}
+use mathlib.Core.Path.{_≡_, refl, sym, _∙_, ap, subst}
+use mathlib.Core.Bool.{true, false, true≢false}
+use mathlib.Core.List.{List, []}
+use mathlib.Core.Option.{Option, none, some}
+use lib.IntN.{ℤ, pos}
+use lib.Signed.{_≤ℤ_}
+use lib.ListN.{length, getD, replicate, length-append, length-replicate}
+use Rattle.stab.specs.Basic.{nat}
+use Rattle.stab.specs.Formula.{rowAt, Formula, tree}
+use Rattle.stab.specs.Meaning.{Assignment, truth, value}
+use Rattle.stab.specs.Node.{Tableau}
+use Rattle.stab.specs.Check.{formulasRefusal, check, checkOlder}
+use Rattle.stab.specs.Text.{padded}
+use Rattle.stab.specs.Refuted.{Refuted}
+use Rattle.stab.specs.declared.Verdict.{Verdict}
+use Rattle.stab.specs.declared.Verdict.the-variants.{Accepted}
+use Rattle.stab.proofs.Trees.{tree-agrees}
+use Rattle.stab.proofs.Soundness.{sound, sound-older}
+use Rattle.wide.specs.WideFormula.{wideTree}
+use Rattle.wide.specs.WideMeaning.{wideTruth}
+use Rattle.wide.specs.Plain.{constantRow, row}
+use Rattle.wide.specs.Convert.{WideSchema, plainTable, plainCount, plainRoot, convertRefusal, convertedTableBy, convertedTable}
+use Rattle.wide.proofs.Tables.{row-is, columns-length, row-padded}
+use Rattle.wide.proofs.PlainRows.{constant-tree}
+use Rattle.wide.proofs.Conversion.{Converts, convert-clears, HasPlainRows, root-means, judged}
+
+-- ---- the table
+
+padded-length : (n : ℕ) (t : List ℤ) → length t ≤ n → length (padded (pos 0) n t) ≡ n
+unfolding padded
+padded-length n t h =
+    omega (arith, length-append t (replicate (n - length t) (pos 0)), length-replicate (n - length t) (pos 0))
+
+count-length : (W : WideSchema) → length (plainTable W) ≡ 4 * plainCount W
+unfolding plainTable plainCount
+count-length W = columns-length _
+
+-- the lent table keeps its length
+pub converted-length : (W : WideSchema) → length (convertedTable W) ≡ W .room
+unfolding convertedTable convertedTableBy
+converted-length W = go (convertRefusal W) refl
+  where
+    go : (x : Option Verdict) → convertRefusal W ≡ x → length (convertedTableBy x W) ≡ W .room
+    go none e =
+        let K = convert-clears W .0 e in
+        padded-length (W .room) (plainTable W) (omega (arith, count-length W, K .room, K .plainRules .limit))
+    go (some v) e = padded-length (W .room) [] (omega arith)
+
+zeros : (m i : ℕ) → getD (replicate m (pos 0)) i (pos 0) ≡ pos 0
+zeros zero i = refl
+zeros (suc m) zero = refl
+zeros (suc m) (suc i) = zeros m i
+
+-- after a refusal every row of it is true
+cleared-row : (n p : ℕ) → rowAt (padded (pos 0) n []) p ≡ constantRow true
+unfolding padded rowAt constantRow row
+cleared-row n p =
+    row-is (zeros (n - 0) (4 * p)) (zeros (n - 0) (4 * p + 1)) (zeros (n - 0) (4 * p + 2)) (zeros (n - 0) (4 * p + 3))
+
+cleared-true : (W : WideSchema) (v : Verdict) → convertRefusal W ≡ some v → (σ : Assignment) (n r : ℕ) → truth σ n (tree (rowAt (convertedTable W)) r) ≡ true
+unfolding convertedTable convertedTableBy truth value
+cleared-true W v e σ n r =
+    ap (λ (f : Formula). value σ n f (pos 0))
+    (constant-tree (rowAt (convertedTable W)) r true (ap (λ (x : Option Verdict). rowAt (convertedTableBy x W) r) e ∙ cleared-row (W .room) r))
+
+-- ---- the theorems
+
+module _ (W : WideSchema) (converts : convertRefusal W ≡ none) where
+  kept : Converts W
+  kept = convert-clears W .0 converts
+
+  -- it starts with the plain rows
+  pub has-plain-rows : HasPlainRows W (rowAt (convertedTable W))
+  unfolding convertedTable convertedTableBy
+  has-plain-rows p l =
+      ap (λ (x : Option Verdict). rowAt (convertedTableBy x W) p) converts ∙ row-padded (W .room) (plainTable W) p (omega (arith, count-length W))
+
+  -- "The plain root is true exactly where the wide root is, at every n and assignment"
+  pub plain-means : (σ : Assignment) (n : ℕ) → truth σ n (tree (rowAt (convertedTable W)) (plainRoot W)) ≡ wideTruth σ n (wideTree (rowAt (W .wide)) (nat (W .root)))
+  plain-means σ n = root-means W (rowAt (convertedTable W)) has-plain-rows (kept .wideRules .formed) (kept .wideRules .rootRow) σ n
+
+  -- the table holds the plain rows, and the check's pass over formula rows finds nothing of them
+  pub plain-passes : (formulasRefusal (rowAt (convertedTable W)) (plainCount W) (plainCount W) (pos (plainRoot W)) (W .least) ≡ none) × (plainCount W ≤ 1024) × (4 * plainCount W ≤ length (convertedTable W))
+  plain-passes = (
+    judged W (rowAt (convertedTable W)) has-plain-rows (kept .wideRules) .1 (kept .plainRules .small),
+    kept .plainRules .limit,
+    omega (arith, converted-length W, kept .room, kept .plainRules .limit),
+  )
+
+-- the wide schema is false at every n from its least value up, under every assignment
+abbrev pub WideRefuted : WideSchema → Type 0
+WideRefuted W = (n : ℕ) (σ : Assignment) → W .least ≤ℤ pos n → wideTruth σ n (wideTree (rowAt (W .wide)) (nat (W .root))) ≡ false
+
+refuted-wide : (W : WideSchema) → Refuted (convertedTable W) (pos (plainRoot W)) (W .least) → WideRefuted W
+unfolding nat
+refuted-wide W refuted n σ h = go (convertRefusal W) refl
+  where
+    go : (x : Option Verdict) → convertRefusal W ≡ x → wideTruth σ n (wideTree (rowAt (W .wide)) (nat (W .root))) ≡ false
+    go none e = sym (plain-means W e σ n) ∙ refuted n σ h
+    go (some v) e = absurd (true≢false (sym (cleared-true W v e σ n (plainRoot W)) ∙ refuted n σ h))
+
+-- "so a closed tableau for the plain schema refutes the wide one", whichever entry accepts it: a tableau with that root and least value,
+-- whose schema table is the one filled or agrees with it up to the root
+module _ (W : WideSchema) (T : Tableau) (rows : (r : ℕ) → r ≤ plainRoot W → rowAt (T .schema) r ≡ rowAt (convertedTable W) r) (root : T .root ≡ pos (plainRoot W)) (least : T .least ≡ W .least) (nodes links : ℕ) where
+  same-refuted : Refuted (T .schema) (T .root) (T .least) → WideRefuted W
+  unfolding nat
+  same-refuted r =
+      refuted-wide W (λ n σ h.
+      ap (truth σ n) (sym (tree-agrees (rowAt (T .schema)) (rowAt (convertedTable W)) (plainRoot W) rows))
+      ∙ ap (λ (z : ℤ). truth σ n (tree (rowAt (T .schema)) (nat z))) (sym root)
+      ∙ r n σ (subst (λ (z : ℤ). z ≤ℤ pos n) (sym least) h))
+
+  pub wide-refuted : check T ≡ Accepted nodes links → WideRefuted W
+  wide-refuted h = same-refuted (sound T nodes links h)
+
+  pub wide-refuted-older : checkOlder T ≡ Accepted nodes links → WideRefuted W
+  wide-refuted-older h = same-refuted (sound-older T nodes links h)

@@ -1,0 +1,4 @@
+pub mod WideFormula
+pub mod WideMeaning
+pub mod Plain
+pub mod Convert

@@ -1,0 +1,156 @@
+// The pass over wide rows: which are well formed and small enough. The numbers worked out for a row, and the table that keeps them,
+// are those of the pass over 01's rows.
+ghost use mathlib.Core.Path.{_≡_};
+ghost use mathlib.Core.Option.{none};
+ghost use Prim.Native.Nat.{_+_, _*_, _<_, _≤_, _^_};
+ghost use lib.ListN.{length};
+ghost use lib.IntN.{pos};
+ghost use Rattle.stab.specs.Basic.{scan};
+ghost use Rattle.stab.specs.Formula.{rowAt, joined};
+ghost use Rattle.stab.specs.Check.{finding};
+ghost use Rattle.wide.specs.WideFormula.{wideKindOf, wideTree};
+ghost use Rattle.wide.specs.Convert.{wideRowRefusal, wideRefusal};
+ghost use Rattle.formula.specs.Rows.{keptIf, Summable};
+ghost use Rattle.widerows.specs.WideRows.{wideFactsOf, notJudged, wideJudged, wideTable, wideRowsTable, WidePassed};
+use formula::A;
+use formula::B;
+use formula::C;
+use formula::KIND;
+use formula::is_in;
+use formula::natural_in;
+use formula::rows::Facts;
+use formula::rows::Judged;
+use formula::rows::below_in;
+use formula::rows::constant;
+use formula::rows::iteration;
+use formula::rows::junction;
+use formula::rows::known;
+use formula::rows::literal;
+use formula::rows::part;
+use formula::rows::root_fits;
+use formula::rows::sized;
+use formula::under_in;
+use stab::Finding;
+use stab::Place;
+use stab::Refusal;
+
+// ---- one row
+
+// A number of the same kind as row r's, 0..11 where the kind is known.
+fn kind_in(schema: &[i32], s: usize, proof: &[i32], r: usize) -> usize
+    requires { ⌜ r < 2 ^ 32 ⌝ }
+    ensures { λ v. ⌜ wideKindOf (pos v) ≡ wideKindOf (joined (now (schema .entry)) s (now (proof .entry)) r .kind) ⌝ }
+{
+    if 0 < under_in(schema, s, proof, r, KIND) {
+        return 12;
+    }
+    natural_in(schema, s, proof, r, KIND)
+}
+
+// A not: a is a smaller row, b and c are 0.
+fn negation(schema: &[i32], s: usize, proof: &[i32], r: usize, facts: &[u32]) -> Judged
+    requires { ⌜ (r < 1024) × Summable (now facts) r ⌝ }
+    ensures { λ v. ⌜ v ≡ notJudged r (joined (now (schema .entry)) s (now (proof .entry)) r) (now (facts .entry)) ⌝ }
+{
+    if !below_in(schema, s, proof, r, A, r) {
+        return Judged::Ill;
+    }
+    if !is_in(schema, s, proof, r, B, 0) {
+        return Judged::Ill;
+    }
+    if !is_in(schema, s, proof, r, C, 0) {
+        return Judged::Ill;
+    }
+    let f = part(schema, s, proof, r, A, facts);
+    Judged::Formed(Facts {
+        size: 1 + f.size,
+        depth: 1 + f.depth,
+        loose: f.loose,
+        fixed: f.fixed,
+    })
+}
+
+// Row r, judged by its kind: 9, 10 and 11 have two parts, as 4 and 5 have.
+fn row(schema: &[i32], s: usize, proof: &[i32], r: usize, facts: &[u32]) -> Judged
+    requires { ⌜ (r < 1024) × WidePassed (joined (now schema) s (now proof)) (now facts) r ⌝ }
+    ensures { λ v. ⌜ v ≡ wideJudged (joined (now (schema .entry)) s (now (proof .entry))) r ⌝ }
+{
+    let k = kind_in(schema, s, proof, r);
+    if k < 2 {
+        return constant(schema, s, proof, r);
+    }
+    if k < 4 {
+        return literal(schema, s, proof, r);
+    }
+    if k < 6 {
+        return junction(schema, s, proof, r, facts);
+    }
+    if k < 8 {
+        return iteration(schema, s, proof, r, facts);
+    }
+    if k < 9 {
+        return negation(schema, s, proof, r, facts);
+    }
+    if k < 12 {
+        return junction(schema, s, proof, r, facts);
+    }
+    Judged::Ill
+}
+
+// ---- every row
+
+// What is found at row r; its numbers are kept where that is nothing.
+fn step(schema: &[i32], s: usize, proof: &[i32], r: usize, facts: &mut [u32]) -> Finding
+    requires { ⌜ (r < 1024) × (4 * r + 3 < length (now facts)) × WidePassed (joined (now schema) s (now proof)) (now facts) r ⌝ }
+    ensures { λ v. ⌜ finding v ≡ wideRowRefusal (joined (now (schema .entry)) s (now (proof .entry))) r ⌝ }
+    ensures { λ v. ⌜ now (facts .exit) ≡ keptIf (wideRowRefusal (joined (now (schema .entry)) s (now (proof .entry))) r) (now (facts .entry)) r (wideFactsOf (wideTree (joined (now (schema .entry)) s (now (proof .entry))) r)) ⌝ }
+{
+    let found = row(schema, s, proof, r, facts);
+    sized(found, r, facts)
+}
+
+// What is found first among n rows. The table holds the numbers of each before it.
+fn each(schema: &[i32], s: usize, proof: &[i32], n: usize, facts: &mut [u32]) -> Finding
+    requires { ⌜ (n ≤ 1024) × (4 * n ≤ length (now facts)) ⌝ }
+    ensures { λ v. ⌜ finding v ≡ scan (wideRowRefusal (joined (now (schema .entry)) s (now (proof .entry)))) n ⌝ }
+    ensures { λ v. ⌜ (scan (wideRowRefusal (joined (now (schema .entry)) s (now (proof .entry)))) n ≡ none → WidePassed (joined (now (schema .entry)) s (now (proof .entry))) (now (facts .exit)) n) ⌝ }
+    ensures { λ v. ⌜ now (facts .exit) ≡ wideTable (joined (now (schema .entry)) s (now (proof .entry))) (now (facts .entry)) n ⌝ }
+{
+    let mut r = 0;
+    while r < n {
+        let found = step(schema, s, proof, r, facts);
+        let Finding::Nothing = found else {
+            return found;
+        };
+        r += 1;
+    }
+    Finding::Nothing
+}
+
+// What is found of n wide rows: the root and the least value, then every row, then that the root is outer. The rest of the table
+// stands where a proof's rows would.
+pub fn wide_rows(wide: &[i32], n: usize, root: i32, least: i32, facts: &mut [u32]) -> Finding
+    requires { ⌜ (n ≤ 1024) × (4 * n ≤ length (now wide)) × (4 * n ≤ length (now facts)) ⌝ }
+    ensures { λ v. ⌜ finding v ≡ wideRefusal (rowAt (now (wide .entry))) n root least ⌝ }
+    ensures { λ v. ⌜ now (facts .exit) ≡ wideRowsTable (rowAt (now (wide .entry))) (now (facts .entry)) n root least ⌝ }
+{
+    if !root_fits(n, root, least) {
+        return Finding::Found {
+            why: Refusal::Root,
+            place: Place::Whole,
+        };
+    }
+    let end = 4 * n;
+    let found = each(wide, n, &wide[end..], n, facts);
+    let Finding::Nothing = found else {
+        return found;
+    };
+    let f = known(facts, signed::natural(root));
+    if f.loose == 0 {
+        return Finding::Nothing;
+    }
+    Finding::Found {
+        why: Refusal::Root,
+        place: Place::Whole,
+    }
+}

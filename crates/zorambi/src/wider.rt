@@ -1,0 +1,37 @@
+// The entry that converts a wide schema: one number back as from a reader, and the plain schema in lent results.
+use stab::SchemaRead;
+use stab::Verdict;
+ghost use mathlib.Core.Path.{_≡_};
+ghost use lib.ListN.{length};
+ghost use Rattle.stab.specs.Entry.{schemaPacked, schemaResults};
+ghost use Rattle.wide.specs.Convert.{converted, convertedTable};
+
+// The plain rows of a wide schema are put in the table; the results are the plain root, the least value and the number of plain rows.
+#[no_mangle]
+pub extern "C" fn zorambi_convert(
+    wide: &[i32],
+    wide_rows: usize,
+    root: i32,
+    least: i32,
+    plain: &mut [i32],
+    results: &mut [i32; 3],
+) -> u64
+    ensures answer { λ r. ⌜ r ≡ schemaPacked (converted (record { wide = now (wide .entry); wideRows = «wide_rows»; root = root; least = least; room = length (now (plain .entry)) })) ⌝ }
+    ensures results { λ r. ⌜ now (results .exit) ≡ schemaResults (converted (record { wide = now (wide .entry); wideRows = «wide_rows»; root = root; least = least; room = length (now (plain .entry)) })) ⌝ }
+    ensures rows { λ r. ⌜ now (plain .exit) ≡ convertedTable (record { wide = now (wide .entry); wideRows = «wide_rows»; root = root; least = least; room = length (now (plain .entry)) }) ⌝ }
+{
+    match convert::convert(wide, wide_rows, root, least, plain) {
+        SchemaRead::Schema {
+            root: plain_root,
+            least: same_least,
+            rows,
+        } => {
+            *results = [plain_root, same_least, signed::of(rows)];
+            answer::pack(Verdict::Accepted { nodes: 0, links: 0 })
+        }
+        SchemaRead::Refused { why, place } => {
+            *results = [0, 0, 0];
+            answer::pack(Verdict::Refused { why, place })
+        }
+    }
+}
