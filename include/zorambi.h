@@ -114,6 +114,16 @@ uint64_t zorambi_find_model(const int32_t *schema, size_t schema_len, size_t sch
 
 /* ---- Connectives as designers write them. */
 
+/* A table of wide rows, which may also be of kinds 8 not (a), 9 implies, 10 equivalent and 11
+ * exclusive or (a, b), made plain. zorambi_read_schema reads the text of a wide schema too. The lent table of plain rows needs its
+ * full size, 4096 numbers. The results of a success are the root, least and the number of plain rows; the table is 0 past these.
+ * The plain root is true exactly where the wide root is, at every n and assignment, so that a tableau for the plain schema
+ * which is accepted refutes the wide one. After a refusal the table and the results are all 0; 6, 7 and 8 speak of the wide rows.
+ * A wide row gives a plain row for itself and one for its negation, in this order; kind 8 gives none; kinds 10 and 11 give three
+ * and three, two conjunctions and their or. */
+uint64_t zorambi_convert(const int32_t *wide, size_t wide_len, size_t wide_rows, int32_t root, int32_t least,
+                         int32_t *plain, size_t plain_len, int32_t results[3]);
+
 /* ---- All small schemata. */
 
 /* ---- Older records, tidied. */
@@ -155,6 +165,7 @@ enum zorambi_answer_number {
   ZORAMBI_NUMBER = 21,          /* writing: a number beyond 5 digits, or sets that do not follow one another to the last member */
   ZORAMBI_OUTPUT = 22,          /* writing: the output is too short, or the text too long */
   /* converting */
+  ZORAMBI_PLAIN = 23,           /* too many plain rows, or one too large or too deep; place: -1 */
   /* growing */
   /* enquiring */
   /* checking */
@@ -305,6 +316,11 @@ static inline uint64_t zorambi_c_find_model(const int32_t *schema, size_t schema
                             zorambi_lent_numbers(pairs, pairs_len), pairs_len, results);
 }
 /* Connectives as designers write them. */
+static inline uint64_t zorambi_c_convert(const int32_t *wide, size_t wide_len, size_t wide_rows, int32_t root, int32_t least,
+                                         int32_t *plain, size_t plain_len, int32_t results[3]) {
+  return zorambi_convert(zorambi_numbers_of(wide, wide_len), wide_len, wide_rows, root, least,
+                         zorambi_lent_numbers(plain, plain_len), plain_len, results);
+}
 /* All small schemata. */
 /* Older records, tidied. */
 /* One record for either fault. */
@@ -332,6 +348,7 @@ static inline uint64_t zorambi_c_find_model(const int32_t *schema, size_t schema
 /* A failing width. */
 #define zorambi_find_model zorambi_c_find_model
 /* Connectives as designers write them. */
+#define zorambi_convert zorambi_c_convert
 /* All small schemata. */
 /* Older records, tidied. */
 /* One record for either fault. */

@@ -225,6 +225,23 @@ static void find_model(void) {
 
 /* ---- Connectives as designers write them. */
 
+/* Some p_i other than itself: rows 0, 1 of the literal, 2 to 4 and 5 to 7 of the exclusive or, 8, 9 of the big or. */
+static void convert(void) {
+  static const int32_t wide[] = {2, 0, 2, 0, 11, 0, 0, 0, 7, 1, 0, 0};
+  static const int32_t plain[] = {2, 0, 2, 0, 3, 0, 2, 0, 4, 0, 1, 0, 4, 1, 0, 0, 5, 2, 3, 0,
+                                  4, 0, 0, 0, 4, 1, 1, 0, 5, 5, 6, 0, 7, 4, 0, 0, 6, 7, 0, 0};
+  int32_t results[3] = {7, 7, 7};
+  memset(table, 7, sizeof table);
+  answers("plain rows", zorambi_convert(wide, 12, 3, 2, 5, table, 4096, results), ZORAMBI_ACCEPTED, 0);
+  test("plain rows, results", results[0] == 8 && results[1] == 5 && results[2] == 10);
+  test("plain rows, table", memcmp(table, plain, sizeof plain) == 0 && all_zero(table + 40, 4056));
+  answers("a wide root that is not outer", zorambi_convert(wide, 12, 3, 1, 5, table, 4096, results), ZORAMBI_ROOT, -1);
+  test("a wide root that is not outer, memory", all_zero(table, 4096) && all_zero(results, 3));
+  answers("no wide row", zorambi_convert(NULL, 0, 0, 0, 0, table, 4096, results), ZORAMBI_ROOT, -1);
+  answers("wide rows counted", zorambi_convert(NULL, 0, 3, 2, 5, table, 4096, results), ZORAMBI_TABLE_TOO_SHORT, -1);
+  answers("no table for plain rows", zorambi_convert(wide, 12, 3, 2, 5, NULL, 0, results), ZORAMBI_TABLE_TOO_SHORT, 0);
+}
+
 /* ---- All small schemata. */
 
 /* ---- Older records, tidied. */
@@ -249,6 +266,7 @@ int main(void) {
   /* a failing width */
   find_model();
   /* connectives as designers write them */
+  convert();
   /* all small schemata */
   /* older records, tidied */
   /* one record for either fault */

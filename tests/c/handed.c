@@ -92,6 +92,8 @@ int main(void) {
   HANDS(zorambi_find_model(NULL, 0, 12, 13, 14, 15, NULL, 0, r), 19, SOME, 0, 12, 13, 14, 15, SOME, 0, AT(r));
 
   /* Connectives as designers write them. */
+  HANDS(zorambi_convert(a, 11, 12, 13, 14, b, 15, r), 20, AT(a), 11, 12, 13, 14, AT(b), 15, AT(r));
+  HANDS(zorambi_convert(NULL, 0, 12, 13, 14, NULL, 0, r), 20, SOME, 0, 12, 13, 14, SOME, 0, AT(r));
 
   /* All small schemata. */
 

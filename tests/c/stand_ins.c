@@ -145,6 +145,11 @@ uint64_t zorambi_find_model(const int32_t *schema, size_t schema_len, size_t sch
 }
 
 /* Connectives as designers write them. */
+uint64_t zorambi_convert(const int32_t *wide, size_t wide_len, size_t wide_rows, int32_t root, int32_t least,
+                         int32_t *plain, size_t plain_len, int32_t results[3]) {
+  NOTE(AT(wide), wide_len, wide_rows, NUMBER(root), NUMBER(least), AT(plain), plain_len, AT(results));
+  return 20;
+}
 
 /* All small schemata. */
 

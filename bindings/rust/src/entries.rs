@@ -240,6 +240,18 @@ entry! {
 
 // Connectives as designers write them.
 
+entry! {
+    /// Makes plain rows of wide ones. Results: root, least, rows.
+    convert = zorambi_convert(
+        wide: &[i32],
+        wide_rows: usize,
+        root: i32,
+        least: i32,
+        plain: &mut [i32],
+        results: &mut [i32; 3],
+    )
+}
+
 // All small schemata.
 
 // Older records, tidied.

@@ -82,6 +82,8 @@ mod find;
 pub use find::find_model;
 
 // Connectives as designers write them.
+mod convert;
+pub use convert::convert;
 
 // All small schemata.
 

@@ -53,6 +53,7 @@ refusals! {
     Number = 21, "a number beyond five digits, or sets that do not follow one another";
     Output = 22, "an output shorter than the text, or a text over 65,536 bytes";
     // Connectives as designers write them.
+    Plain = 23, "plain rows that are too many, or one too large or too deep";
     // A tableau that grows.
     // Enquiry and commit.
     // Proof rows written twice.

@@ -29,6 +29,7 @@ pub const COMMANDS: &[Command] = &[
     // A failing width.
     ("find", "DIR N", find::find),
     // Connectives as designers write them.
+    ("convert", "DIR", convert::convert),
     // All small schemata.
     // Older records, tidied.
     // One record for either fault.
@@ -39,6 +40,7 @@ pub const COMMANDS: &[Command] = &[
 pub mod find;
 
 // Connectives as designers write them.
+pub mod convert;
 
 // All small schemata.
 
