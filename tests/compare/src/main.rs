@@ -4,7 +4,7 @@ use std::path::Path;
 use std::process::exit;
 use zorambi_compare::kinds::Run;
 use zorambi_compare::tally::Tally;
-use zorambi_compare::{edges, find, heavy, paper, records, sides};
+use zorambi_compare::{convert, edges, find, heavy, paper, records, sides};
 use zorambi_reference::generate::{across, case, ranges, twice, Case};
 
 const USE: &str = "\
@@ -20,6 +20,7 @@ const ENTRIES: &[Entry] = &[
     // A model at an n that is named.
     (find::test, find::heavy),
     // Wide connectives.
+    (convert::test, convert::heavy),
     // All small schemata.
     // Older records, tidied.
     // Two records, joined.

@@ -4,6 +4,7 @@
 //! papers alone, to be run beside another implementation.
 //!
 //! * [`formula`]: rows, well-formedness, size, depth, outer rows, "lowered by k", "instance at n - c"
+//! * [`convert`]: a wide schema written in plain rows (No. 1, "Connectives as designers write them")
 //! * [`tableau`]: the check, and the older check, with every refusal in the paper's order
 //! * [`model`]: the model check and the value of a formula
 //! * [`find`]: the first model at an n that is named (No. 13, "A failing width, shown")
@@ -18,6 +19,7 @@
 #![forbid(unsafe_code)]
 
 pub mod again;
+pub mod convert;
 pub mod find;
 pub mod formula;
 pub mod generate;

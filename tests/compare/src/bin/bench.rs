@@ -7,6 +7,7 @@ use std::path::Path;
 use zorambi::entries;
 use zorambi::entries::check_older;
 use zorambi_compare::calls::{of_library, of_reference, CheckEntry};
+use zorambi_compare::convert;
 use zorambi_compare::find;
 use zorambi_compare::heavy::{self, Part};
 use zorambi_compare::records;
@@ -423,6 +424,28 @@ fn texts(shipped: &[Shipped]) {
     text_row("writing a model of 4,096 pairs", bytes, write_model("model", 9999, &pairs, bytes));
 }
 
+/// Wide connectives written in plain rows.
+fn converts() {
+    println!("\n## Wide connectives");
+    heading("wide schema | answer | rows | plain rows");
+    for (name, asked) in convert::worst() {
+        let seen = convert::of_both(&asked).unwrap_or_else(|why| panic!("{name}: {why}"));
+        let convert::Asked { root, least, wide, wide_count, length } = &asked;
+        let [mut ours, mut theirs] = [(); 2].map(|()| vec![1; *length]);
+        let mut results = [0; 3];
+        let times = time(
+            || {
+                black_box(convert::convert(black_box(wide), *wide_count, *root, *least, &mut ours, &mut results));
+            },
+            || {
+                let wide = black_box(wide);
+                black_box(zorambi_reference::convert::convert(*root, *least, wide, *wide_count, &mut theirs));
+            },
+        );
+        println!("| {name} | {} | {wide_count} | {} | {} |", seen.answer(), seen.results[2], times.cells());
+    }
+}
+
 /// A family: its cost as one number doubles, and the factor from the row before.
 fn growth(what: &str, sizes: &[usize], cost: impl Fn(usize) -> Times) {
     println!("\n| {what} | library | factor | Rust | factor | ratio |");
@@ -502,5 +525,6 @@ fn main() {
     models(&shipped);
     finds();
     texts(&shipped);
+    converts();
     all_growth();
 }
