@@ -1,6 +1,6 @@
 // Proof rows written twice, found by chains of rows that may be equal.
-mod chain;
-mod row;
+pub mod chain;
+pub mod row;
 
 use stab::Finding;
 use stab::Place;

@@ -1,6 +1,6 @@
 -- Each test of the definitions passes exactly if the statement that it stands for holds.
 use Prim.Native.Nat.{ℕ, _≤_, _<_}
-use mathlib.Core.Path.{_≡_, refl, _∙_, ap₂}
+use mathlib.Core.Path.{_≡_, refl, _∙_, ap, ap₂}
 use mathlib.Core.Logic.{_↔_, Iff·trans, _⊎_, inl, inr, ⊎-elim}
 use mathlib.Core.Bool.{Bool, true, false, not, true≢false, false≢true}
 use mathlib.Core.List.{List, [], _∷_, List·Memᴰ}
@@ -10,7 +10,8 @@ use lib.IntN.{ℤ, pos}
 use lib.Signed.{leZ, ltZ, _≤ℤ_, _<ℤ_}
 use borrow.Author.Tests.{le-leb, leb-true, lt-ltb, ltb-true, eq-eqb, eqb-true}
 use Rattle.stab.specs.Basic.{if_then_else_, _and_, _or_, _implies_, eqZ, within, below, has, allOf, ascending, sameList, _otherwise_, scan, unless}
-use Rattle.stab.specs.Check.{wholeUnless, atUnless}
+use Rattle.stab.specs.Formula.{Row}
+use Rattle.stab.specs.Check.{sameRow, wholeUnless, atUnless}
 use Rattle.stab.specs.declared.Place.the-variants.{Whole, At}
 use Rattle.stab.specs.declared.Refusal.{Refusal}
 use Rattle.stab.specs.declared.Verdict.the-variants.{Refused}
@@ -100,6 +101,13 @@ same-list-tests [] (y ∷ ys) = (λ h. absurd (false≢true h), λ e. cc)
 same-list-tests (x ∷ xs) [] = (λ h. absurd (false≢true h), λ e. cc)
 same-list-tests (x ∷ xs) (y ∷ ys) =
     Iff·trans (eqZ-tests x y & same-list-tests xs ys) (λ p. ap₂ _∷_ (p .0) (p .1), λ e. (cc, cc))
+
+pub same-row-tests : (v w : Row) → sameRow v w tests (v ≡ w)
+unfolding sameRow
+same-row-tests v w =
+    Iff·trans
+    (eqZ-tests (v .kind) (w .kind) & eqZ-tests (v .a) (w .a) & eqZ-tests (v .b) (w .b) & eqZ-tests (v .c) (w .c))
+    (λ p i. record { kind = p .0 i; a = p .1 .0 i; b = p .1 .1 .0 i; c = p .1 .1 .1 i }, λ e. (ap (λ (r : Row). r .kind) e, (ap (λ (r : Row). r .a) e, (ap (λ (r : Row). r .b) e, ap (λ (r : Row). r .c) e))))
 
 -- ---- findings
 

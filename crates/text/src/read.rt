@@ -152,7 +152,7 @@ pub fn read_model(text: &[u8], table: &mut [i32]) -> ModelRead
 }
 
 // All three lent tables have their full size.
-fn full(table: &[i32], nodes: &[i32], members: &[i32]) -> bool
+pub fn full(table: &[i32], nodes: &[i32], members: &[i32]) -> bool
     ensures { λ r. ⌜ r ≡ (leb 4096 (length (now (table .entry))) and leb 9216 (length (now (nodes .entry))) and leb 8192 (length (now (members .entry)))) ⌝ }
 {
     if table.len() < 4096 {

@@ -3,6 +3,7 @@ pub mod again;
 pub mod failing;
 pub mod fault;
 pub mod texts;
+pub mod tidier;
 pub mod wider;
 
 use stab::Verdict;

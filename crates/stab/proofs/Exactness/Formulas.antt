@@ -11,13 +11,13 @@ use Rattle.stab.specs.Basic.{nat}
 use Rattle.stab.specs.Formula.{Row, tree, size, depth, smallEnough}
 use Rattle.stab.specs.Node.{Tableau, rowCount}
 use Rattle.stab.specs.Node.{rows as rowsOf}
-use Rattle.stab.specs.Check.{rowRefusal, sameRow, standsBefore, repeatRefusal, freshRowRefusal, rootFits, formulasBy, formulasRefusal, presentFormulas}
+use Rattle.stab.specs.Check.{rowRefusal, standsBefore, repeatRefusal, freshRowRefusal, rootFits, formulasBy, formulasRefusal, presentFormulas}
 use Rattle.stab.specs.Keeps.{KeepsRow, KeepsFormulas, Fresh}
 use Rattle.stab.specs.declared.Refusal.the-variants.{Root, IllFormed, TooLarge, Repeated}
 use Rattle.stab.proofs.Bools.{decide}
 use Rattle.stab.proofs.Scans.{below-suc}
 use Rattle.stab.proofs.Formed.{formed-tests, outer-tests}
-use Rattle.stab.proofs.Tests.{_tests_, _&_, or-tests, not-tests, le-tests, lt-tests, eqZ-tests, below-tests, within-tests, _clears_, whole-clears, at-clears, _then_, scan-clears}
+use Rattle.stab.proofs.Tests.{_tests_, _&_, or-tests, not-tests, le-tests, lt-tests, below-tests, within-tests, same-row-tests, _clears_, whole-clears, at-clears, _then_, scan-clears}
 
 row-clears : (rows : ℕ → Row) (r : ℕ) → rowRefusal rows r clears KeepsRow rows r
 unfolding rowRefusal smallEnough
@@ -37,13 +37,6 @@ formulas-clears rows n s root least =
     (λ p. record { rootRow = p .0 .0; leastRange = p .0 .1; each = p .1 .0; rootOuter = p .1 .1 }, λ k. ((k .rootRow, k .leastRange), (k .each, k .rootOuter)))
 
 -- ---- 02, No. 9
-
-same-row-tests : (v w : Row) → sameRow v w tests (v ≡ w)
-unfolding sameRow
-same-row-tests v w =
-    Iff·trans
-    (eqZ-tests (v .kind) (w .kind) & eqZ-tests (v .a) (w .a) & eqZ-tests (v .b) (w .b) & eqZ-tests (v .c) (w .c))
-    (λ p i. record { kind = p .0 i; a = p .1 .0 i; b = p .1 .1 .0 i; c = p .1 .1 .1 i }, λ e. (ap (λ (r : Row). r .kind) e, (ap (λ (r : Row). r .a) e, (ap (λ (r : Row). r .b) e, ap (λ (r : Row). r .c) e))))
 
 -- a row stands before exactly if it is one of the rows before
 stands-tests : (rows : ℕ → Row) (r : ℕ) (w : Row) → standsBefore rows r w tests ((q : ℕ) × (q < r) × (rows q ≡ w))

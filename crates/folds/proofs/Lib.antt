@@ -1,0 +1,5 @@
+pub mod Numbers
+mod Parts
+mod Earlier
+pub mod Fronts
+mod Steps

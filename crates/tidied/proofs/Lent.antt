@@ -1,0 +1,90 @@
+-- 02, No. 10: refusals, and what stands in lent memory after them.
+use Prim.Native.Nat.{ℕ, _≤_, _<_}
+use native.Mathlib.Omega.{arith}
+use mathlib.Core.Path.{_≡_, refl, sym, _∙_, ap}
+use mathlib.Core.Bool.{Bool, true, false}
+use mathlib.Core.List.{List, []}
+use lib.Dec.{leb}
+use lib.IntN.{ℤ, pos}
+use lib.ListN.{length}
+use Rattle.stab.specs.Basic.{_and_, unless}
+use Rattle.stab.specs.Node.{Tableau, rowCount}
+use Rattle.stab.specs.Check.{atUnless, checkOlder, verdict}
+use Rattle.stab.specs.Text.{padded}
+use Rattle.stab.specs.Answer.{Packs}
+use Rattle.stab.specs.declared.Place.{Place}
+use Rattle.stab.specs.declared.Place.the-variants.{At}
+use Rattle.stab.specs.declared.Refusal.{Refusal}
+use Rattle.stab.specs.declared.Refusal.the-variants.{TableTooShort}
+use Rattle.stab.specs.declared.Verdict.{Verdict}
+use Rattle.stab.specs.declared.Verdict.the-variants.{Accepted, Refused}
+use Rattle.stab.specs.declared.ProofRead.the-variants.{Proof, Refused as ProofRefused}
+use Rattle.stab.proofs.Bools.{none-unless, some-unless}
+use Rattle.stab.proofs.Packed.{older-packs}
+use Rattle.stab.proofs.Entries.{ProofFits}
+use Rattle.stab.proofs.Exactness.{older-accepts-exactly}
+use Rattle.tidied.specs.Tidied.{tidied}
+use Rattle.tidied.specs.Tidy.{Rooms, tidyVerdict, tidyAnswer, tidy, tidyTableBy, tidyProof, tidyNodeTable, tidyMemberTable}
+use Rattle.tidied.proofs.Tidying.{tidied-keeps}
+
+-- the result tables have their full sizes
+abbrev Full : Rooms → Type 0
+Full R = (leb 4096 (R .rows) and leb 9216 (R .nodes) and leb 8192 (R .members)) ≡ true
+
+full-verdict : (R : Rooms) (T : Tableau) → Full R → tidyVerdict R T ≡ checkOlder T
+unfolding tidyVerdict atUnless verdict
+full-verdict R T h = ap (λ x. verdict x (checkOlder T)) (none-unless _ (Refused TableTooShort (At 0)) h)
+
+-- "A record refused by the older entry is refused with that number and place."
+pub older-refused : (R : Rooms) (T : Tableau) (why : Refusal) (p : Place) → Full R → checkOlder T ≡ Refused why p → tidy R T ≡ ProofRefused why p
+unfolding tidy tidyAnswer
+older-refused R T why p h e = ap (λ v. tidyAnswer v (tidied T)) (full-verdict R T h ∙ e)
+
+-- a record that it accepts is tidied, with the counts of what is left
+pub older-tidied : (R : Rooms) (T : Tableau) (n l : ℕ) → Full R → checkOlder T ≡ Accepted n l → tidy R T ≡ Proof (tidied T .proofRows) (tidied T .nodeRows) (tidied T .memberCount)
+unfolding tidy tidyAnswer
+older-tidied R T n l h e = ap (λ v. tidyAnswer v (tidied T)) (full-verdict R T h ∙ e)
+
+-- a result table that is too short comes first
+pub short-first : (R : Rooms) (T : Tableau) → (leb 4096 (R .rows) and leb 9216 (R .nodes) and leb 8192 (R .members)) ≡ false → tidy R T ≡ ProofRefused TableTooShort (At 0)
+unfolding tidy tidyAnswer tidyVerdict atUnless verdict
+short-first R T h = ap (λ x. tidyAnswer (verdict x (checkOlder T)) (tidied T)) (some-unless _ (Refused TableTooShort (At 0)) h)
+
+-- after a refusal all that was lent is 0
+pub refused-zeros : (R : Rooms) (T : Tableau) (why : Refusal) (p : Place) → tidyVerdict R T ≡ Refused why p → (tidyProof R T ≡ padded (pos 0) (R .rows) []) × (tidyNodeTable R T ≡ padded (pos 0) (R .nodes) []) × (tidyMemberTable R T ≡ padded (pos 0) (R .members) [])
+unfolding tidyProof tidyNodeTable tidyMemberTable tidyTableBy
+refused-zeros R T why p e = (
+  ap (λ v. tidyTableBy v (R .rows) (tidied T .proof)) e,
+  ap (λ v. tidyTableBy v (R .nodes) (tidied T .nodes)) e,
+  ap (λ v. tidyTableBy v (R .members) (tidied T .members)) e,
+)
+
+-- ---- the one number
+
+-- what the tool finds packs, and what it gives is within the limits
+tidy-packs : (R : Rooms) (T : Tableau) → Packs (tidyVerdict R T)
+unfolding tidyVerdict atUnless verdict unless
+tidy-packs R T = by (leb 4096 (R .rows) and leb 9216 (R .nodes) and leb 8192 (R .members))
+  where
+    by : (b : Bool) → Packs (verdict (unless b (Refused TableTooShort (At 0))) (checkOlder T))
+    by true = older-packs T
+    by false = omega arith
+
+-- an acceptance is the older check's
+tidy-accepts : (R : Rooms) (T : Tableau) (n l : ℕ) → tidyVerdict R T ≡ Accepted n l → checkOlder T ≡ Accepted n l
+unfolding tidyVerdict atUnless verdict unless
+tidy-accepts R T n l e = by (leb 4096 (R .rows) and leb 9216 (R .nodes) and leb 8192 (R .members)) e
+  where
+    by : (b : Bool) → verdict (unless b (Refused TableTooShort (At 0))) (checkOlder T) ≡ Accepted n l → checkOlder T ≡ Accepted n l
+    by true d = d
+    by false d = let z : _≡_ {A = ℕ} 0 1 = cc in absurd (omega arith)
+
+pub tidy-fits : (R : Rooms) (T : Tableau) → ProofFits (tidy R T)
+unfolding tidy tidyAnswer rowCount
+tidy-fits R T = by (tidyVerdict R T) refl (tidy-packs R T)
+  where
+    by : (v : Verdict) → tidyVerdict R T ≡ v → Packs v → ProofFits (tidyAnswer v (tidied T))
+    by (Accepted n l) e p =
+        let k = tidied-keeps T (older-accepts-exactly T n l .0 (tidy-accepts R T n l e) .0) .older .tables in
+        (omega (arith, k .rowLimit), k .nodeLimit, k .memberLimit)
+    by (Refused why q) e p = p

@@ -1,0 +1,5 @@
+mod Inserts
+mod Places
+mod Nodes
+mod Fitting
+mod Answers
