@@ -128,6 +128,20 @@ uint64_t zorambi_convert(const int32_t *wide, size_t wide_len, size_t wide_rows,
 
 /* ---- Older records, tidied. */
 
+/* Each proof row that equals an earlier schema or proof row, its parts under their new numbers, is folded into
+ * the earliest one; rows folded away are left out, sets and fields get the new numbers, each set is sorted anew without doubles.
+ * The schema stays as it is. The lent tables need their full sizes, 4096, 9216 and 8192 numbers; the results of a success are the
+ * numbers of proof rows, nodes and members, and the tables are 0 past these. What the older check accepts, zorambi_check accepts
+ * after tidying, with the same counts, and tidying again changes nothing. What it refuses is refused alike; tables and results
+ * are then all 0. */
+uint64_t zorambi_tidy(const int32_t *schema, size_t schema_len, size_t schema_rows,
+                      const int32_t *proof, size_t proof_len, size_t proof_rows,
+                      int32_t root, int32_t least,
+                      const int32_t *nodes, size_t nodes_len, size_t node_rows,
+                      const int32_t *members, size_t members_len, size_t member_count,
+                      int32_t *tidy_proof, size_t tidy_proof_len, int32_t *tidy_nodes, size_t tidy_nodes_len,
+                      int32_t *tidy_members, size_t tidy_members_len, int32_t results[3]);
+
 /* ---- One record for either fault. */
 
 /* ---- A tableau that grows. */
@@ -323,6 +337,19 @@ static inline uint64_t zorambi_c_convert(const int32_t *wide, size_t wide_len, s
 }
 /* All small schemata. */
 /* Older records, tidied. */
+static inline uint64_t zorambi_c_tidy(const int32_t *schema, size_t schema_len, size_t schema_rows, const int32_t *proof,
+                                      size_t proof_len, size_t proof_rows, int32_t root, int32_t least, const int32_t *nodes,
+                                      size_t nodes_len, size_t node_rows, const int32_t *members, size_t members_len,
+                                      size_t member_count, int32_t *tidy_proof, size_t tidy_proof_len, int32_t *tidy_nodes,
+                                      size_t tidy_nodes_len, int32_t *tidy_members, size_t tidy_members_len,
+                                      int32_t results[3]) {
+  return zorambi_tidy(zorambi_numbers_of(schema, schema_len), schema_len, schema_rows, zorambi_numbers_of(proof, proof_len),
+                      proof_len, proof_rows, root, least, zorambi_numbers_of(nodes, nodes_len), nodes_len, node_rows,
+                      zorambi_numbers_of(members, members_len), members_len, member_count,
+                      zorambi_lent_numbers(tidy_proof, tidy_proof_len), tidy_proof_len,
+                      zorambi_lent_numbers(tidy_nodes, tidy_nodes_len), tidy_nodes_len,
+                      zorambi_lent_numbers(tidy_members, tidy_members_len), tidy_members_len, results);
+}
 /* One record for either fault. */
 /* A tableau that grows. */
 
@@ -351,6 +378,7 @@ static inline uint64_t zorambi_c_convert(const int32_t *wide, size_t wide_len, s
 #define zorambi_convert zorambi_c_convert
 /* All small schemata. */
 /* Older records, tidied. */
+#define zorambi_tidy zorambi_c_tidy
 /* One record for either fault. */
 /* A tableau that grows. */
 

@@ -246,6 +246,31 @@ static void convert(void) {
 
 /* ---- Older records, tidied. */
 
+/* False twice, as schema row 0 and proof row 1, and once more as proof row 2: rule 5 on any of them. Tidied, row 0 is the only one. */
+static void tidy(void) {
+  static const int32_t rows[] = {1, 0, 0, 0, 1, 0, 0, 0}, nodes_in[] = {-1, 5, 0, -1, -1, -1, 0, 0, 1}, members_in[] = {0};
+  int32_t results[3] = {7, 7, 7};
+  memset(table, 7, sizeof table);
+  memset(nodes, 7, sizeof nodes);
+  memset(members, 7, sizeof members);
+  answers("tidied", zorambi_tidy(rows, 4, 1, rows, 8, 2, 0, 3, nodes_in, 9, 1, members_in, 1, 1, table, 4096, nodes, 9216, members, 8192, results),
+          ZORAMBI_ACCEPTED, 0);
+  test("tidied, results", results[0] == 0 && results[1] == 1 && results[2] == 1);
+  test("tidied, rows", all_zero(table, 4096));
+  test("tidied, nodes", memcmp(nodes, nodes_in, sizeof nodes_in) == 0 && all_zero(nodes + 9, 9207) && all_zero(members, 8192));
+  answers("tidied, checked", zorambi_check(rows, 4, 1, table, 4096, 0, 0, 3, nodes, 9216, 1, members, 8192, 1), ZORAMBI_ACCEPTED, 0);
+  answers("no node to tidy", zorambi_tidy(rows, 4, 1, rows, 8, 2, 0, 3, NULL, 0, 0, NULL, 0, 0, table, 4096, nodes, 9216, members, 8192, results),
+          ZORAMBI_PARENT, -1);
+  test("no node to tidy, memory", all_zero(nodes, 9216) && all_zero(results, 3));
+  answers("nothing to tidy", zorambi_tidy(NULL, 0, 0, NULL, 0, 0, 0, 0, NULL, 0, 0, NULL, 0, 0, table, 4096, nodes, 9216, members, 8192, results),
+          ZORAMBI_ROOT, -1);
+  answers("nothing to tidy counted",
+          zorambi_tidy(NULL, 0, 1, NULL, 0, 1, 0, 0, NULL, 0, 1, NULL, 0, 1, table, 4096, nodes, 9216, members, 8192, results),
+          ZORAMBI_TABLE_TOO_SHORT, -1);
+  answers("no tables for tidying", zorambi_tidy(NULL, 0, 1, NULL, 0, 1, 0, 0, NULL, 0, 1, NULL, 0, 1, NULL, 0, NULL, 0, NULL, 0, results),
+          ZORAMBI_TABLE_TOO_SHORT, 0);
+}
+
 /* ---- One record for either fault. */
 
 /* ---- A tableau that grows. */
@@ -269,6 +294,7 @@ int main(void) {
   convert();
   /* all small schemata */
   /* older records, tidied */
+  tidy();
   /* one record for either fault */
   /* a tableau that grows */
   printf("%d passed, %d failed\n", passed, failed);

@@ -154,6 +154,18 @@ uint64_t zorambi_convert(const int32_t *wide, size_t wide_len, size_t wide_rows,
 /* All small schemata. */
 
 /* Older records, tidied. */
+uint64_t zorambi_tidy(const int32_t *schema, size_t schema_len, size_t schema_rows,
+                      const int32_t *proof, size_t proof_len, size_t proof_rows,
+                      int32_t root, int32_t least,
+                      const int32_t *nodes, size_t nodes_len, size_t node_rows,
+                      const int32_t *members, size_t members_len, size_t member_count,
+                      int32_t *tidy_proof, size_t tidy_proof_len, int32_t *tidy_nodes, size_t tidy_nodes_len,
+                      int32_t *tidy_members, size_t tidy_members_len, int32_t results[3]) {
+  NOTE(AT(schema), schema_len, schema_rows, AT(proof), proof_len, proof_rows, NUMBER(root), NUMBER(least),
+       AT(nodes), nodes_len, node_rows, AT(members), members_len, member_count,
+       AT(tidy_proof), tidy_proof_len, AT(tidy_nodes), tidy_nodes_len, AT(tidy_members), tidy_members_len, AT(results));
+  return 22;
+}
 
 /* One record for either fault. */
 

@@ -256,6 +256,26 @@ entry! {
 
 // Older records, tidied.
 
+entry! {
+    /// Folds the proof rows of an older record that are written twice. Results: rows, nodes, members.
+    tidy = zorambi_tidy(
+        schema: &[i32],
+        schema_rows: usize,
+        proof: &[i32],
+        proof_rows: usize,
+        root: i32,
+        least: i32,
+        nodes: &[i32],
+        node_rows: usize,
+        members: &[i32],
+        member_count: usize,
+        tidy_proof: &mut [i32],
+        tidy_nodes: &mut [i32],
+        tidy_members: &mut [i32],
+        results: &mut [i32; 3],
+    )
+}
+
 // One record for either fault.
 
 // A tableau that grows.

@@ -88,6 +88,8 @@ pub use convert::convert;
 // All small schemata.
 
 // Older records, tidied.
+mod tidy;
+pub use tidy::tidy;
 
 // One record for either fault.
 

@@ -2,8 +2,8 @@
 
 use std::path::Path;
 use zorambi::{
-    check, check_fault, check_older, check_older_fault, read_file, read_proof, read_schema, Record, Refusal, Refused,
-    Text, Verdict,
+    check, check_fault, check_older, check_older_fault, read_file, read_proof, read_schema, tidy, Record, Refusal,
+    Refused, Text, Verdict,
 };
 
 pub const SCHEMA: &str = "schema.txt";
@@ -19,6 +19,8 @@ pub struct Judged {
     /// The folder holds a file `older`, and the verdict is the older check's.
     pub older: bool,
     pub verdict: Verdict,
+    /// It is older and accepted, and only after tidying the present check accepts it.
+    pub tidies: bool,
     pub file: Option<&'static str>,
     pub line: Option<usize>,
     /// That line, as far as it is shown, other than printable bytes escaped.
@@ -30,6 +32,7 @@ impl Judged {
         Judged {
             older: false,
             verdict,
+            tidies: false,
             file,
             line,
             text: line.map_or(String::new(), |number| shown(zorambi::line(text, number))),
@@ -77,6 +80,9 @@ impl Judged {
         if self.older {
             words.insert_str(0, "older, ");
         }
+        if self.tidies {
+            words += "; tidying would make it present";
+        }
         words
     }
 
@@ -101,6 +107,12 @@ pub fn judge(folder: &Path) -> Judged {
     Judged { older, ..judge_texts(folder, older) }
 }
 
+/// The present check does not accept the record, but accepts it tidied.
+fn tidies(record: &Record) -> bool {
+    let present = |proof| check(&Record { schema: record.schema.clone(), proof }).is_accepted();
+    !check(record).is_accepted() && tidy(record).is_ok_and(present)
+}
+
 /// Reads the schema's text, then the proof's, and checks the record.
 fn judge_texts(folder: &Path, older: bool) -> Judged {
     let [schema_text, proof_text] = [SCHEMA, PROOF].map(|name| read_file(&folder.join(name)));
@@ -120,7 +132,7 @@ fn judge_texts(folder: &Path, older: bool) -> Judged {
         (false, false) => check_fault(&schema_text, &proof_text),
     };
     match fault {
-        None => Judged::new(verdict, None, None, &[]),
+        None => Judged { tidies: older && tidies(&record), ..Judged::new(verdict, None, None, &[]) },
         Some((Text::Schema, line)) => Judged::new(verdict, Some(SCHEMA), Some(line), &schema_text),
         Some((_, line)) => Judged::new(verdict, Some(PROOF), Some(line), &proof_text),
     }

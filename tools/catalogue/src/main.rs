@@ -1,6 +1,7 @@
 //! `zorambi-catalogue DIR [--csv FILE]`: every record folder from DIR down is checked, a line each in the
 //! order of their paths, and totals at the end. A record folder has a schema.txt or a proof.txt. If it
-//! holds a file `older` it is checked by the older check, and listed and counted as older.
+//! holds a file `older` it is checked by the older check, and listed and counted as older; its line says if
+//! tidying would make the present check accept it.
 //!
 //! The exit status is 0 if all are accepted, 1 if one is refused or a folder cannot be listed, 2 on wrong
 //! use: no folder, no record in it, or a file that cannot be written.

@@ -287,10 +287,11 @@ fn older_records() {
     let row = "refused 7 at row 7 (an ill-formed formula row): proof.txt:4: 6 1 2 -10000";
     let line = "refused 4 at line 4 (not a line of the required form and number of values): proof.txt:4: 6 1 2 x";
     let accepted = "accepted 7 nodes 1 link";
+    let tidies = "accepted 7 nodes 1 link; tidying would make it present";
     let said = |name: &str| said(&output, &records.join(name));
     for (name, present, older) in [
         ("once", accepted, accepted),
-        ("twice", repeated, accepted),
+        ("twice", repeated, tidies),
         ("bound", repeated, bound),
         ("row", row, row),
         ("line", line, line),
@@ -336,7 +337,7 @@ fn marks_of_older_records() {
     assert_eq!(output.status.code(), Some(1));
     let said = |name: &str| said(&output, &folder.join(name));
     for name in ["empty", "words", "link"] {
-        assert_eq!(said(name), "older, accepted 7 nodes 1 link", "{name}");
+        assert_eq!(said(name), "older, accepted 7 nodes 1 link; tidying would make it present", "{name}");
     }
     for name in ["Older", "older.txt", "lost link", "below"] {
         assert!(said(name).starts_with("refused 27 at row 9 "), "{name}");

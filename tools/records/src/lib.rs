@@ -32,6 +32,7 @@ pub const COMMANDS: &[Command] = &[
     ("convert", "DIR", convert::convert),
     // All small schemata.
     // Older records, tidied.
+    ("tidy", "DIR", tidy::tidy),
     // One record for either fault.
     // A tableau that grows.
 ];
@@ -45,6 +46,7 @@ pub mod convert;
 // All small schemata.
 
 // Older records, tidied.
+pub mod tidy;
 
 // One record for either fault.
 

@@ -1,0 +1,58 @@
+# shellcheck shell=bash
+# ./zorambi tidy, from tests/programs.sh: the shipped older records and their twins, 01's record, and refusals.
+
+tidies() { # OLDER TIDIED: folders of records
+  gives "tidy $1" 0 "$(cat "$2/proof.txt")"$'\n' "" tidy "$1"
+  gives "tidy $2" 0 "$(cat "$2/proof.txt")"$'\n' "" tidy "$2"
+}
+tidies records/tidy/rows_twice records/tidy/rows_once
+tidies records/refused/row_written_twice records/accepted/rca_zero
+# The twin is what the older record is, and is so by the other implementation too.
+numbers="answer place nodes links
+$(cat records/tidy/rows_twice/expected)"
+same "check --older records/tidy/rows_twice" "$numbers" "$(./zorambi check --older records/tidy/rows_twice 2>&1)" $?
+turns_away "check records/tidy/rows_twice" "27 5 0 0" "refused: a proof row written twice (27) at row 5
+proof.txt:2: 2 0 2 0" check records/tidy/rows_twice
+same "check records/tidy/rows_once" "$numbers" "$(./zorambi check records/tidy/rows_once 2>&1)" $?
+check_record records/tidy/rows_once records/tidy/rows_once
+
+# 01's record with rows after its last proof row, which is row 8: those that repeat a row go, others stay.
+after_rows() { # NAME ROWS LEFT
+  record "$work/t"
+  local left
+  left=$(sed "5s/\$/${3:+\\n}$3/" "$work/t/proof.txt")
+  sed -i "5s/\$/\\n$2/" "$work/t/proof.txt"
+  gives "$1" 0 "$left"$'\n' "" tidy "$work/t"
+  printf '%s\n' "$left" >"$work/t/proof.txt"
+  check_record "$work/t" "$1, tidied"
+}
+after_rows "the last proof row twice" '3 0 1 0' ''
+after_rows "a schema row and a proof row twice" '4 2 3 0\n7 0 2 1' ''
+after_rows "a new row" '3 0 1 1' '3 0 1 1'
+after_rows "equal after renumbering" '2 0 2 0\n3 0 2 0\n7 9 2 3\n6 10 2 3\n7 0 2 3' '7 0 2 3\n6 1 2 3'
+after_rows "a row on rows that are folded" '2 0 1 0\n3 0 1 0\n4 9 10 0\n5 11 9 0' '4 6 8 0\n5 9 6 0'
+
+# Every shipped record that the check accepts stays as it is; one that the older check refuses is refused alike.
+for r in records/accepted/*; do
+  gives "tidy $r" 0 "$(cat "$r/proof.txt")"$'\n' "" tidy "$r"
+done
+for r in records/refused/*; do
+  [ "$r" = records/refused/row_written_twice ] && continue
+  ./zorambi check --older "$r" >"$work/older" 2>"$work/said"
+  gives "tidy $r" 1 "$(cat "$work/older")"$'\n' "$(cat "$work/said")"$'\n' tidy "$r"
+done
+record "$work/t"
+sed -i 's/^4 8 -1 -1 -1 1 1 5 7$/4 8 -1 -1 -1 1 1 5 x/' "$work/t/proof.txt"
+turns_away "tidy a proof that is none" "4 12 0 0" "refused: a line's form (4) at line 12
+proof.txt:12: 4 8 -1 -1 -1 1 1 5 x" tidy "$work/t"
+head -c 65537 /dev/zero >"$work/t/proof.txt"
+turns_away "tidy a long proof" "1 0 0 0" "refused: proof.txt has over 65,536 bytes (1)" tidy "$work/t"
+sed -i 's/^root/Root/' "$work/t/schema.txt"
+turns_away "tidy a schema that is none" "3 1 0 0" "refused: a heading (3) at line 1
+schema.txt:1: Root least" tidy "$work/t"
+
+for words in "tidy" "tidy $work/none" "tidy --older records/tidy/rows_twice" "tidy records/tidy/rows_twice records/tidy/rows_once"; do
+  # shellcheck disable=SC2086
+  wrong_use $words
+done
+wrong_use tidy ""
