@@ -11,6 +11,7 @@
 //! * [`heavy`]: the largest and slowest inputs
 //! * [`soundness`]: accepted records evaluated
 //! * [`kinds`]: how often cases of each kind were compared, for entries that are compared by themselves
+//! * [`tidy`]: older records tidied
 //! * [`tally`]: what passed and failed, and how often each answer occurred
 
 pub mod again;
@@ -25,3 +26,4 @@ pub mod records;
 pub mod sides;
 pub mod soundness;
 pub mod tally;
+pub mod tidy;

@@ -10,6 +10,7 @@
 //! * [`find`]: the first model at an n that is named (No. 13, "A failing width, shown")
 //! * [`text`]: reading and writing of the three texts, lines by number
 //! * [`again`]: a text read and written again, rows written and read again
+//! * [`tidy`]: older records without rows written twice (No. 10, "Tidying older records")
 //! * [`packed`]: the one number that provers get
 //! * [`program`]: the check program, from texts to the four numbers
 //! * [`generate`]: test cases from a small pseudo-random generator
@@ -28,6 +29,7 @@ pub mod packed;
 pub mod program;
 pub mod tableau;
 pub mod text;
+pub mod tidy;
 
 /// Formula rows, schema and proof together (and in each text by itself).
 pub const MAX_ROWS: usize = 1024;

@@ -11,6 +11,7 @@ use zorambi_compare::convert;
 use zorambi_compare::find;
 use zorambi_compare::heavy::{self, Part};
 use zorambi_compare::records;
+use zorambi_compare::tidy;
 use zorambi_reference::generate::models::ModelTables;
 use zorambi_reference::generate::tables::Tables;
 use zorambi_reference::generate::Input;
@@ -321,6 +322,32 @@ fn none_twice() {
     }
 }
 
+/// Older records tidied.
+fn tidies(shipped: &[Shipped]) {
+    println!("\n## Tidying");
+    heading("record | rows | rows that stay | nodes | members");
+    let adder = shipped.iter().find(|record| record.name == "rca_zero").expect("the adder's record");
+    let of_records = [(adder.name.as_str(), records::tables(&adder.schema, &adder.proof))];
+    for (name, t) in of_records.into_iter().chain(tidy::worst()) {
+        let seen = tidy::of_both(&t).unwrap_or_else(|why| panic!("{name}: {why}"));
+        let record = tidy::record(&t);
+        let [mut ours, mut theirs] = [(); 2].map(|()| [4096, 9216, 8192].map(|length| vec![1; length]));
+        let mut results = [0; 3];
+        let times = time(
+            || {
+                let [proof, nodes, members] = &mut ours;
+                black_box(tidy::tidy(black_box(&t), proof, nodes, members, &mut results));
+            },
+            || {
+                let [proof, nodes, members] = &mut theirs;
+                black_box(zorambi_reference::tidy::tidy(black_box(&record), proof, nodes, members));
+            },
+        );
+        let (rows, stay) = (t.schema_count + t.proof_count, t.schema_count + seen.results[0] as usize);
+        println!("| {name} | {rows} | {stay} | {} | {} | {} |", t.node_count, t.member_count, times.cells());
+    }
+}
+
 fn model_tables(record: &Shipped) -> ModelTables {
     let Tables { root, least, schema, schema_count, .. } = records::tables(&record.schema, &record.proof);
     let mut pairs = vec![0; 8192];
@@ -522,6 +549,7 @@ fn main() {
     );
     checks(&shipped);
     none_twice();
+    tidies(&shipped);
     models(&shipped);
     finds();
     texts(&shipped);
