@@ -124,8 +124,6 @@ uint64_t zorambi_find_model(const int32_t *schema, size_t schema_len, size_t sch
 uint64_t zorambi_convert(const int32_t *wide, size_t wide_len, size_t wide_rows, int32_t root, int32_t least,
                          int32_t *plain, size_t plain_len, int32_t results[3]);
 
-/* ---- All small schemata. */
-
 /* ---- Older records, tidied. */
 
 /* Each proof row that equals an earlier schema or proof row, its parts under their new numbers, is folded into
@@ -141,10 +139,6 @@ uint64_t zorambi_tidy(const int32_t *schema, size_t schema_len, size_t schema_ro
                       const int32_t *members, size_t members_len, size_t member_count,
                       int32_t *tidy_proof, size_t tidy_proof_len, int32_t *tidy_nodes, size_t tidy_nodes_len,
                       int32_t *tidy_members, size_t tidy_members_len, int32_t results[3]);
-
-/* ---- One record for either fault. */
-
-/* ---- A tableau that grows. */
 
 /* The one number that comes back from the others: ((answer * 8192 + place + 1) * 8192 + nodes) * 8192 + links. In reading and
  * writing both counts are 0, but that a text that was written has its bytes in their place. */
@@ -335,7 +329,6 @@ static inline uint64_t zorambi_c_convert(const int32_t *wide, size_t wide_len, s
   return zorambi_convert(zorambi_numbers_of(wide, wide_len), wide_len, wide_rows, root, least,
                          zorambi_lent_numbers(plain, plain_len), plain_len, results);
 }
-/* All small schemata. */
 /* Older records, tidied. */
 static inline uint64_t zorambi_c_tidy(const int32_t *schema, size_t schema_len, size_t schema_rows, const int32_t *proof,
                                       size_t proof_len, size_t proof_rows, int32_t root, int32_t least, const int32_t *nodes,
@@ -350,8 +343,6 @@ static inline uint64_t zorambi_c_tidy(const int32_t *schema, size_t schema_len, 
                       zorambi_lent_numbers(tidy_nodes, tidy_nodes_len), tidy_nodes_len,
                       zorambi_lent_numbers(tidy_members, tidy_members_len), tidy_members_len, results);
 }
-/* One record for either fault. */
-/* A tableau that grows. */
 
 #define zorambi_check zorambi_c_check
 #define zorambi_check_older zorambi_c_check_older
@@ -376,11 +367,8 @@ static inline uint64_t zorambi_c_tidy(const int32_t *schema, size_t schema_len, 
 #define zorambi_find_model zorambi_c_find_model
 /* Connectives as designers write them. */
 #define zorambi_convert zorambi_c_convert
-/* All small schemata. */
 /* Older records, tidied. */
 #define zorambi_tidy zorambi_c_tidy
-/* One record for either fault. */
-/* A tableau that grows. */
 
 #ifdef __cplusplus
 }

@@ -242,8 +242,6 @@ static void convert(void) {
   answers("no table for plain rows", zorambi_convert(wide, 12, 3, 2, 5, NULL, 0, results), ZORAMBI_TABLE_TOO_SHORT, 0);
 }
 
-/* ---- All small schemata. */
-
 /* ---- Older records, tidied. */
 
 /* False twice, as schema row 0 and proof row 1, and once more as proof row 2: rule 5 on any of them. Tidied, row 0 is the only one. */
@@ -270,10 +268,6 @@ static void tidy(void) {
   answers("no tables for tidying", zorambi_tidy(NULL, 0, 1, NULL, 0, 1, 0, 0, NULL, 0, 1, NULL, 0, 1, NULL, 0, NULL, 0, NULL, 0, results),
           ZORAMBI_TABLE_TOO_SHORT, 0);
 }
-
-/* ---- One record for either fault. */
-
-/* ---- A tableau that grows. */
 
 int main(void) {
   check(zorambi_check);

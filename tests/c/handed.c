@@ -95,17 +95,11 @@ int main(void) {
   HANDS(zorambi_convert(a, 11, 12, 13, 14, b, 15, r), 20, AT(a), 11, 12, 13, 14, AT(b), 15, AT(r));
   HANDS(zorambi_convert(NULL, 0, 12, 13, 14, NULL, 0, r), 20, SOME, 0, 12, 13, 14, SOME, 0, AT(r));
 
-  /* All small schemata. */
-
   /* Older records, tidied. */
   HANDS(zorambi_tidy(a, 11, 12, b, 13, 14, 15, 16, c, 17, 18, d, 19, 20, e, 21, f, 22, g, 23, r), 22,
         AT(a), 11, 12, AT(b), 13, 14, 15, 16, AT(c), 17, 18, AT(d), 19, 20, AT(e), 21, AT(f), 22, AT(g), 23, AT(r));
   HANDS(zorambi_tidy(NULL, 0, 12, NULL, 0, 14, 15, 16, NULL, 0, 18, NULL, 0, 20, NULL, 0, NULL, 0, NULL, 0, r), 22,
         SOME, 0, 12, SOME, 0, 14, 15, 16, SOME, 0, 18, SOME, 0, 20, SOME, 0, SOME, 0, SOME, 0, AT(r));
-
-  /* One record for either fault. */
-
-  /* A tableau that grows. */
 
   printf("%d passed, %d failed\n", passed, failed);
   return failed > 0;

@@ -151,8 +151,6 @@ uint64_t zorambi_convert(const int32_t *wide, size_t wide_len, size_t wide_rows,
   return 20;
 }
 
-/* All small schemata. */
-
 /* Older records, tidied. */
 uint64_t zorambi_tidy(const int32_t *schema, size_t schema_len, size_t schema_rows,
                       const int32_t *proof, size_t proof_len, size_t proof_rows,
@@ -166,7 +164,3 @@ uint64_t zorambi_tidy(const int32_t *schema, size_t schema_len, size_t schema_ro
        AT(tidy_proof), tidy_proof_len, AT(tidy_nodes), tidy_nodes_len, AT(tidy_members), tidy_members_len, AT(results));
   return 22;
 }
-
-/* One record for either fault. */
-
-/* A tableau that grows. */

@@ -252,8 +252,6 @@ entry! {
     )
 }
 
-// All small schemata.
-
 // Older records, tidied.
 
 entry! {
@@ -275,7 +273,3 @@ entry! {
         results: &mut [i32; 3],
     )
 }
-
-// One record for either fault.
-
-// A tableau that grows.

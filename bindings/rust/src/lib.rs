@@ -85,12 +85,6 @@ pub use find::find_model;
 mod convert;
 pub use convert::convert;
 
-// All small schemata.
-
 // Older records, tidied.
 mod tidy;
 pub use tidy::tidy;
-
-// One record for either fault.
-
-// A tableau that grows.

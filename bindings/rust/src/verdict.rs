@@ -54,14 +54,11 @@ refusals! {
     Output = 22, "an output shorter than the text, or a text over 65,536 bytes";
     // Connectives as designers write them.
     Plain = 23, "plain rows that are too many, or one too large or too deep";
-    // A tableau that grows.
     // Enquiry and commit.
     // Proof rows written twice.
     Repeated = 27, "a proof row written twice";
-    // One record for either fault.
     // A failing width.
     Wires = 30, "more than 16 pairs that occur in the schema at n";
-    // All small schemata.
 }
 
 impl Refusal {

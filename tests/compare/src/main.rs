@@ -21,11 +21,8 @@ const ENTRIES: &[Entry] = &[
     (find::test, find::heavy),
     // Wide connectives.
     (convert::test, convert::heavy),
-    // All small schemata.
     // Older records, tidied.
     (tidy::test, tidy::heavy),
-    // Two records, joined.
-    // A tableau that grows.
 ];
 
 fn generated(tally: &mut Tally, seed: u64, count: u64) {

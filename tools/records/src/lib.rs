@@ -30,11 +30,8 @@ pub const COMMANDS: &[Command] = &[
     ("find", "DIR N", find::find),
     // Connectives as designers write them.
     ("convert", "DIR", convert::convert),
-    // All small schemata.
     // Older records, tidied.
     ("tidy", "DIR", tidy::tidy),
-    // One record for either fault.
-    // A tableau that grows.
 ];
 
 // A failing width.
@@ -43,11 +40,5 @@ pub mod find;
 // Connectives as designers write them.
 pub mod convert;
 
-// All small schemata.
-
 // Older records, tidied.
 pub mod tidy;
-
-// One record for either fault.
-
-// A tableau that grows.
