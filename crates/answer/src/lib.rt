@@ -35,6 +35,8 @@ pub fn number(why: Refusal) -> u64
         Refusal::Output => 22,
         Refusal::Plain => 23,
         Refusal::Repeated => 27,
+        Refusal::Leasts => 28,
+        Refusal::Joint => 29,
         Refusal::Wires => 30,
     }
 }

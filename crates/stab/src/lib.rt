@@ -34,6 +34,8 @@ pub enum Refusal {
     Output,
     Plain,
     Repeated,
+    Leasts,
+    Joint,
     Wires,
 }
 

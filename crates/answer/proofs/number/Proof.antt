@@ -79,6 +79,12 @@ enum-told-24 c = search needs
 enum-told-25 : tie.Need-enum-told-25
 enum-told-25 c = search needs
 
+enum-told-26 : tie.Need-enum-told-26
+enum-told-26 c = search needs
+
+enum-told-27 : tie.Need-enum-told-27
+enum-told-27 c = search needs
+
 returns : tie.Need-returns
 returns c = ap refusalNumber (sym (c .enum-told .given .1))
 
@@ -154,6 +160,12 @@ returns-24 c = ap refusalNumber (sym (c .enum-told24 .given .1))
 returns-25 : tie.Need-returns-25
 returns-25 c = ap refusalNumber (sym (c .enum-told25 .given .1))
 
+returns-26 : tie.Need-returns-26
+returns-26 c = ap refusalNumber (sym (c .enum-told26 .given .1))
+
+returns-27 : tie.Need-returns-27
+returns-27 c = ap refusalNumber (sym (c .enum-told27 .given .1))
+
 pub number-spec : {M : Type 1} → statement M
 number-spec =
     tie.close
@@ -183,6 +195,8 @@ number-spec =
     enum-told-23
     enum-told-24
     enum-told-25
+    enum-told-26
+    enum-told-27
     returns
     returns-2
     returns-3
@@ -207,4 +221,6 @@ number-spec =
     returns-22
     returns-23
     returns-24
-    returns-25)
+    returns-25
+    returns-26
+    returns-27)
