@@ -34,6 +34,8 @@ pub fn number(why: Refusal) -> u64
         Refusal::Number => 21,
         Refusal::Output => 22,
         Refusal::Plain => 23,
+        Refusal::Room => 24,
+        Refusal::NoRow => 25,
         Refusal::Repeated => 27,
         Refusal::Leasts => 28,
         Refusal::Joint => 29,

@@ -111,17 +111,26 @@ tablesHold T =
 unfoldable pub withinLimits : Tableau → Bool
 withinLimits T = leb (rowCount T) 1024 and leb (T .nodeRows) 1024 and leb (T .memberCount) 8192
 
--- what is found, where `formulas` says what is found of the formulas, and `judge` what is found of a node once tables, formulas, sets and
--- parents are right
-unfoldable pub refusalWith : (Tableau → Option Verdict) → (Tableau → ℕ → Option Verdict) → Tableau → Option Verdict
-refusalWith formulas judge T =
+-- what is found, where `formulas` says what is found of the formulas, `nodes` of the number of nodes, and `judge` of a node once tables,
+-- formulas, sets and parents are right
+unfoldable pub refusalBy : (Tableau → Option Verdict) → (Tableau → Option Verdict) → (Tableau → ℕ → Option Verdict) → Tableau → Option Verdict
+refusalBy formulas nodes judge T =
     wholeUnless (tablesHold T) TableTooShort otherwise
     wholeUnless (withinLimits T) TooMany otherwise
     formulas T otherwise
     scan (setRefusal T) (T .nodeRows) otherwise
-    wholeUnless (ltb 0 (T .nodeRows)) Parent otherwise
+    nodes T otherwise
     scan (parentRefusal T) (T .nodeRows) otherwise
     scan (judge T) (T .nodeRows)
+
+-- "10 no node (-1)"
+unfoldable pub noNode : Tableau → Option Verdict
+noNode T = wholeUnless (ltb 0 (T .nodeRows)) Parent
+
+-- the same of a whole record, which has a node
+unfoldable pub refusalWith : (Tableau → Option Verdict) → (Tableau → ℕ → Option Verdict) → Tableau → Option Verdict
+unfolding refusalBy noNode
+refusalWith formulas judge T = refusalBy formulas noNode judge T
 
 -- proof rows may repeat
 unfoldable pub olderFormulas : Tableau → Option Verdict

@@ -33,6 +33,8 @@ pub enum Refusal {
     Number,
     Output,
     Plain,
+    Room,
+    NoRow,
     Repeated,
     Leasts,
     Joint,
