@@ -36,6 +36,7 @@ pub fn number(why: Refusal) -> u64
         Refusal::Plain => 23,
         Refusal::Room => 24,
         Refusal::NoRow => 25,
+        Refusal::Waiting => 26,
         Refusal::Repeated => 27,
         Refusal::Leasts => 28,
         Refusal::Joint => 29,

@@ -3,5 +3,6 @@ pub mod Local
 pub mod States
 pub mod Held
 pub mod Grown
+pub mod Enquiries
 -- The definitions computed.
 pub mod Trials

@@ -15,7 +15,7 @@ use Rattle.stab.specs.Refuted.{Refuted, SameSchema, Irrefutable}
 use Rattle.stab.specs.declared.Place.{Place}
 use Rattle.stab.specs.declared.Place.the-variants.{Whole, At}
 use Rattle.stab.specs.declared.Refusal.{Refusal}
-use Rattle.stab.specs.declared.Refusal.the-variants.{TextTooLong, TableTooShort, Heading, Line, TooMany, Root, IllFormed, TooLarge, Set, Parent, Drawn, Fields, Target, Bound, Partner, Lowered, Children, Pair, Width, False, Number, Output, Repeated, Wires, Plain, Leasts, Joint, Room, NoRow}
+use Rattle.stab.specs.declared.Refusal.the-variants.{TextTooLong, TableTooShort, Heading, Line, TooMany, Root, IllFormed, TooLarge, Set, Parent, Drawn, Fields, Target, Bound, Partner, Lowered, Children, Pair, Width, False, Number, Output, Repeated, Wires, Plain, Leasts, Joint, Room, NoRow, Waiting}
 use Rattle.stab.specs.declared.Verdict.{Verdict}
 use Rattle.stab.specs.declared.Verdict.the-variants.{Accepted, Refused}
 use Rattle.stab.proofs.Whole.{num, _⊖_, eq-of}
@@ -52,6 +52,7 @@ number-range Output = (omega arith, omega arith)
 number-range Plain = (omega arith, omega arith)
 number-range Room = (omega arith, omega arith)
 number-range NoRow = (omega arith, omega arith)
+number-range Waiting = (omega arith, omega arith)
 number-range Repeated = (omega arith, omega arith)
 number-range Leasts = (omega arith, omega arith)
 number-range Joint = (omega arith, omega arith)

@@ -5,7 +5,7 @@ use Rattle.stab.specs.Basic.{nat}
 use Rattle.stab.specs.declared.Place.{Place}
 use Rattle.stab.specs.declared.Place.the-variants.{Whole, At}
 use Rattle.stab.specs.declared.Refusal.{Refusal}
-use Rattle.stab.specs.declared.Refusal.the-variants.{TextTooLong, TableTooShort, Heading, Line, TooMany, Root, IllFormed, TooLarge, Set, Parent, Drawn, Fields, Target, Bound, Partner, Lowered, Children, Pair, Width, False, Number, Output, Repeated, Wires, Plain, Leasts, Joint, Room, NoRow}
+use Rattle.stab.specs.declared.Refusal.the-variants.{TextTooLong, TableTooShort, Heading, Line, TooMany, Root, IllFormed, TooLarge, Set, Parent, Drawn, Fields, Target, Bound, Partner, Lowered, Children, Pair, Width, False, Number, Output, Repeated, Wires, Plain, Leasts, Joint, Room, NoRow, Waiting}
 use Rattle.stab.specs.declared.Verdict.{Verdict}
 use Rattle.stab.specs.declared.Verdict.the-variants.{Accepted, Refused}
 use Rattle.stab.specs.declared.SchemaRead.{SchemaRead}
@@ -45,6 +45,7 @@ refusalNumber Output = 22
 refusalNumber Plain = 23
 refusalNumber Room = 24
 refusalNumber NoRow = 25
+refusalNumber Waiting = 26
 refusalNumber Repeated = 27
 refusalNumber Leasts = 28
 refusalNumber Joint = 29

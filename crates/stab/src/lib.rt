@@ -35,6 +35,7 @@ pub enum Refusal {
     Plain,
     Room,
     NoRow,
+    Waiting,
     Repeated,
     Leasts,
     Joint,
