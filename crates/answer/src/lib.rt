@@ -41,6 +41,7 @@ pub fn number(why: Refusal) -> u64
         Refusal::Leasts => 28,
         Refusal::Joint => 29,
         Refusal::Wires => 30,
+        Refusal::NotListed => 31,
     }
 }
 

@@ -40,6 +40,7 @@ pub enum Refusal {
     Leasts,
     Joint,
     Wires,
+    NotListed,
 }
 
 // The check's answer and the model check's. An accepted model has both counts 0.
