@@ -11,6 +11,7 @@
 //! * [`text`]: reading and writing of the three texts, lines by number
 //! * [`again`]: a text read and written again, rows written and read again
 //! * [`tidy`]: older records without rows written twice (No. 10, "Tidying older records")
+//! * [`join`]: one record for two (No. 11, "One record for either fault")
 //! * [`packed`]: the one number that provers get
 //! * [`program`]: the check program, from texts to the four numbers
 //! * [`generate`]: test cases from a small pseudo-random generator
@@ -24,6 +25,7 @@ pub mod convert;
 pub mod find;
 pub mod formula;
 pub mod generate;
+pub mod join;
 pub mod model;
 pub mod packed;
 pub mod program;
