@@ -14,6 +14,7 @@
 //! * [`join`]: one record for two (No. 11, "One record for either fault")
 //! * [`packed`]: the one number that provers get
 //! * [`program`]: the check program, from texts to the four numbers
+//! * [`small`]: small schemata one after another (No. 14, "All small schemata")
 //! * [`generate`]: test cases from a small pseudo-random generator
 //!
 //! Every public function takes plain slices and counts with any values and does not panic.
@@ -29,6 +30,7 @@ pub mod join;
 pub mod model;
 pub mod packed;
 pub mod program;
+pub mod small;
 pub mod tableau;
 pub mod text;
 pub mod tidy;
