@@ -41,7 +41,7 @@ counted schema s proof (suc k) = counted-into s k (folding schema s proof k) _ _
 
 -- ---- one number more
 
-small-more : (numbers : List ℕ) (k q : ℕ) → k < length numbers → q ≤ 1024 → AllSmall numbers → AllSmall (set numbers k q)
+small-more : (numbers : List ℕ) (k q : ℕ) → k < length numbers → q ≤ 4096 → AllSmall numbers → AllSmall (set numbers k q)
 small-more numbers k q l h a i =
     ⊎-elim
     (λ t. let e = eqb-true i k t in omega (arith, ap (λ (j : ℕ). getD (set numbers k q) j 0) e, getD-set-same numbers k q 0 l))
@@ -102,7 +102,7 @@ module _ (schema : List ℤ) (s : ℕ) (proof : List ℤ) (k count : ℕ) (out :
             ∙ earliest-agree (joined schema s out₁) (joined schema s (F .table)) (s + count) rows-front w′
             ∙ ap (λ (n : ℕ). earliest (joined schema s (F .table)) (s + n) w′) (I .counted)
 
-    module _ (q : ℕ) (e : q ≡ rowOr (s + count) equal) (few : s + count ≤ 1024) (place : k < length numbers) where
+    module _ (q : ℕ) (e : q ≡ rowOr (s + count) equal) (few : s + count ≤ 4096) (place : k < length numbers) where
       abbrev numbers₁ : List ℕ
       numbers₁ = set numbers k q
 

@@ -17,7 +17,7 @@ rowOr n (some q) = q
 
 -- new numbers are numbers of rows
 abbrev pub AllSmall : List ℕ → Type 0
-AllSmall numbers = (i : ℕ) → getD numbers i 0 ≤ 1024
+AllSmall numbers = (i : ℕ) → getD numbers i 0 ≤ 4096
 
 -- the tables after some of the proof rows: the rows that stay stand in front of the result table, and all rows that stay are chained
 pub record Folds (schema : List ℤ) (s : ℕ) (F : Folding) (count : ℕ) (out : List ℤ) (numbers next heads : List ℕ) : Type 0 where

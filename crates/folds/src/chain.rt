@@ -22,7 +22,7 @@ pub fn first(
     next: &[u32],
     heads: &[u32],
 ) -> usize
-    requires { ⌜ r < 1024 ⌝ }
+    requires { ⌜ r < 2049 ⌝ }
     requires { ⌜ Chained (joined (now schema) s (now table)) (now next) (now heads) r ⌝ }
     requires { ⌜ h ≡ slotOf (joined (now schema) s (now table) r) ⌝ }
     ensures { λ v. ⌜ v ≡ rowOr r (earliest (joined (now (schema .entry)) s (now (table .entry))) r (joined (now (schema .entry)) s (now (table .entry)) r)) ⌝ }
@@ -41,7 +41,7 @@ pub fn first(
 
 // The schema rows are chained. What is lent: a number for each row, and one for each slot, which are 0.
 pub fn schema_rows(schema: &[i32], s: usize, table: &[i32], next: &mut [u32], heads: &mut [u32])
-    requires { ⌜ (s ≤ 1024) × (s ≤ length (now next)) × (1021 ≤ length (now heads)) ⌝ }
+    requires { ⌜ (s ≤ 2049) × (s ≤ length (now next)) × (1021 ≤ length (now heads)) ⌝ }
     requires { ⌜ ((h : ℕ) → h < 1021 → getD (now heads) h 0 ≡ 0) ⌝ }
     ensures { λ _. ⌜ Chained (joined (now (schema .entry)) s (now (table .entry))) (now (next .exit)) (now (heads .exit)) s ⌝ }
 {

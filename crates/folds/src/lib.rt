@@ -1,7 +1,7 @@
 // Proof rows folded into their earliest equals, found by chains of rows that may be equal.
 mod chain;
 pub mod number;
-mod row;
+pub mod row;
 
 use repeats::chain::keep;
 use repeats::row::slot;
@@ -26,7 +26,7 @@ fn step(
     next: &mut [u32],
     heads: &mut [u32],
 ) -> usize
-    requires { ⌜ (s + k < 1024) × (count ≤ k) × (4 * k + 3 < length (now out)) × (k < length (now numbers)) × (1024 ≤ length (now next)) × (1021 ≤ length (now heads)) ⌝ }
+    requires { ⌜ (s + k < 2049) × (count ≤ k) × (4 * k + 3 < length (now out)) × (k < length (now numbers)) × (2049 ≤ length (now next)) × (1021 ≤ length (now heads)) ⌝ }
     requires { ⌜ Folds (now schema) s (folding (now schema) s (now proof) k) count (now out) (now numbers) (now next) (now heads) ⌝ }
     ensures { λ v. ⌜ Folds (now (schema .entry)) s (folding (now (schema .entry)) s (now (proof .entry)) (k + 1)) v (now (out .exit)) (now (numbers .exit)) (now (next .exit)) (now (heads .exit)) ⌝ }
 {
@@ -53,7 +53,7 @@ fn each(
     next: &mut [u32],
     heads: &mut [u32],
 ) -> usize
-    requires { ⌜ (s + p ≤ 1024) × (4 * p ≤ length (now out)) × (p ≤ length (now numbers)) × (1024 ≤ length (now next)) × (1021 ≤ length (now heads)) ⌝ }
+    requires { ⌜ (s + p ≤ 2049) × (4 * p ≤ length (now out)) × (p ≤ length (now numbers)) × (2049 ≤ length (now next)) × (1021 ≤ length (now heads)) ⌝ }
     requires { ⌜ Folds (now schema) s (folding (now schema) s (now proof) 0) 0 (now out) (now numbers) (now next) (now heads) ⌝ }
     ensures { λ v. ⌜ Folds (now (schema .entry)) s (folding (now (schema .entry)) s (now (proof .entry)) p) v (now (out .exit)) (now (numbers .exit)) (now (next .exit)) (now (heads .exit)) ⌝ }
 {
@@ -76,13 +76,13 @@ pub fn fold(
     out: &mut [i32],
     numbers: &mut [u32],
 ) -> usize
-    requires { ⌜ (s + p ≤ 1024) × (4 * p ≤ length (now out)) × (p ≤ length (now numbers)) ⌝ }
+    requires { ⌜ (s + p ≤ 2049) × (4 * p ≤ length (now out)) × (p ≤ length (now numbers)) ⌝ }
     requires { ⌜ now numbers ≡ replicate (length (now numbers)) 0 ⌝ }
     ensures { λ v. ⌜ v ≡ folding (now (schema .entry)) s (now (proof .entry)) p .count ⌝ }
     ensures { λ v. ⌜ now (out .exit) ≡ padded (pos 0) (length (now (out .entry))) (folding (now (schema .entry)) s (now (proof .entry)) p .table) ⌝ }
     ensures { λ v. ⌜ (now (numbers .exit) ≡ padded 0 (length (now (numbers .entry))) (folding (now (schema .entry)) s (now (proof .entry)) p .numbers)) × AllSmall (now (numbers .exit)) ⌝ }
 {
-    let mut next = [0u32; 1024];
+    let mut next = [0u32; 2049];
     let mut heads = [0u32; 1021];
     chain::schema_rows(schema, s, out, &mut next, &mut heads);
     let count = each(schema, s, proof, p, out, numbers, &mut next, &mut heads);

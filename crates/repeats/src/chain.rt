@@ -36,7 +36,7 @@ pub fn stands(
 
 // Row r is the last of its slot.
 pub fn keep(r: usize, h: usize, next: &mut [u32], heads: &mut [u32])
-    requires { ⌜ (r < 1024) × (r < length (now next)) × (h < length (now heads)) ⌝ }
+    requires { ⌜ (r < 65536) × (r < length (now next)) × (h < length (now heads)) ⌝ }
     ensures { λ _. ⌜ now (next .exit) ≡ set (now (next .entry)) r (getD (now (heads .entry)) h 0) ⌝ }
     ensures { λ _. ⌜ now (heads .exit) ≡ set (now (heads .entry)) h (r + 1) ⌝ }
 {

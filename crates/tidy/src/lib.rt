@@ -1,6 +1,6 @@
 // Tidying older records: proof rows folded, and nodes and sets under the new numbers.
-mod node;
-mod set;
+pub mod node;
+pub mod set;
 
 use branch::node::SIZE;
 use branch::node::START;

@@ -18,7 +18,7 @@ ghost use Rattle.tidied.specs.Tidied.{through, newNumber, tidyNode};
 ghost use Rattle.folds.specs.Folds.{AllSmall};
 
 // Numbers are stored one after another from a place on.
-fn copy(table: &mut [i32], at: usize, row: &[i32])
+pub fn copy(table: &mut [i32], at: usize, row: &[i32])
     requires { ⌜ at + length (now row) ≤ length (now table) ⌝ }
     ensures { λ _. ⌜ now (table .exit) ≡ sets (now (table .entry)) at (now (row .entry)) ⌝ }
 {
@@ -30,7 +30,7 @@ fn copy(table: &mut [i32], at: usize, row: &[i32])
 }
 
 // A field of node j that names a row, put through.
-fn field(nodes: &[i32], j: usize, k: usize, numbers: &[u32], s: usize) -> i32
+pub fn field(nodes: &[i32], j: usize, k: usize, numbers: &[u32], s: usize) -> i32
     requires { ⌜ (j < 2 ^ 32) × (k < 9) × AllSmall (now numbers) ⌝ }
     ensures { λ v. ⌜ v ≡ through (newNumber s (now (numbers .entry))) (nodeColumn (nodeAt (now (nodes .entry)) j) k) ⌝ }
 {

@@ -31,7 +31,7 @@ room c = let p = start c .pre .0 in omega (arith, p .1, p .2)
 chained : (c : tie.After-put) → let a = start c .args in Chained (rows c) (a .next .now) (a .heads .now) (a .s + a .count)
 chained c = still-chained _ _ _ _ _ _ _ _ _ (start c .pre .1) (room c) (table c) (c .put .ensures)
 
-row-few : (c : tie.After-put) → let a = start c .args in a .s + a .count < 1024
+row-few : (c : tie.After-put) → let a = start c .args in a .s + a .count < 2049
 row-few c = let p = start c .pre .0 in omega (arith, p .0, p .1)
 
 slot-within : (c : tie.After-first) → c .before .before .before .before .slot .result < length (start (put-of c) .args .heads .now)
@@ -92,7 +92,7 @@ keep-requires c κs =
     let f = c .before .before .before in
     let p = put-of f in
     let b = start p in
-    (row-few p, omega (arith, row-few p, b .pre .0 .4), slot-within f)
+    (omega (arith, row-few p), omega (arith, row-few p, b .pre .0 .4), slot-within f)
 
 add-result : tie.Need-add-result
 add-result c = search needs

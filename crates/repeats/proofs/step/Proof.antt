@@ -50,7 +50,7 @@ keep-requires : tie.Need-keep-requires
 keep-requires c κs =
     let d = c .before .before .before in
     let b = start d in
-    (b .pre .0 .0, b .pre .0 .1, slot-within d)
+    (omega (arith, b .pre .0 .0), b .pre .0 .1, slot-within d)
 
 same-length-3 : tie.Need-same-length-3
 same-length-3 c = search needs
