@@ -63,7 +63,7 @@ module _ (A B : Tableau) where
           ap link e ∙ ap (λ (w : Node). ofRule 8 w) (node-second A B i h)
 
   -- tidying leaves the or's formula
-  or-tidied : tree (rows (joint A B)) (orRow A B) ≡ tree (rows (untidied A B)) (orRow A B)
+  pub or-tidied : tree (rows (joint A B)) (orRow A B) ≡ tree (rows (untidied A B)) (orRow A B)
   unfolding joint rows tidied untidied orRow
   or-tidied =
       tree-agrees _ _ (A .schemaRows + B .schemaRows)

@@ -1,0 +1,7 @@
+mod Numbers
+mod Rows
+mod Moves
+mod Fields
+mod Nodes
+mod Placed
+mod Answers

@@ -1,0 +1,291 @@
+use mir.Syntax.{w32}
+use mir.Val.{toZ, ofZ}
+use Rattle.join.proofs.Answers.{few-rows, all-formed, root-below, few-folded, rows-over, members-over, all-fit, too-large, record-made}
+use Rattle.join.proofs.Placed.{readable, plain-schema, plain-folding, plain-first, plain-second, members-are, nodes-are}
+use Rattle.join.specs.Kept.{rooms, plain, Gives}
+use Rattle.joint.specs.declared.Joined.the-variants.{Record}
+use Rattle.joint.specs.Joint.{schemaCount, orRow, ofFirst, ofSecond, jointSchema, untidied, joint}
+use Rattle.tidied.specs.Tidied.{Folding, foldingOf, newOf}
+use Rattle.signed.proofs.Signs.{read-back}
+use Rattle.stab.specs.Text.{padded}
+use Rattle.stab.specs.Basic.{below}
+use lib.ListN.{length}
+use mathlib.Core.Path.{_≡_, sym, _∙_, ap, ap₂}
+use Prim.Native.Nat.{ℕ, suc, _+_, _<_, _≤_}
+use Rattle.joint.specs.Joint.{Rooms}
+use Rattle.branch.specs.Work.{tableau}
+use Rattle.stab.specs.Node.{Tableau}
+use mir.Facts.{toZ-ofZ}
+use mathlib.Core.List.{List, []}
+use lib.IntN.{ℤ, pos}
+use native.Mathlib.Omega.{arith}
+use borrow.Author.Needs.{needs}
+use Rattle.join.proofs.filled.Statement.{statement}
+use Rattle.join.proofs.filled.Tie as tie
+
+-- the two records, and the rooms that are lent
+abbrev A : tie.Start → ℤ → ℤ → Tableau
+A b root least =
+    let a = b .args in
+    tableau (a .first-schema .now) (a .first-schema-rows) (a .first-proof .now) (a .first-proof-rows) root least (a .first-nodes .now) (a .first-node-rows) (a .first-members .now) (a .first-member-count)
+
+abbrev B : tie.Start → ℤ → ℤ → Tableau
+B b root least =
+    let a = b .args in
+    tableau (a .second-schema .now) (a .second-schema-rows) (a .second-proof .now) (a .second-proof-rows) root least (a .second-nodes .now) (a .second-node-rows) (a .second-members .now) (a .second-member-count)
+
+abbrev TA : tie.Start → Tableau
+TA b = A b (b .args .first-root) (b .args .first-least)
+
+abbrev TB : tie.Start → Tableau
+TB b = B b (b .args .second-root) (b .args .second-least)
+
+abbrev R : tie.Start → Rooms
+R b = let a = b .args in rooms (a .out-schema .now) (a .out-proof .now) (a .out-nodes .now) (a .out-members .now)
+
+-- where the rows are filled, and where the nodes are
+abbrev start : tie.After-fill-rows → tie.Start
+start c = c .before .before .before .before .before
+
+abbrev rows-of : tie.After-fill-nodes → tie.After-fill-rows
+rows-of c = c .before .before .before .before .before .before .before .before .before .before
+
+abbrev first-numbers : tie.After-fill-rows → List ℕ
+first-numbers c = c .fill-rows .last .1 .1 .1 .1 .1 .1 .1 .1 .1 .1 .0
+
+abbrev second-numbers : tie.After-fill-rows → List ℕ
+second-numbers c = c .fill-rows .last .1 .1 .1 .1 .1 .1 .1 .1 .1 .1 .1 .0
+
+-- the formula rows alone
+abbrev PA : tie.Start → ℤ → Tableau
+PA b root = let a = b .args in plain (a .first-schema .now) (a .first-schema-rows) (a .first-proof .now) (a .first-proof-rows) root
+
+abbrev PB : tie.Start → ℤ → Tableau
+PB b root = let a = b .args in plain (a .second-schema .now) (a .second-schema-rows) (a .second-proof .now) (a .second-proof-rows) root
+
+is-folded : (c : tie.After-fill-rows) →
+    let b = start c in
+    foldingOf (untidied (PA b (toZ w32 (ofZ w32 (b .args .first-root)))) (PB b (toZ w32 (ofZ w32 (b .args .second-root))))) ≡ foldingOf (untidied (TA b) (TB b))
+unfolding tableau
+is-folded c =
+    let b = start c in
+    ap₂ (λ (x y : ℤ). foldingOf (untidied (PA b x) (PB b y))) (toZ-ofZ (b .fits .first-root)) (toZ-ofZ (b .fits .second-root)) ∙ plain-folding (TA b) (TB b)
+
+count-is : (c : tie.After-fill-rows) → let b = start c in c .fill-rows .result ≡ foldingOf (untidied (TA b) (TB b)) .count
+count-is c = c .fill-rows .ensures .0 ∙ ap (λ (F : Folding). F .count) (is-folded c)
+
+schema-is : (c : tie.After-fill-rows) → let b = start c in c .fill-rows .last .1 .1 .1 .1 .1 .1 .1 .1 .1 .1 .1 .1 .0 ≡ padded (pos 0) (length (b .args .out-schema .now)) (jointSchema (TA b) (TB b))
+unfolding tableau
+schema-is c =
+    let b = start c in
+    c .fill-rows .ensures .1 .0
+    ∙ ap (padded (pos 0) (length (b .args .out-schema .now))) (ap₂ (λ (x y : ℤ). jointSchema (PA b x) (PB b y)) (toZ-ofZ (b .fits .first-root)) (toZ-ofZ (b .fits .second-root)) ∙ plain-schema (TA b) (TB b))
+
+proof-is : (c : tie.After-fill-rows) →
+    let b = start c in
+    b .args .first-schema-rows + b .args .second-schema-rows + 1 + c .fill-rows .result ≤ 1024 → c .fill-rows .last .1 .1 .1 .1 .1 .1 .1 .1 .1 .1 .1 .1 .1 .0 ≡ padded (pos 0) (length (b .args .out-proof .now)) (foldingOf (untidied (TA b) (TB b)) .table)
+proof-is c h =
+    c .fill-rows .ensures .1 .1 .0 h ∙ ap (λ (F : Folding). padded (pos 0) (length (start c .args .out-proof .now)) (F .table)) (is-folded c)
+
+gives-first : (c : tie.After-fill-rows) → let b = start c in Gives (first-numbers c) (λ r. newOf (untidied (TA b) (TB b)) (ofFirst (TA b) (TB b) r))
+unfolding tableau
+gives-first c r h =
+    let b = start c in
+    c .fill-rows .ensures .1 .1 .1 .0 .0 r h
+    ∙ ap₂ (λ (x y : ℤ). newOf (untidied (PA b x) (PB b y)) (ofFirst (PA b x) (PB b y) r)) (toZ-ofZ (b .fits .first-root)) (toZ-ofZ (b .fits .second-root))
+    ∙ plain-first (TA b) (TB b) r
+
+gives-second : (c : tie.After-fill-rows) → let b = start c in Gives (second-numbers c) (λ r. newOf (untidied (TA b) (TB b)) (ofSecond (TA b) (TB b) r))
+unfolding tableau
+gives-second c r h =
+    let b = start c in
+    c .fill-rows .ensures .1 .1 .1 .1 .0 r h
+    ∙ ap₂ (λ (x y : ℤ). newOf (untidied (PA b x) (PB b y)) (ofSecond (PA b x) (PB b y) r)) (toZ-ofZ (b .fits .first-root)) (toZ-ofZ (b .fits .second-root))
+    ∙ plain-second (TA b) (TB b) r
+
+member-count : (c : tie.After-fill-nodes) → let b = start (rows-of c) in c .fill-nodes .result ≡ length (joint (TA b) (TB b) .members)
+unfolding tableau orRow
+member-count c =
+    let f = rows-of c in
+    let b = start f in
+    c .fill-nodes .ensures .0
+    ∙ ap length (members-are (TA b) (TB b) (b .pre .1 .1 .0) (b .pre .1 .1 .1) (first-numbers f) (second-numbers f) (gives-first f) (gives-second f))
+
+add-or-row : tie.Need-add-or-row
+add-or-row c = search needs
+
+slice-aggregate-fill-rows : tie.Need-slice-aggregate-fill-rows
+slice-aggregate-fill-rows c = search needs
+
+slice-aggregate-fill-rows-2 : tie.Need-slice-aggregate-fill-rows-2
+slice-aggregate-fill-rows-2 c = search needs
+
+fill-rows-requires : tie.Need-fill-rows-requires
+unfolding tableau
+fill-rows-requires c κs =
+    let b = c .before .before .before .before in
+    let a = b .args in
+    let K = b .pre .1 .1 .0 .older in
+    let L = b .pre .1 .1 .1 .older in (
+      (few-rows (TA b) K, few-rows (TB b) L, b .pre .1 .0 .0, omega arith, omega arith, b .pre .0 .0, b .pre .0 .1),
+      (
+        (all-formed (TA b) K, ap (below (a .first-schema-rows)) (toZ-ofZ (b .fits .first-root)) ∙ root-below (TA b) K),
+        (all-formed (TB b) L, ap (below (a .second-schema-rows)) (toZ-ofZ (b .fits .second-root)) ∙ root-below (TB b) L),
+      ),
+    )
+
+add-if1 : tie.Need-add-if1
+add-if1 c = search needs
+
+add-if1-2 : tie.Need-add-if1-2
+unfolding tableau
+add-if1-2 c =
+    let f = c .before .before .before .before in
+    let b = start f in
+    omega (arith, count-is f, few-folded (TA b) (TB b), few-rows (TA b) (b .pre .1 .1 .0 .older), few-rows (TB b) (b .pre .1 .1 .1 .older))
+
+refuse-requires : tie.Need-refuse-requires
+refuse-requires c κs = search needs
+
+same-length : tie.Need-same-length
+same-length c = search needs
+
+same-length-2 : tie.Need-same-length-2
+same-length-2 c = search needs
+
+same-length-3 : tie.Need-same-length-3
+same-length-3 c = search needs
+
+same-length-4 : tie.Need-same-length-4
+same-length-4 c = search needs
+
+returns : tie.Need-returns
+unfolding tableau schemaCount
+returns c =
+    let r = c .before .before .before .before in
+    let i = c .before .before .before .before .before .before .before .before .before in
+    let f = i .before .before .before .before .before in
+    let b = start f in
+    let e = r .refuse .ensures in
+    too-large (R b) (TA b) (TB b) (rows-over (TA b) (TB b) (omega (arith, i .if1 .taken, count-is f))) (e .0) (e .1 .0 ∙ ap (λ (n : ℕ). padded (pos 0) n []) (f .fill-rows .kept .1 .1 .1 .1 .1 .1 .1 .1 .1 .1 .1 .1 .0)) (e .1 .1 .0 ∙ ap (λ (n : ℕ). padded (pos 0) n []) (f .fill-rows .kept .1 .1 .1 .1 .1 .1 .1 .1 .1 .1 .1 .1 .1 .0)) (e .1 .1 .1 .0) (e .1 .1 .1 .1)
+
+slice-aggregate-fill-nodes : tie.Need-slice-aggregate-fill-nodes
+slice-aggregate-fill-nodes c = search needs
+
+slice-aggregate-fill-nodes-2 : tie.Need-slice-aggregate-fill-nodes-2
+slice-aggregate-fill-nodes-2 c = search needs
+
+fill-nodes-requires : tie.Need-fill-nodes-requires
+unfolding tableau
+fill-nodes-requires c κs =
+    let f = c .before .before .before .before .before .before .before .before .before in
+    let b = start f in
+    let k = f .fill-rows .ensures .1 .1 .1 in (
+      (b .pre .1 .0 .0, b .pre .1 .0 .1, b .pre .0 .2, b .pre .0 .3, k .0 .1, k .1 .1),
+      (readable (TA b) (b .pre .1 .1 .0 .older), readable (TB b) (b .pre .1 .1 .1 .older)),
+    )
+
+refuse-requires-2 : tie.Need-refuse-requires-2
+refuse-requires-2 c κs = search needs
+
+same-length-5 : tie.Need-same-length-5
+same-length-5 c = search needs
+
+same-length-6 : tie.Need-same-length-6
+same-length-6 c = search needs
+
+same-length-7 : tie.Need-same-length-7
+same-length-7 c = search needs
+
+same-length-8 : tie.Need-same-length-8
+same-length-8 c = search needs
+
+returns-2 : tie.Need-returns-2
+unfolding tableau
+returns-2 c =
+    let r = c .before .before .before .before in
+    let i = c .before .before .before .before .before .before .before .before .before in
+    let n = i .before .before .before in
+    let f = rows-of n in
+    let b = start f in
+    let e = r .refuse2 .ensures in
+    too-large (R b) (TA b) (TB b) (members-over (TA b) (TB b) (omega (arith, i .if2 .taken, member-count n))) (e .0) (e .1 .0 ∙ ap (λ (n : ℕ). padded (pos 0) n []) (f .fill-rows .kept .1 .1 .1 .1 .1 .1 .1 .1 .1 .1 .1 .1 .0)) (e .1 .1 .0 ∙ ap (λ (n : ℕ). padded (pos 0) n []) (f .fill-rows .kept .1 .1 .1 .1 .1 .1 .1 .1 .1 .1 .1 .1 .1 .0)) (e .1 .1 .1 .0 ∙ ap (λ (n : ℕ). padded (pos 0) n []) (n .fill-nodes .kept .1 .1 .1 .1 .1 .1 .1 .1 .1 .0)) (e .1 .1 .1 .1 ∙ ap (λ (n : ℕ). padded (pos 0) n []) (n .fill-nodes .kept .1 .1 .1 .1 .1 .1 .1 .1 .1 .1 .0))
+
+of-requires : tie.Need-of-requires
+of-requires c κs = search needs
+
+add-t38 : tie.Need-add-t38
+add-t38 c = search needs
+
+add-t39 : tie.Need-add-t39
+add-t39 c = let b = c .before .before .before .before .before .before .before .before .before .before .before .before .before .before .before .before .before .before .before in omega (arith, b .pre .1 .0 .1)
+
+add-t70 : tie.Need-add-t70
+add-t70 c = let b = c .before .before .before .before .before .before .before .before .before .before .before .before .before .before .before .before .before .before .before in omega (arith, b .pre .1 .0 .1)
+
+same-length-9 : tie.Need-same-length-9
+same-length-9 c = search needs
+
+same-length-10 : tie.Need-same-length-10
+same-length-10 c = search needs
+
+same-length-11 : tie.Need-same-length-11
+same-length-11 c = search needs
+
+same-length-12 : tie.Need-same-length-12
+same-length-12 c = search needs
+
+returns-3 : tie.Need-returns-3
+unfolding tableau schemaCount orRow
+returns-3 c =
+    let i = c .before in
+    let n = i .before .before .before in
+    let f = rows-of n in
+    let b = start f in
+    let a = b .args in
+    let fits : a .first-schema-rows + a .second-schema-rows + 1 + f .fill-rows .result ≤ 1024 = omega (arith, n .before .before .before .before .before .if1 .left) in
+    let few = i .if2 .left in
+    let e : a .first-schema-rows + a .second-schema-rows + 1 ≡ suc (a .first-schema-rows + a .second-schema-rows) = omega arith in
+    let k : 1 + a .first-node-rows + a .second-node-rows ≡ suc (a .first-node-rows + a .second-node-rows) = omega arith in
+    record-made (R b) (TA b) (TB b)
+    (all-fit (TA b) (TB b) (omega (arith, fits, count-is f)) (b .pre .1 .0 .1) (omega (arith, few, member-count n)) (b .pre .1 .0 .2))
+    (λ x. Record ((read-back _ (c .of .ok) ∙ c .of .ensures) x) (toZ-ofZ (b .fits .first-least) x) (e x) (count-is f x) (k x) (member-count n x))
+    (schema-is f)
+    (proof-is f fits)
+    (n .fill-nodes .ensures .1 .0 few ∙ ap (padded (pos 0) (length (a .out-nodes .now))) (nodes-are (TA b) (TB b) (b .pre .1 .1 .0) (b .pre .1 .1 .1) (first-numbers f) (second-numbers f) (gives-first f) (gives-second f)))
+    (n .fill-nodes .ensures .1 .1 few ∙ ap (padded (pos 0) (length (a .out-members .now))) (members-are (TA b) (TB b) (b .pre .1 .1 .0) (b .pre .1 .1 .1) (first-numbers f) (second-numbers f) (gives-first f) (gives-second f)))
+
+pub filled-spec : {M : Type 1} → statement M
+filled-spec =
+    tie.close
+    (tie.spec
+    add-or-row
+    slice-aggregate-fill-rows
+    slice-aggregate-fill-rows-2
+    fill-rows-requires
+    add-if1
+    add-if1-2
+    refuse-requires
+    same-length
+    same-length-2
+    same-length-3
+    same-length-4
+    returns
+    slice-aggregate-fill-nodes
+    slice-aggregate-fill-nodes-2
+    fill-nodes-requires
+    refuse-requires-2
+    same-length-5
+    same-length-6
+    same-length-7
+    same-length-8
+    returns-2
+    of-requires
+    add-t38
+    add-t39
+    add-t70
+    same-length-9
+    same-length-10
+    same-length-11
+    same-length-12
+    returns-3)
