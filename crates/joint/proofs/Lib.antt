@@ -7,5 +7,6 @@ pub mod Nodes
 pub mod Joining
 pub mod Accepted
 pub mod TurnedAway
+pub mod Lent
 -- The definitions computed.
 pub mod Trials
