@@ -140,6 +140,28 @@ uint64_t zorambi_tidy(const int32_t *schema, size_t schema_len, size_t schema_ro
                       int32_t *tidy_proof, size_t tidy_proof_len, int32_t *tidy_nodes, size_t tidy_nodes_len,
                       int32_t *tidy_members, size_t tidy_members_len, int32_t results[3]);
 
+/* ---- One record for either fault. */
+
+/* Two records joined: the schema has the first's rows, the second's, then the or of both roots as its root. The tableau
+ * starts with rule 1 on that or, then has the first's nodes and the second's; the proof rows, the first's before the second's, are
+ * tidied as by zorambi_tidy. The lent tables need their full sizes, 4096, 4096, 9216 and 8192 numbers; the results of a success
+ * are root, least and the numbers of schema rows, proof rows, nodes and members, and the tables are 0 past these. zorambi_check
+ * accepts the join; its nodes are one more than those of both, its links the sum of theirs. What zorambi_check refuses
+ * is refused alike, the first before the second; then least values that differ; then a join over a limit. Tables and results are
+ * then all 0. */
+uint64_t zorambi_join(const int32_t *schema_1, size_t schema_1_len, size_t schema_1_rows,
+                      const int32_t *proof_1, size_t proof_1_len, size_t proof_1_rows,
+                      int32_t root_1, int32_t least_1,
+                      const int32_t *nodes_1, size_t nodes_1_len, size_t node_1_rows,
+                      const int32_t *members_1, size_t members_1_len, size_t member_1_count,
+                      const int32_t *schema_2, size_t schema_2_len, size_t schema_2_rows,
+                      const int32_t *proof_2, size_t proof_2_len, size_t proof_2_rows,
+                      int32_t root_2, int32_t least_2,
+                      const int32_t *nodes_2, size_t nodes_2_len, size_t node_2_rows,
+                      const int32_t *members_2, size_t members_2_len, size_t member_2_count,
+                      int32_t *schema, size_t schema_len, int32_t *proof, size_t proof_len,
+                      int32_t *nodes, size_t nodes_len, int32_t *members, size_t members_len, int32_t results[6]);
+
 /* The one number that comes back from the others: ((answer * 8192 + place + 1) * 8192 + nodes) * 8192 + links. In reading and
  * writing both counts are 0, but that a text that was written has its bytes in their place. */
 static inline unsigned zorambi_answer(uint64_t packed) { return (unsigned)(packed >> 39); }
@@ -179,6 +201,8 @@ enum zorambi_answer_number {
   /* checking */
   ZORAMBI_REPEATED = 27,        /* a proof row equals an earlier schema or proof row, not in the older check; place: the row */
   /* joining */
+  ZORAMBI_LEASTS = 28,          /* the least values differ; place: -1 */
+  ZORAMBI_JOINT = 29,           /* the joined record passes a limit; place: -1 */
   /* finding a model */
   ZORAMBI_WIRES = 30,           /* more than 16 pairs occur; place: -1 */
   /* the next small table */
@@ -343,6 +367,28 @@ static inline uint64_t zorambi_c_tidy(const int32_t *schema, size_t schema_len, 
                       zorambi_lent_numbers(tidy_nodes, tidy_nodes_len), tidy_nodes_len,
                       zorambi_lent_numbers(tidy_members, tidy_members_len), tidy_members_len, results);
 }
+/* One record for either fault. */
+static inline uint64_t zorambi_c_join(const int32_t *schema_1, size_t schema_1_len, size_t schema_1_rows, const int32_t *proof_1,
+                                      size_t proof_1_len, size_t proof_1_rows, int32_t root_1, int32_t least_1,
+                                      const int32_t *nodes_1, size_t nodes_1_len, size_t node_1_rows, const int32_t *members_1,
+                                      size_t members_1_len, size_t member_1_count, const int32_t *schema_2, size_t schema_2_len,
+                                      size_t schema_2_rows, const int32_t *proof_2, size_t proof_2_len, size_t proof_2_rows,
+                                      int32_t root_2, int32_t least_2, const int32_t *nodes_2, size_t nodes_2_len,
+                                      size_t node_2_rows, const int32_t *members_2, size_t members_2_len, size_t member_2_count,
+                                      int32_t *schema, size_t schema_len, int32_t *proof, size_t proof_len, int32_t *nodes,
+                                      size_t nodes_len, int32_t *members, size_t members_len, int32_t results[6]) {
+  return zorambi_join(zorambi_numbers_of(schema_1, schema_1_len), schema_1_len, schema_1_rows,
+                      zorambi_numbers_of(proof_1, proof_1_len), proof_1_len, proof_1_rows, root_1, least_1,
+                      zorambi_numbers_of(nodes_1, nodes_1_len), nodes_1_len, node_1_rows,
+                      zorambi_numbers_of(members_1, members_1_len), members_1_len, member_1_count,
+                      zorambi_numbers_of(schema_2, schema_2_len), schema_2_len, schema_2_rows,
+                      zorambi_numbers_of(proof_2, proof_2_len), proof_2_len, proof_2_rows, root_2, least_2,
+                      zorambi_numbers_of(nodes_2, nodes_2_len), nodes_2_len, node_2_rows,
+                      zorambi_numbers_of(members_2, members_2_len), members_2_len, member_2_count,
+                      zorambi_lent_numbers(schema, schema_len), schema_len, zorambi_lent_numbers(proof, proof_len), proof_len,
+                      zorambi_lent_numbers(nodes, nodes_len), nodes_len, zorambi_lent_numbers(members, members_len), members_len,
+                      results);
+}
 
 #define zorambi_check zorambi_c_check
 #define zorambi_check_older zorambi_c_check_older
@@ -369,6 +415,8 @@ static inline uint64_t zorambi_c_tidy(const int32_t *schema, size_t schema_len, 
 #define zorambi_convert zorambi_c_convert
 /* Older records, tidied. */
 #define zorambi_tidy zorambi_c_tidy
+/* One record for either fault. */
+#define zorambi_join zorambi_c_join
 
 #ifdef __cplusplus
 }

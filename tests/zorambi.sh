@@ -278,6 +278,19 @@ made "another exit status" 2 'echo none; exit 3'
 misuse find
 misuse find "$work/record"
 misuse find "$work/record" 3 4
+# A command that prints nothing, and one whose refusal says in lines before the line at fault whose it is.
+maker '[ "$1 $3 $4" = "join b c" ]'
+use join "$work/record" b c
+expect "two records" ended 0 0
+expect "two records, nothing printed" cmp -s "$work/out" /dev/null
+maker 'printf "answer place nodes links\n14 5 0 0\n"; printf "in the second record:\nb/proof.txt:12: 4 8 -1 -1 -1 1 2 5 7\n" >&2; exit 1'
+use join "$work/record" b c
+expect "a second record refused" ended 1 0
+expect "a second record refused, what is said" said "refused: a link's bounds: n - by may lie outside its target's (14) at node 5" \
+  "in the second record:" "b/proof.txt:12: 4 8 -1 -1 -1 1 2 5 7"
+misuse join
+misuse join "$work/record" "$work/record"
+misuse join "$work/record" "$work/record" c d
 rm -rf "$work/repo/tools" "$work/kit/cargo"
 
 # ---- a proof row written twice

@@ -269,6 +269,45 @@ static void tidy(void) {
           ZORAMBI_TABLE_TOO_SHORT, 0);
 }
 
+/* ---- One record for either fault. */
+
+/* False at 3 and later, twice: the first by rule 5 at once, the second with a proof row that it does not use. */
+static void join(void) {
+  static const int32_t no[] = {1, 0, 0, 0}, more[] = {0, 0, 0, 0}, nodes_in[] = {-1, 5, 0, -1, -1, -1, 0, 0, 1}, members_in[] = {0};
+  static const int32_t joined[] = {1, 0, 0, 0, 1, 0, 0, 0, 5, 0, 1, 0}, members_out[] = {2, 0, 1};
+  static const int32_t nodes_out[] = {-1, 1, 2, -1, -1, -1, 0, 0, 1, 0, 5, 0, -1, -1, -1, 0, 1, 1, 0, 5, 1, -1, -1, -1, 0, 2, 1};
+  static int32_t rows[4096];
+  int32_t results[6] = {7, 7, 7, 7, 7, 7};
+  memset(table, 7, sizeof table);
+  memset(rows, 7, sizeof rows);
+  memset(nodes, 7, sizeof nodes);
+  memset(members, 7, sizeof members);
+#define NO(least) no, 4, 1, NULL, 0, 0, 0, least, nodes_in, 9, 1, members_in, 1, 1
+#define NO_MORE(least) no, 4, 1, more, 4, 1, 0, least, nodes_in, 9, 1, members_in, 1, 1
+#define NO_NODE no, 4, 1, NULL, 0, 0, 0, 3, NULL, 0, 0, NULL, 0, 0
+#define NOTHING NULL, 0, 0, NULL, 0, 0, 0, 0, NULL, 0, 0, NULL, 0, 0
+#define COUNTED NULL, 0, 1, NULL, 0, 1, 0, 0, NULL, 0, 1, NULL, 0, 1
+#define LENT table, 4096, rows, 4096, nodes, 9216, members, 8192, results
+#define ALL_ZERO (all_zero(table, 4096) && all_zero(rows, 4096) && all_zero(nodes, 9216) && all_zero(members, 8192) && all_zero(results, 6))
+  answers("joined", zorambi_join(NO(3), NO_MORE(3), LENT), ZORAMBI_ACCEPTED, 0);
+  test("joined, results", results[0] == 2 && results[1] == 3 && results[2] == 3 && results[3] == 1 && results[4] == 3 && results[5] == 3);
+  test("joined, schema", memcmp(table, joined, sizeof joined) == 0 && all_zero(table + 12, 4084));
+  test("joined, proof rows", all_zero(rows, 4096));
+  test("joined, nodes", memcmp(nodes, nodes_out, sizeof nodes_out) == 0 && all_zero(nodes + 27, 9189));
+  test("joined, members", memcmp(members, members_out, sizeof members_out) == 0 && all_zero(members + 3, 8189));
+  answers("joined, checked", zorambi_check(table, 4096, 3, rows, 4096, 1, 2, 3, nodes, 9216, 3, members, 8192, 3), ZORAMBI_ACCEPTED, 0);
+  answers("other least values", zorambi_join(NO(3), NO_MORE(4), LENT), ZORAMBI_LEASTS, -1);
+  test("other least values, memory", ALL_ZERO);
+  answers("no node to join", zorambi_join(NO(3), NO_NODE, LENT), ZORAMBI_PARENT, -1);
+  test("no node to join, memory", ALL_ZERO);
+  answers("nothing to join", zorambi_join(NOTHING, NO(3), LENT), ZORAMBI_ROOT, -1);
+  answers("nothing to join with", zorambi_join(NO(3), NOTHING, LENT), ZORAMBI_ROOT, -1);
+  answers("nothing to join counted", zorambi_join(COUNTED, NO_NODE, LENT), ZORAMBI_TABLE_TOO_SHORT, -1);
+  answers("nothing to join with counted", zorambi_join(NO(3), COUNTED, LENT), ZORAMBI_TABLE_TOO_SHORT, -1);
+  answers("no tables for joining", zorambi_join(NOTHING, NOTHING, NULL, 0, NULL, 0, NULL, 0, NULL, 0, results),
+          ZORAMBI_TABLE_TOO_SHORT, 0);
+}
+
 int main(void) {
   check(zorambi_check);
   which = ", older";
@@ -290,6 +329,7 @@ int main(void) {
   /* older records, tidied */
   tidy();
   /* one record for either fault */
+  join();
   /* a tableau that grows */
   printf("%d passed, %d failed\n", passed, failed);
   return failed > 0;

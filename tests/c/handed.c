@@ -101,6 +101,17 @@ int main(void) {
   HANDS(zorambi_tidy(NULL, 0, 12, NULL, 0, 14, 15, 16, NULL, 0, 18, NULL, 0, 20, NULL, 0, NULL, 0, NULL, 0, r), 22,
         SOME, 0, 12, SOME, 0, 14, 15, 16, SOME, 0, 18, SOME, 0, 20, SOME, 0, SOME, 0, SOME, 0, AT(r));
 
+  /* One record for either fault. */
+  HANDS(zorambi_join(a, 11, 12, b, 13, 14, 15, 16, c, 17, 18, d, 19, 20, e, 21, 22, f, 23, 24, 25, 26, g, 27, 28, h, 29, 30,
+                     w, 31, w + 1, 32, w + 2, 33, w + 3, 34, r), 23,
+        AT(a), 11, 12, AT(b), 13, 14, 15, 16, AT(c), 17, 18, AT(d), 19, 20,
+        AT(e), 21, 22, AT(f), 23, 24, 25, 26, AT(g), 27, 28, AT(h), 29, 30,
+        AT(w), 31, AT(w + 1), 32, AT(w + 2), 33, AT(w + 3), 34, AT(r));
+  HANDS(zorambi_join(NULL, 0, 12, NULL, 0, 14, 15, 16, NULL, 0, 18, NULL, 0, 20, NULL, 0, 22, NULL, 0, 24, 25, 26, NULL, 0, 28,
+                     NULL, 0, 30, NULL, 0, NULL, 0, NULL, 0, NULL, 0, r), 23,
+        SOME, 0, 12, SOME, 0, 14, 15, 16, SOME, 0, 18, SOME, 0, 20, SOME, 0, 22, SOME, 0, 24, 25, 26, SOME, 0, 28,
+        SOME, 0, 30, SOME, 0, SOME, 0, SOME, 0, SOME, 0, AT(r));
+
   printf("%d passed, %d failed\n", passed, failed);
   return failed > 0;
 }

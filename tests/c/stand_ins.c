@@ -164,3 +164,24 @@ uint64_t zorambi_tidy(const int32_t *schema, size_t schema_len, size_t schema_ro
        AT(tidy_proof), tidy_proof_len, AT(tidy_nodes), tidy_nodes_len, AT(tidy_members), tidy_members_len, AT(results));
   return 22;
 }
+
+/* One record for either fault. */
+uint64_t zorambi_join(const int32_t *schema_1, size_t schema_1_len, size_t schema_1_rows,
+                      const int32_t *proof_1, size_t proof_1_len, size_t proof_1_rows,
+                      int32_t root_1, int32_t least_1,
+                      const int32_t *nodes_1, size_t nodes_1_len, size_t node_1_rows,
+                      const int32_t *members_1, size_t members_1_len, size_t member_1_count,
+                      const int32_t *schema_2, size_t schema_2_len, size_t schema_2_rows,
+                      const int32_t *proof_2, size_t proof_2_len, size_t proof_2_rows,
+                      int32_t root_2, int32_t least_2,
+                      const int32_t *nodes_2, size_t nodes_2_len, size_t node_2_rows,
+                      const int32_t *members_2, size_t members_2_len, size_t member_2_count,
+                      int32_t *schema, size_t schema_len, int32_t *proof, size_t proof_len,
+                      int32_t *nodes, size_t nodes_len, int32_t *members, size_t members_len, int32_t results[6]) {
+  NOTE(AT(schema_1), schema_1_len, schema_1_rows, AT(proof_1), proof_1_len, proof_1_rows, NUMBER(root_1), NUMBER(least_1),
+       AT(nodes_1), nodes_1_len, node_1_rows, AT(members_1), members_1_len, member_1_count,
+       AT(schema_2), schema_2_len, schema_2_rows, AT(proof_2), proof_2_len, proof_2_rows, NUMBER(root_2), NUMBER(least_2),
+       AT(nodes_2), nodes_2_len, node_2_rows, AT(members_2), members_2_len, member_2_count,
+       AT(schema), schema_len, AT(proof), proof_len, AT(nodes), nodes_len, AT(members), members_len, AT(results));
+  return 23;
+}

@@ -273,3 +273,36 @@ entry! {
         results: &mut [i32; 3],
     )
 }
+
+// One record for either fault.
+
+entry! {
+    /// Joins two records. Results: root, least, schema rows, proof rows, nodes, members.
+    join = zorambi_join(
+        first_schema: &[i32],
+        first_schema_rows: usize,
+        first_proof: &[i32],
+        first_proof_rows: usize,
+        first_root: i32,
+        first_least: i32,
+        first_nodes: &[i32],
+        first_node_rows: usize,
+        first_members: &[i32],
+        first_member_count: usize,
+        second_schema: &[i32],
+        second_schema_rows: usize,
+        second_proof: &[i32],
+        second_proof_rows: usize,
+        second_root: i32,
+        second_least: i32,
+        second_nodes: &[i32],
+        second_node_rows: usize,
+        second_members: &[i32],
+        second_member_count: usize,
+        schema: &mut [i32],
+        proof: &mut [i32],
+        nodes: &mut [i32],
+        members: &mut [i32],
+        results: &mut [i32; 6],
+    )
+}

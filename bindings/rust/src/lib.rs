@@ -88,3 +88,7 @@ pub use convert::convert;
 // Older records, tidied.
 mod tidy;
 pub use tidy::tidy;
+
+// One record for either fault.
+mod join;
+pub use join::join;

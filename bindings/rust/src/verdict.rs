@@ -57,6 +57,9 @@ refusals! {
     // Enquiry and commit.
     // Proof rows written twice.
     Repeated = 27, "a proof row written twice";
+    // One record for either fault.
+    Leasts = 28, "least values that differ";
+    Joint = 29, "a joined record that passes a limit";
     // A failing width.
     Wires = 30, "more than 16 pairs that occur in the schema at n";
 }

@@ -32,6 +32,8 @@ pub const COMMANDS: &[Command] = &[
     ("convert", "DIR", convert::convert),
     // Older records, tidied.
     ("tidy", "DIR", tidy::tidy),
+    // One record for either fault.
+    ("join", "DIR1 DIR2 OUT", join::join),
 ];
 
 // A failing width.
@@ -42,3 +44,6 @@ pub mod convert;
 
 // Older records, tidied.
 pub mod tidy;
+
+// One record for either fault.
+pub mod join;

@@ -81,7 +81,7 @@ impl Text {
             told.extend(zorambi::line(&self.bytes, line));
             told.push(b'\n');
         } else if !self.folder.is_empty() {
-            told.extend(format!("in {}\n", self.folder).bytes());
+            told.extend(format!("{}\n", self.folder).bytes());
         }
         Stop::Refused(refused, told)
     }
