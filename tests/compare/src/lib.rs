@@ -12,6 +12,7 @@
 //! * [`soundness`]: accepted records evaluated
 //! * [`kinds`]: how often cases of each kind were compared, for entries that are compared by themselves
 //! * [`tidy`]: older records tidied
+//! * [`join`]: two records joined
 //! * [`tally`]: what passed and failed, and how often each answer occurred
 
 pub mod again;
@@ -20,6 +21,7 @@ pub mod convert;
 pub mod edges;
 pub mod find;
 pub mod heavy;
+pub mod join;
 pub mod kinds;
 pub mod paper;
 pub mod records;

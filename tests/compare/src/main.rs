@@ -4,7 +4,7 @@ use std::path::Path;
 use std::process::exit;
 use zorambi_compare::kinds::Run;
 use zorambi_compare::tally::Tally;
-use zorambi_compare::{convert, edges, find, heavy, paper, records, sides, tidy};
+use zorambi_compare::{convert, edges, find, heavy, join, paper, records, sides, tidy};
 use zorambi_reference::generate::{across, case, ranges, twice, Case};
 
 const USE: &str = "\
@@ -23,6 +23,8 @@ const ENTRIES: &[Entry] = &[
     (convert::test, convert::heavy),
     // Older records, tidied.
     (tidy::test, tidy::heavy),
+    // Two records, joined.
+    (join::test, join::heavy),
 ];
 
 fn generated(tally: &mut Tally, seed: u64, count: u64) {

@@ -253,7 +253,7 @@ impl Comparison<'_> {
 }
 
 /// The row with its parts changed.
-fn with_parts([kind, a, b, c]: Row, mut change: impl FnMut(i32) -> i32) -> Row {
+pub(crate) fn with_parts([kind, a, b, c]: Row, mut change: impl FnMut(i32) -> i32) -> Row {
     match kind {
         AND | OR => [kind, change(a), change(b), c],
         BIG_AND | BIG_OR => [kind, change(a), b, c],
@@ -262,7 +262,7 @@ fn with_parts([kind, a, b, c]: Row, mut change: impl FnMut(i32) -> i32) -> Row {
 }
 
 /// The first proof row that stands earlier is taken out, until there is none; sets are as they come.
-fn one_by_one(mut tree: Tree) -> Tree {
+pub(crate) fn one_by_one(mut tree: Tree) -> Tree {
     let repeat = |tree: &Tree| {
         (tree.schema_count..tree.rows.len()).find_map(|row| {
             let first = tree.rows[..row].iter().position(|earlier| *earlier == tree.rows[row])?;
@@ -424,8 +424,40 @@ pub fn test(tally: &mut Tally, run: &Run) {
 }
 
 /// The paper's record.
-fn paper() -> Tree {
+pub(crate) fn paper() -> Tree {
     records::tables(SCHEMA.as_bytes(), PROOF.as_bytes()).tree()
+}
+
+/// The paper's record with each refusal of the older check: the answer and its place.
+pub(crate) fn faulty() -> Vec<((u64, i64), Tables)> {
+    let with = |change: &dyn Fn(&mut Tree)| {
+        let mut tree = paper();
+        change(&mut tree);
+        tree.tables()
+    };
+    let mut cases = vec![
+        ((6, -1), with(&|tree| tree.least = -1)),
+        ((7, 8), with(&|tree| tree.rows[8][0] = 8)),
+        ((8, 20), with(&|tree| tree.rows.extend((8..20).map(|row| [AND, row, row, 0])))),
+        ((6, -1), with(&|tree| tree.root = 0)),
+        ((9, 1), with(&|tree| tree.nodes[1].set.reverse())),
+        ((10, 2), with(&|tree| tree.nodes[2].fields[0] = 2)),
+        ((11, 6), with(&|tree| tree.nodes[6].set = vec![5, 6, 8])),
+        ((12, 6), with(&|tree| tree.nodes[6].fields.swap(2, 3))),
+        ((13, 5), with(&|tree| tree.nodes[5].fields[5] = 6)),
+        ((14, 5), with(&|tree| tree.nodes[5].fields[6] = 2)),
+        ((15, 4), with(&|tree| tree.nodes[4].fields[4] = 8)),
+        ((16, 5), with(&|tree| tree.nodes[5].set = vec![5])),
+        ((17, 4), with(&|tree| tree.nodes.truncate(6))),
+    ];
+    let mut short = paper().tables();
+    short.members.pop();
+    cases.push(((2, -1), short));
+    let mut many = paper().tables();
+    many.proof.resize(4 * 1020, 0);
+    many.proof_count = 1020;
+    cases.push(((5, -1), many));
+    cases
 }
 
 impl Comparison<'_> {
@@ -475,28 +507,9 @@ impl Comparison<'_> {
         }
     }
 
-    /// The paper's record with each refusal of the older check, and with rows again besides; result tables too short.
+    /// Each refusal of the older check, and with a row again besides; result tables too short.
     fn refusals(&mut self) {
-        let with = |change: &dyn Fn(&mut Tree)| {
-            let mut tree = paper();
-            change(&mut tree);
-            tree.tables()
-        };
-        let mut cases = vec![
-            ((6, -1), with(&|tree| tree.least = -1)),
-            ((7, 8), with(&|tree| tree.rows[8][0] = 8)),
-            ((8, 20), with(&|tree| tree.rows.extend((8..20).map(|row| [AND, row, row, 0])))),
-            ((6, -1), with(&|tree| tree.root = 0)),
-            ((9, 1), with(&|tree| tree.nodes[1].set.reverse())),
-            ((10, 2), with(&|tree| tree.nodes[2].fields[0] = 2)),
-            ((11, 6), with(&|tree| tree.nodes[6].set = vec![5, 6, 8])),
-            ((12, 6), with(&|tree| tree.nodes[6].fields.swap(2, 3))),
-            ((13, 5), with(&|tree| tree.nodes[5].fields[5] = 6)),
-            ((14, 5), with(&|tree| tree.nodes[5].fields[6] = 2)),
-            ((15, 4), with(&|tree| tree.nodes[4].fields[4] = 8)),
-            ((16, 5), with(&|tree| tree.nodes[5].set = vec![5])),
-            ((17, 4), with(&|tree| tree.nodes.truncate(6))),
-        ];
+        let mut cases = faulty();
         let again: Vec<_> = cases
             .iter()
             .map(|(expected, t)| {
@@ -507,13 +520,6 @@ impl Comparison<'_> {
             })
             .collect();
         cases.extend(again);
-        let mut short = paper().tables();
-        short.members.pop();
-        cases.push(((2, -1), short));
-        let mut many = paper().tables();
-        many.proof.resize(4 * 1020, 0);
-        many.proof_count = 1020;
-        cases.push(((5, -1), many));
         for (expected, t) in cases {
             let what = format!("tidying what the older check refuses with {expected:?}");
             self.put(&what, &t);

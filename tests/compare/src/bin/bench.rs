@@ -10,6 +10,7 @@ use zorambi_compare::calls::{of_library, of_reference, CheckEntry};
 use zorambi_compare::convert;
 use zorambi_compare::find;
 use zorambi_compare::heavy::{self, Part};
+use zorambi_compare::join;
 use zorambi_compare::records;
 use zorambi_compare::tidy;
 use zorambi_reference::generate::models::ModelTables;
@@ -348,6 +349,34 @@ fn tidies(shipped: &[Shipped]) {
     }
 }
 
+/// Two records joined.
+fn joins(shipped: &[Shipped]) {
+    println!("\n## Joining");
+    heading("records | answer | rows | rows that stay | nodes | members");
+    let of_record = |name: &str| {
+        let record = shipped.iter().find(|record| record.name == name).expect("a shipped record");
+        records::tables(&record.schema, &record.proof)
+    };
+    let of_records = [("the adder's and chain_either_end", [of_record("rca_zero"), of_record("chain_either_end")])];
+    for (name, pair) in of_records.into_iter().chain(join::worst()) {
+        let seen = join::of_both(pair.each_ref()).unwrap_or_else(|why| panic!("{name}: {why}"));
+        let [mut ours, mut theirs] = [(); 2].map(|()| join::FULL.map(|length| vec![1; length]));
+        let mut results = [0; 6];
+        let times = time(
+            || {
+                let tables = ours.each_mut().map(Vec::as_mut_slice);
+                black_box(join::of_entry(black_box(pair.each_ref()), tables, &mut results));
+            },
+            || {
+                black_box(join::of_other(black_box(pair.each_ref()), &mut theirs));
+            },
+        );
+        let rows: usize = 1 + pair.iter().map(|t| t.schema_count + t.proof_count).sum::<usize>();
+        let [stay, nodes, members] = [seen.results[2] + seen.results[3], seen.results[4], seen.results[5]];
+        println!("| {name} | {} | {rows} | {stay} | {nodes} | {members} | {} |", seen.answer(), times.cells());
+    }
+}
+
 fn model_tables(record: &Shipped) -> ModelTables {
     let Tables { root, least, schema, schema_count, .. } = records::tables(&record.schema, &record.proof);
     let mut pairs = vec![0; 8192];
@@ -550,6 +579,7 @@ fn main() {
     checks(&shipped);
     none_twice();
     tidies(&shipped);
+    joins(&shipped);
     models(&shipped);
     finds();
     texts(&shipped);
