@@ -30,7 +30,8 @@ ghost use Rattle.joint.specs.Joint.{join as joinOf};
 ghost use Rattle.joint.specs.declared.Joined.the-variants.{Refused as JoinRefused};
 ghost use Rattle.join.specs.Kept.{rooms, Gives, AllReadable, bothNodes, bothSets, plain, tooLarge, afterFirst, Answers};
 
-// The formula rows of both, tidied, and the new number of each. How many proof rows stay.
+// The formula rows of both, tidied, and the new number of each. How many proof rows stay. Until they are folded every row has the number
+// of its place, which is below 4,097.
 fn fill_rows(
     first_schema: &[i32],
     first_schema_rows: usize,
