@@ -7,14 +7,15 @@ use mathlib.Core.Option.{Option, none, some}
 use Rattle.stab.specs.Basic.{_otherwise_, allOf, nat}
 use Rattle.stab.specs.Node.{Tableau, node, set, rank}
 use Rattle.stab.specs.Rule as R
-use Rattle.stab.specs.Rule.{drawn, drawnFrom, fieldsFit, targetFits, boundFits, partnersFit, loweredFits, childrenFit}
-use Rattle.stab.specs.Check.{finding, atUnless, stepRefusal, nodeRefusal}
+use Rattle.stab.specs.Rule.{drawn, drawnFrom, fieldsFit, targetFits, boundFits, partnersFit, loweredFits}
+use Rattle.stab.specs.Check.{finding, atUnless, stepRefusal}
 use Rattle.stab.specs.declared.Place.the-variants.{At}
 use Rattle.stab.specs.declared.Refusal.{Refusal}
 use Rattle.stab.specs.declared.Refusal.the-variants.{Drawn, Fields, Target, Bound, Partner, Lowered, Children}
 use Rattle.stab.specs.declared.Finding.the-variants.{Nothing, Found}
 use Rattle.stab.specs.declared.Verdict.{Verdict}
 use Rattle.stab.specs.declared.Verdict.the-variants.{Refused}
+use Rattle.steps.specs.Judged.{childrenAs, nodeRefusalAs}
 use Rattle.stab.proofs.Bools.{unless-none, none-unless, some-unless, otherwise-first, otherwise-second, otherwise-none, otherwise-some}
 
 -- ---- one test
@@ -93,17 +94,17 @@ module _ (T : Tableau) (j : ℕ) where
 
   -- ---- and 17
 
-  pub step-found : (v : Verdict) → stepRefusal T j ≡ some v → some v ≡ nodeRefusal T j
-  unfolding nodeRefusal
-  step-found v h = sym (otherwise-some (stepRefusal T j) _ v h)
+  pub step-found : (whole : Bool) (v : Verdict) → stepRefusal T j ≡ some v → some v ≡ nodeRefusalAs whole T j
+  unfolding nodeRefusalAs
+  step-found whole v h = sym (otherwise-some (stepRefusal T j) _ v h)
 
-  module _ (h : stepRefusal T j ≡ none) where
-    pub children-found : childrenFit T j ≡ false → finding (Found Children (At j)) ≡ nodeRefusal T j
-    unfolding nodeRefusal
+  module _ (whole : Bool) (h : stepRefusal T j ≡ none) where
+    pub children-found : childrenAs whole T j ≡ false → finding (Found Children (At j)) ≡ nodeRefusalAs whole T j
+    unfolding nodeRefusalAs
     children-found c = last-found _ _ _ c ∙ sym (otherwise-none (stepRefusal T j) _ h)
 
-    pub node-passes : childrenFit T j ≡ true → finding Nothing ≡ nodeRefusal T j
-    unfolding nodeRefusal
+    pub node-passes : childrenAs whole T j ≡ true → finding Nothing ≡ nodeRefusalAs whole T j
+    unfolding nodeRefusalAs
     node-passes c = last-passes _ _ _ c ∙ sym (otherwise-none (stepRefusal T j) _ h)
 
 -- ---- the set of node 0 is drawn from nothing

@@ -12,16 +12,17 @@ use stab::Refusal;
 ghost use mathlib.Core.Path.{_≡_};
 ghost use mathlib.Core.Bool.{true};
 ghost use Prim.Native.Nat.{_+_, _*_, _<_, _^_};
-ghost use lib.Dec.{eqb};
+ghost use lib.Dec.{eqb, leb};
 ghost use lib.ListN.{getD};
-ghost use Rattle.stab.specs.Basic.{_implies_, nat, below, scan};
+ghost use Rattle.stab.specs.Basic.{if_then_else_, _implies_, nat, below, scan};
 ghost use Rattle.stab.specs.Formula.{joined};
 ghost use Rattle.stab.specs.Node.{nodeAt};
 ghost use Rattle.stab.specs.Rule.{ruleOf, ofRule, drawn, loweredFits};
-ghost use Rattle.stab.specs.Check.{finding, stepRefusal, nodeRefusal};
+ghost use Rattle.stab.specs.Check.{finding, stepRefusal};
 ghost use Rattle.classes.specs.Class.{Ready as Compared};
 ghost use Rattle.branch.specs.Lent.{lent, SetOfRows, ChildKnown};
 ghost use Rattle.steps.specs.Ready.{Ready};
+ghost use Rattle.steps.specs.Judged.{nodeRefusalAs};
 
 // 11: the set of node j is drawn from its parent's. Node 0 has none.
 fn drawn_fits(
@@ -78,13 +79,18 @@ fn lowered_fits(
     lowered::all_lowered(schema, proof, nodes, members, forms, t, j, to, by)
 }
 
-// 17: the number of children is the rule's.
-fn children_fit(nodes: &[i32], work: &[u32], j: usize) -> bool
+// 17: the number of children is the rule's; among rows that are held it is not beyond it.
+pub fn children_fit(whole: bool, nodes: &[i32], work: &[u32], j: usize) -> bool
     requires { ⌜ (j < 2 ^ 32) × (below 9 (nodeAt (now nodes) j .rule) ≡ true) ⌝ }
-    ensures { λ r. ⌜ r ≡ eqb (getD (now (work .entry)) (4 * j + 3) 0) (ruleOf (nodeAt (now (nodes .entry)) j .rule) .children) ⌝ }
+    ensures { λ r. ⌜ r ≡ (if whole then eqb (getD (now (work .entry)) (4 * j + 3) 0) (ruleOf (nodeAt (now (nodes .entry)) j .rule) .children) else leb (getD (now (work .entry)) (4 * j + 3) 0) (ruleOf (nodeAt (now (nodes .entry)) j .rule) .children)) ⌝ }
 {
     let rule = rules::rule_at(node::natural_of(nodes, j, node::RULE));
-    kept::kept_at(work, 4 * j + worked::CHILDREN) == rule.children
+    let children = kept::kept_at(work, 4 * j + worked::CHILDREN);
+    if whole {
+        children == rule.children
+    } else {
+        children <= rule.children
+    }
 }
 
 // What is found of node j: 11 to 16, which look at no later node.
@@ -142,8 +148,9 @@ fn step(
     Finding::Nothing
 }
 
-// What is found of node j.
+// What is found of node j, in a whole record or among rows that are held.
 fn judge(
+    whole: bool,
     schema: &[i32],
     proof: &[i32],
     nodes: &[i32],
@@ -156,13 +163,13 @@ fn judge(
 ) -> Finding
     requires { ⌜ j < t .nodes ⌝ }
     requires { ⌜ Ready (lent (now schema) (now proof) (now nodes) (now members) t) (now facts) (now forms) (now work) ⌝ }
-    ensures { λ r. ⌜ finding r ≡ nodeRefusal (lent (now (schema .entry)) (now (proof .entry)) (now (nodes .entry)) (now (members .entry)) t) j ⌝ }
+    ensures { λ r. ⌜ finding r ≡ nodeRefusalAs whole (lent (now (schema .entry)) (now (proof .entry)) (now (nodes .entry)) (now (members .entry)) t) j ⌝ }
 {
     let found = step(schema, proof, nodes, members, facts, forms, work, t, j);
     let Finding::Nothing = found else {
         return found;
     };
-    if !children_fit(nodes, work, j) {
+    if !children_fit(whole, nodes, work, j) {
         return Finding::Found {
             why: Refusal::Children,
             place: Place::At(j),
@@ -173,6 +180,7 @@ fn judge(
 
 // What is found of the nodes, ascending.
 pub fn each_node(
+    whole: bool,
     schema: &[i32],
     proof: &[i32],
     nodes: &[i32],
@@ -183,11 +191,22 @@ pub fn each_node(
     t: Counts,
 ) -> Finding
     requires { ⌜ Ready (lent (now schema) (now proof) (now nodes) (now members) t) (now facts) (now forms) (now work) ⌝ }
-    ensures { λ r. ⌜ finding r ≡ scan (nodeRefusal (lent (now (schema .entry)) (now (proof .entry)) (now (nodes .entry)) (now (members .entry)) t)) (t .nodes) ⌝ }
+    ensures { λ r. ⌜ finding r ≡ scan (nodeRefusalAs whole (lent (now (schema .entry)) (now (proof .entry)) (now (nodes .entry)) (now (members .entry)) t)) (t .nodes) ⌝ }
 {
     let mut j: usize = 0;
     while j < t.nodes {
-        let found = judge(schema, proof, nodes, members, facts, forms, work, t, j);
+        let found = judge(
+            whole,
+            schema,
+            proof,
+            nodes,
+            members,
+            facts,
+            forms,
+            work,
+            t,
+            j,
+        );
         let Finding::Nothing = found else {
             return found;
         };

@@ -1,13 +1,13 @@
 -- Laws of the check's passes, one after the other.
 use Prim.Native.Nat.{ℕ, _≤_, _<_}
-use mathlib.Core.Path.{_≡_, sym, _∙_, ap}
+use mathlib.Core.Path.{_≡_, refl, sym, _∙_, ap}
 use mathlib.Core.Bool.{Bool, true, false}
 use mathlib.Core.Option.{Option, none, Option·some-ne-none}
 use lib.Dec.{ltb}
 use lib.IntN.{pos}
-use Rattle.stab.specs.Basic.{within, below, _otherwise_, scan}
+use Rattle.stab.specs.Basic.{if_then_else_, _implies_, within, below, unless, _otherwise_, scan}
 use Rattle.stab.specs.Node.{Tableau, setFits, parentFits}
-use Rattle.stab.specs.Check.{finding, wholeUnless, atUnless, rootFits, formulasRefusal, setRefusal, parentRefusal, nodeRefusal, tablesHold, withinLimits, formulasBy, refusalWith, olderFormulas, presentFormulas}
+use Rattle.stab.specs.Check.{finding, wholeUnless, atUnless, rootFits, formulasRefusal, setRefusal, parentRefusal, nodeRefusal, tablesHold, withinLimits, formulasBy, refusalBy, noNode, refusalWith, olderFormulas, presentFormulas}
 use Rattle.stab.specs.declared.Place.{Place}
 use Rattle.stab.specs.declared.Place.the-variants.{Whole}
 use Rattle.stab.specs.declared.Refusal.{Refusal}
@@ -20,7 +20,9 @@ use Rattle.stab.proofs.Bools.{and-left, and-right, some-unless, none-unless, un
 use Rattle.stab.proofs.Scans.{none-scan}
 use Rattle.stab.proofs.Findings.{otherwise-assoc}
 use Rattle.stab.proofs.Exactness.Checked.{older-clears, tableau-clears}
-use Rattle.tableau.specs.Passes.{rowsRefusal, nodesRefusal}
+use Rattle.steps.specs.Judged.{childrenAs, nodeRefusalAs}
+use Rattle.growing.specs.Growing.{childrenHeld, heldNodeRefusal, heldRefusal}
+use Rattle.tableau.specs.Passes.{rowsRefusal, noNodeAs, nodesRefusal, refusalAs}
 
 -- ---- `if !r`: r is the answer to t
 
@@ -47,35 +49,45 @@ module _ (T : Tableau) where
   least-fits h =
       and-right (below (T .schemaRows) (T .root)) _ (unless-none (rootFits (T .schemaRows) (T .root) (T .least)) _ (otherwise-first _ _ h))
 
-  pub nodes-sets : nodesRefusal T ≡ none → scan (setRefusal T) (T .nodeRows) ≡ none
-  unfolding nodesRefusal
-  nodes-sets h = otherwise-first _ _ h
+  module _ (whole : Bool) where
+    pub nodes-sets : nodesRefusal whole T ≡ none → scan (setRefusal T) (T .nodeRows) ≡ none
+    unfolding nodesRefusal
+    nodes-sets h = otherwise-first _ _ h
 
-  pub nodes-parents : nodesRefusal T ≡ none → scan (parentRefusal T) (T .nodeRows) ≡ none
-  unfolding nodesRefusal
-  nodes-parents h = otherwise-second _ _ (otherwise-second (scan (setRefusal T) (T .nodeRows)) _ h)
+    pub nodes-parents : nodesRefusal whole T ≡ none → scan (parentRefusal T) (T .nodeRows) ≡ none
+    unfolding nodesRefusal
+    nodes-parents h = otherwise-second (noNodeAs whole T) _ (otherwise-second (scan (setRefusal T) (T .nodeRows)) _ h)
 
-  pub set-fits : nodesRefusal T ≡ none → (j : ℕ) → j < T .nodeRows → setFits T j ≡ true
-  unfolding setRefusal atUnless
-  set-fits h j l = and-left _ _ (unless-none _ _ (none-scan (setRefusal T) (T .nodeRows) (nodes-sets h) j l))
+    pub set-fits : nodesRefusal whole T ≡ none → (j : ℕ) → j < T .nodeRows → setFits T j ≡ true
+    unfolding setRefusal atUnless
+    set-fits h j l = and-left _ _ (unless-none _ _ (none-scan (setRefusal T) (T .nodeRows) (nodes-sets h) j l))
 
-  pub parent-fits : nodesRefusal T ≡ none → (j : ℕ) → j < T .nodeRows → parentFits T j ≡ true
-  unfolding parentRefusal atUnless
-  parent-fits h j l = unless-none _ _ (none-scan (parentRefusal T) (T .nodeRows) (nodes-parents h) j l)
+    pub parent-fits : nodesRefusal whole T ≡ none → (j : ℕ) → j < T .nodeRows → parentFits T j ≡ true
+    unfolding parentRefusal atUnless
+    parent-fits h j l = unless-none _ _ (none-scan (parentRefusal T) (T .nodeRows) (nodes-parents h) j l)
 
-  -- the whole refusal, by its groups
-  pub refusal-is : refusalWith olderFormulas nodeRefusal T ≡ (wholeUnless (tablesHold T) TableTooShort otherwise (wholeUnless (withinLimits T) TooMany otherwise ((rowsRefusal T otherwise nodesRefusal T) otherwise scan (nodeRefusal T) (T .nodeRows))))
-  unfolding refusalWith olderFormulas rowsRefusal nodesRefusal
-  refusal-is =
-      let R = rowsRefusal T in
-      let A = scan (setRefusal T) (T .nodeRows) in
-      let B = wholeUnless (ltb 0 (T .nodeRows)) Parent in
-      let C = scan (parentRefusal T) (T .nodeRows) in
-      let D = scan (nodeRefusal T) (T .nodeRows) in
-      ap (λ (x : Option Verdict). wholeUnless (tablesHold T) TableTooShort otherwise (wholeUnless (withinLimits T) TooMany otherwise x))
-      (sym
-      (otherwise-assoc R (A otherwise (B otherwise C)) D
-      ∙ ap (λ (x : Option Verdict). R otherwise x) (otherwise-assoc A (B otherwise C) D ∙ ap (λ (x : Option Verdict). A otherwise x) (otherwise-assoc B C D))))
+    -- the whole refusal, by its groups
+    pub refusal-is : refusalAs whole olderFormulas T ≡ (wholeUnless (tablesHold T) TableTooShort otherwise (wholeUnless (withinLimits T) TooMany otherwise ((rowsRefusal T otherwise nodesRefusal whole T) otherwise scan (nodeRefusalAs whole T) (T .nodeRows))))
+    unfolding refusalAs refusalBy olderFormulas rowsRefusal nodesRefusal
+    refusal-is =
+        let R = rowsRefusal T in
+        let A = scan (setRefusal T) (T .nodeRows) in
+        let B = noNodeAs whole T in
+        let C = scan (parentRefusal T) (T .nodeRows) in
+        let D = scan (nodeRefusalAs whole T) (T .nodeRows) in
+        ap (λ (x : Option Verdict). wholeUnless (tablesHold T) TableTooShort otherwise (wholeUnless (withinLimits T) TooMany otherwise x))
+        (sym
+        (otherwise-assoc R (A otherwise (B otherwise C)) D
+        ∙ ap (λ (x : Option Verdict). R otherwise x) (otherwise-assoc A (B otherwise C) D ∙ ap (λ (x : Option Verdict). A otherwise x) (otherwise-assoc B C D))))
+
+  -- a whole record, and rows that are held
+  pub whole-is : (formulas : Tableau → Option Verdict) → refusalAs true formulas T ≡ refusalWith formulas nodeRefusal T
+  unfolding refusalAs refusalWith refusalBy noNode noNodeAs nodeRefusal nodeRefusalAs childrenAs _implies_ if_then_else_
+  whole-is formulas = refl
+
+  pub held-is : refusalAs false presentFormulas T ≡ heldRefusal T
+  unfolding refusalAs refusalBy heldRefusal heldNodeRefusal childrenHeld noNodeAs nodeRefusalAs childrenAs wholeUnless unless _implies_ if_then_else_
+  held-is = refl
 
 -- ---- the verdict from what was found
 

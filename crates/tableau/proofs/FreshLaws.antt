@@ -10,7 +10,7 @@ use borrow.Author.Tests.{leb-true, lt-ltb, ltb-true}
 use Rattle.stab.specs.Basic.{if_then_else_, _otherwise_, scan, unless, nat}
 use Rattle.stab.specs.Formula.{Row, tree, isOuter, wellFormed, smallEnough}
 use Rattle.stab.specs.Node.{Tableau, rows, rowCount}
-use Rattle.stab.specs.Check.{wholeUnless, atUnless, rowRefusal, repeatRefusal, freshRowRefusal, rootFits, formulasBy, formulasRefusal, setRefusal, parentRefusal, stepRefusal, nodeRefusal, tablesHold, withinLimits, refusalWith, olderFormulas, presentFormulas}
+use Rattle.stab.specs.Check.{wholeUnless, atUnless, rowRefusal, repeatRefusal, freshRowRefusal, rootFits, formulasBy, formulasRefusal, setRefusal, parentRefusal, stepRefusal, tablesHold, withinLimits, refusalBy, olderFormulas, presentFormulas}
 use Rattle.stab.specs.Answer.{refusalNumber}
 use Rattle.stab.specs.declared.Place.{Place}
 use Rattle.stab.specs.declared.Place.the-variants.{Whole, At}
@@ -21,6 +21,8 @@ use Rattle.stab.specs.declared.Verdict.the-variants.{Accepted, Refused}
 use Rattle.stab.proofs.Bools.{decide, if-true, and-first-false, otherwise-none, otherwise-some}
 use Rattle.stab.proofs.Findings.{otherwise-assoc}
 use Rattle.stab.proofs.Scans.{scan-same, scan-found, scan-first, none-scan}
+use Rattle.steps.specs.Judged.{nodeRefusalAs}
+use Rattle.tableau.specs.Passes.{noNodeAs, refusalAs}
 use Rattle.tableau.specs.Fresh.{atRow, rowsBefore, reached, countIn}
 
 -- ---- scans
@@ -87,21 +89,21 @@ late-scan f zero h = record { late = λ m. refl }
 late-scan f (suc n) h = late-scan f n h and-late h n
 
 -- sets, parents and nodes
-rest-of : Tableau → Option Verdict
-rest-of T =
+rest-of : Bool → Tableau → Option Verdict
+rest-of whole T =
     scan (setRefusal T) (T .nodeRows) otherwise
-    wholeUnless (ltb 0 (T .nodeRows)) Parent otherwise
+    noNodeAs whole T otherwise
     scan (parentRefusal T) (T .nodeRows) otherwise
-    scan (nodeRefusal T) (T .nodeRows)
+    scan (nodeRefusalAs whole T) (T .nodeRows)
 
-late-rest : (T : Tableau) (outer : Bool) → Late (wholeUnless outer Root otherwise rest-of T)
-unfolding rest-of setRefusal parentRefusal nodeRefusal stepRefusal reached rowsBefore if_then_else_
-late-rest T outer =
+late-rest : (whole : Bool) (T : Tableau) (outer : Bool) → Late (wholeUnless outer Root otherwise rest-of whole T)
+unfolding rest-of setRefusal noNodeAs parentRefusal nodeRefusalAs stepRefusal reached rowsBefore if_then_else_
+late-rest whole T outer =
     late-whole outer Root (λ n. refl) and-late
     late-scan (setRefusal T) (T .nodeRows) (λ k. late-at _ Set k (λ n. refl)) and-late
     late-whole _ Parent (λ n. refl) and-late
     late-scan (parentRefusal T) (T .nodeRows) (λ k. late-at _ Parent k (λ n. refl)) and-late
-    late-scan (nodeRefusal T) (T .nodeRows)
+    late-scan (nodeRefusalAs whole T) (T .nodeRows)
     (λ k.
     (late-at _ Drawn k (λ n. refl) and-late
     late-at _ Fields k (λ n. refl) and-late
@@ -113,14 +115,14 @@ late-rest T outer =
 
 -- ---- the whole check
 
-module _ (T : Tableau) where
+module _ (whole : Bool) (T : Tableau) where
   -- what is found, by the first three tests and by what is found of the rows
   found : Bool → Bool → Bool → Option Verdict → Option Verdict
   found held few fits x =
       wholeUnless held TableTooShort otherwise
       wholeUnless few TooMany otherwise
       (wholeUnless fits Root otherwise x otherwise wholeUnless (isOuter (tree (rows T) (nat (T .root)))) Root) otherwise
-      rest-of T
+      rest-of whole T
 
   fresh-found : (held few fits : Bool) → found held few fits (scan (freshRowRefusal (rows T) (T .schemaRows)) (rowCount T)) ≡ (scan (repeatRefusal (rows T) (T .schemaRows)) (reached (found held few fits (scan (rowRefusal (rows T)) (rowCount T))) fits (rowCount T)) otherwise found held few fits (scan (rowRefusal (rows T)) (rowCount T)))
   unfolding found wholeUnless unless _otherwise_ reached rowsBefore if_then_else_ scan
@@ -129,25 +131,25 @@ module _ (T : Tableau) where
   fresh-found true true false = refl
   fresh-found true true true = go (scan (rowRefusal (rows T)) (rowCount T)) refl
     where
-      absorb : (x : Option Verdict) (v : Verdict) → (((x otherwise some v) otherwise wholeUnless (isOuter (tree (rows T) (nat (T .root)))) Root) otherwise rest-of T) ≡ (x otherwise some v)
+      absorb : (x : Option Verdict) (v : Verdict) → (((x otherwise some v) otherwise wholeUnless (isOuter (tree (rows T) (nat (T .root)))) Root) otherwise rest-of whole T) ≡ (x otherwise some v)
       absorb none v = refl
       absorb (some w) v = refl
 
       go : (x : Option Verdict) → scan (rowRefusal (rows T)) (rowCount T) ≡ x → found true true true (scan (freshRowRefusal (rows T) (T .schemaRows)) (rowCount T)) ≡ (scan (repeatRefusal (rows T) (T .schemaRows)) (reached (found true true true x) true (rowCount T)) otherwise found true true true x)
       go none e =
-          ap (λ (y : Option Verdict). (y otherwise wholeUnless (isOuter (tree (rows T) (nat (T .root)))) Root) otherwise rest-of T) (repeats-alone (rows T) (T .schemaRows) (rowCount T) e)
-          ∙ otherwise-assoc (scan (repeatRefusal (rows T) (T .schemaRows)) (rowCount T)) (wholeUnless (isOuter (tree (rows T) (nat (T .root)))) Root) (rest-of T)
-          ∙ ap (λ (m : ℕ). scan (repeatRefusal (rows T) (T .schemaRows)) m otherwise (wholeUnless (isOuter (tree (rows T) (nat (T .root)))) Root otherwise rest-of T)) (sym (late-rest T (isOuter (tree (rows T) (nat (T .root)))) .late (rowCount T)))
+          ap (λ (y : Option Verdict). (y otherwise wholeUnless (isOuter (tree (rows T) (nat (T .root)))) Root) otherwise rest-of whole T) (repeats-alone (rows T) (T .schemaRows) (rowCount T) e)
+          ∙ otherwise-assoc (scan (repeatRefusal (rows T) (T .schemaRows)) (rowCount T)) (wholeUnless (isOuter (tree (rows T) (nat (T .root)))) Root) (rest-of whole T)
+          ∙ ap (λ (m : ℕ). scan (repeatRefusal (rows T) (T .schemaRows)) m otherwise (wholeUnless (isOuter (tree (rows T) (nat (T .root)))) Root otherwise rest-of whole T)) (sym (late-rest whole T (isOuter (tree (rows T) (nat (T .root)))) .late (rowCount T)))
       go (some v) e =
           let k = scan-first (rowRefusal (rows T)) (rowCount T) v e in
-          ap (λ (y : Option Verdict). (y otherwise wholeUnless (isOuter (tree (rows T) (nat (T .root)))) Root) otherwise rest-of T) (rows-stopped (rows T) (T .schemaRows) (rowCount T) (k .0) v (k .1) (k .2) (k .3))
+          ap (λ (y : Option Verdict). (y otherwise wholeUnless (isOuter (tree (rows T) (nat (T .root)))) Root) otherwise rest-of whole T) (rows-stopped (rows T) (T .schemaRows) (rowCount T) (k .0) v (k .1) (k .2) (k .3))
           ∙ absorb (scan (repeatRefusal (rows T) (T .schemaRows)) (k .0)) v
           ∙ ap (λ (m : ℕ). scan (repeatRefusal (rows T) (T .schemaRows)) m otherwise some v) (sym (row-reached (rows T) (T .schemaRows) (k .0) v (k .3) true (rowCount T) (k .1)))
 
 -- the check's finding, by the older check's
-pub present-is : (T : Tableau) → refusalWith presentFormulas nodeRefusal T ≡ (scan (repeatRefusal (rows T) (T .schemaRows)) (reached (refusalWith olderFormulas nodeRefusal T) (rootFits (T .schemaRows) (T .root) (T .least)) (rowCount T)) otherwise refusalWith olderFormulas nodeRefusal T)
-unfolding refusalWith presentFormulas olderFormulas formulasRefusal formulasBy found rest-of
-present-is T = fresh-found T (tablesHold T) (withinLimits T) (rootFits (T .schemaRows) (T .root) (T .least))
+pub present-is : (whole : Bool) (T : Tableau) → refusalAs whole presentFormulas T ≡ (scan (repeatRefusal (rows T) (T .schemaRows)) (reached (refusalAs whole olderFormulas T) (rootFits (T .schemaRows) (T .root) (T .least)) (rowCount T)) otherwise refusalAs whole olderFormulas T)
+unfolding refusalAs refusalBy presentFormulas olderFormulas formulasRefusal formulasBy found rest-of
+present-is whole T = fresh-found whole T (tablesHold T) (withinLimits T) (rootFits (T .schemaRows) (T .root) (T .least))
 
 -- more rows than are allowed are refused before any row is looked at, so that their count does not matter then
 none-reached : (held few fits : Bool) (rest : Option Verdict) (n : ℕ) → few ≡ false → reached (wholeUnless held TableTooShort otherwise wholeUnless few TooMany otherwise rest) fits n ≡ 0
@@ -156,16 +158,16 @@ none-reached true true fits rest n h = absurd (true≢false h)
 none-reached true false fits rest n h = refl
 none-reached false few fits rest n h = refl
 
-too-many : (T : Tableau) (fits : Bool) → leb (rowCount T) 1024 ≡ false → (n : ℕ) → reached (refusalWith olderFormulas nodeRefusal T) fits n ≡ 0
-unfolding refusalWith withinLimits
-too-many T fits h n = none-reached (tablesHold T) (withinLimits T) fits _ n (and-first-false _ _ h)
+too-many : (whole : Bool) (T : Tableau) (fits : Bool) → leb (rowCount T) 1024 ≡ false → (n : ℕ) → reached (refusalAs whole olderFormulas T) fits n ≡ 0
+unfolding refusalAs refusalBy withinLimits
+too-many whole T fits h n = none-reached (tablesHold T) (withinLimits T) fits _ n (and-first-false _ _ h)
 
-pub reached-count : (T : Tableau) (fits : Bool) → reached (refusalWith olderFormulas nodeRefusal T) fits (countIn (T .schemaRows) (T .proofRows)) ≡ reached (refusalWith olderFormulas nodeRefusal T) fits (rowCount T)
+pub reached-count : (whole : Bool) (T : Tableau) (fits : Bool) → reached (refusalAs whole olderFormulas T) fits (countIn (T .schemaRows) (T .proofRows)) ≡ reached (refusalAs whole olderFormulas T) fits (rowCount T)
 unfolding countIn rowCount
-reached-count T fits =
+reached-count whole T fits =
     ⊎-elim
-    (λ h. ap (reached (refusalWith olderFormulas nodeRefusal T) fits) (if-true (leb (T .schemaRows + T .proofRows) 1024) (T .schemaRows + T .proofRows) 0 h))
-    (λ h. too-many T fits h _ ∙ sym (too-many T fits h _))
+    (λ h. ap (reached (refusalAs whole olderFormulas T) fits) (if-true (leb (T .schemaRows + T .proofRows) 1024) (T .schemaRows + T .proofRows) 0 h))
+    (λ h. too-many whole T fits h _ ∙ sym (too-many whole T fits h _))
     (decide (leb (T .schemaRows + T .proofRows) 1024))
 
 pub count-few : (s p : ℕ) → countIn s p ≤ 1024

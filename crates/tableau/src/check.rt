@@ -7,18 +7,20 @@ use stab::Verdict;
 ghost use mathlib.Core.Path.{_≡_};
 ghost use Prim.Native.Nat.{ℕ, _+_, _*_, _≤_};
 ghost use mathlib.Core.Option.{none};
-ghost use lib.Dec.{leb};
+ghost use lib.Dec.{leb, ltb};
 ghost use lib.ListN.{length};
-ghost use Rattle.stab.specs.Basic.{if_then_else_, _and_, count, _otherwise_, scan};
+ghost use Rattle.stab.specs.Basic.{if_then_else_, _and_, _implies_, count, _otherwise_, scan};
 ghost use Rattle.stab.specs.Formula.{joined};
-ghost use Rattle.stab.specs.Check.{finding, holds, repeatRefusal, rootFits, nodeRefusal, refusalWith, olderFormulas, isLink, verdict, checkOlder, checkAs};
+ghost use Rattle.stab.specs.Check.{finding, holds, repeatRefusal, rootFits, olderFormulas, isLink, verdict, checkOlder, checkAs};
 ghost use Rattle.stab.specs.Check.{check as checked};
 ghost use Rattle.stab.specs.Refuted.{Refuted};
 ghost use Rattle.stab.specs.declared.Verdict.the-variants.{Accepted};
 ghost use Rattle.formula.specs.Facts.{AllKnown, AllFormed};
 ghost use Rattle.classes.specs.Class.{AllWorked as AllClassed};
 ghost use Rattle.branch.specs.Work.{tableau};
-ghost use Rattle.tableau.specs.Passes.{rowsRefusal, nodesRefusal};
+ghost use Rattle.steps.specs.Judged.{nodeRefusalAs};
+ghost use Rattle.growing.specs.Growing.{heldRefusal};
+ghost use Rattle.tableau.specs.Passes.{rowsRefusal, nodesRefusal, refusalAs};
 ghost use Rattle.tableau.specs.Fresh.{atRow, reached, countIn};
 
 // The tables hold what their counts say.
@@ -62,8 +64,16 @@ fn few(s: usize, p: usize, k: usize, m: usize) -> bool
     m <= 8192
 }
 
-// Refusals 9 and 10: sets, then that there is a node, then parents.
+// A whole record has a node; rows that are held may be none.
+fn enough(whole: bool, k: usize) -> bool
+    ensures { λ r. ⌜ r ≡ (whole implies ltb 0 k) ⌝ }
+{
+    if whole { 0 < k } else { true }
+}
+
+// Refusals 9 and 10: sets, then that there are enough nodes, then parents.
 fn nodes_pass(
+    whole: bool,
     schema: &[i32],
     s: usize,
     proof: &[i32],
@@ -78,13 +88,13 @@ fn nodes_pass(
 ) -> Finding
     requires { ⌜ (s + p ≤ 1024) × (4 * (s + p) ≤ length (now facts)) × (k ≤ 1024) × (m ≤ length (now members)) ⌝ }
     requires { ⌜ AllKnown (joined (now schema) s (now proof)) (now facts) (s + p) ⌝ }
-    ensures { λ r. ⌜ finding r ≡ nodesRefusal (tableau (now (schema .entry)) s (now (proof .entry)) p root least (now (nodes .entry)) k (now (members .entry)) m) ⌝ }
+    ensures { λ r. ⌜ finding r ≡ nodesRefusal whole (tableau (now (schema .entry)) s (now (proof .entry)) p root least (now (nodes .entry)) k (now (members .entry)) m) ⌝ }
 {
     let found = sets::sets(facts, s + p, nodes, k, members, m);
     let Finding::Nothing = found else {
         return found;
     };
-    if k == 0 {
+    if !enough(whole, k) {
         return Finding::Found {
             why: Refusal::Parent,
             place: Place::Whole,
@@ -105,6 +115,7 @@ fn classify(schema: &[i32], s: usize, proof: &[i32], n: usize, forms: &mut [u32]
 
 // Refusals 6 to 10. Where nothing is found, what is known of rows is kept.
 fn passes(
+    whole: bool,
     schema: &[i32],
     s: usize,
     proof: &[i32],
@@ -118,7 +129,7 @@ fn passes(
     m: usize,
 ) -> Finding
     requires { ⌜ (s + p ≤ 1024) × (4 * (s + p) ≤ length (now facts)) × (k ≤ 1024) × (m ≤ length (now members)) ⌝ }
-    ensures { λ r. ⌜ finding r ≡ (rowsRefusal (tableau (now (schema .entry)) s (now (proof .entry)) p root least (now (nodes .entry)) k (now (members .entry)) m) otherwise nodesRefusal (tableau (now (schema .entry)) s (now (proof .entry)) p root least (now (nodes .entry)) k (now (members .entry)) m)) ⌝ }
+    ensures { λ r. ⌜ finding r ≡ (rowsRefusal (tableau (now (schema .entry)) s (now (proof .entry)) p root least (now (nodes .entry)) k (now (members .entry)) m) otherwise nodesRefusal whole (tableau (now (schema .entry)) s (now (proof .entry)) p root least (now (nodes .entry)) k (now (members .entry)) m)) ⌝ }
     ensures { λ r. ⌜ (finding r ≡ none → AllKnown (joined (now (schema .entry)) s (now (proof .entry))) (now (facts .exit)) (s + p) × AllFormed (joined (now (schema .entry)) s (now (proof .entry))) (s + p)) ⌝ }
 {
     let found = formula::rows::formulas(schema, s, proof, s + p, root, least, facts);
@@ -126,6 +137,7 @@ fn passes(
         return found;
     };
     nodes_pass(
+        whole,
         schema,
         s,
         proof,
@@ -142,6 +154,7 @@ fn passes(
 
 // The refusals of single steps, in a record in which nothing was found before them.
 fn single_steps(
+    whole: bool,
     schema: &[i32],
     s: usize,
     proof: &[i32],
@@ -159,8 +172,8 @@ fn single_steps(
 ) -> Finding
     requires { ⌜ (s + p ≤ 1024) × (4 * (s + p) ≤ length (now forms)) × (2 * (s + p) ≤ length (now sides)) × (k ≤ 1024) × (m ≤ 8192) × (9 * k ≤ length (now nodes)) × (m ≤ length (now members)) × (4 * k ≤ length (now work)) ⌝ }
     requires { ⌜ AllKnown (joined (now schema) s (now proof)) (now facts) (s + p) × AllFormed (joined (now schema) s (now proof)) (s + p) ⌝ }
-    requires { ⌜ (rowsRefusal (tableau (now schema) s (now proof) p root least (now nodes) k (now members) m) otherwise nodesRefusal (tableau (now schema) s (now proof) p root least (now nodes) k (now members) m)) ≡ none ⌝ }
-    ensures { λ r. ⌜ finding r ≡ scan (nodeRefusal (tableau (now (schema .entry)) s (now (proof .entry)) p root least (now (nodes .entry)) k (now (members .entry)) m)) k ⌝ }
+    requires { ⌜ (rowsRefusal (tableau (now schema) s (now proof) p root least (now nodes) k (now members) m) otherwise nodesRefusal whole (tableau (now schema) s (now proof) p root least (now nodes) k (now members) m)) ≡ none ⌝ }
+    ensures { λ r. ⌜ finding r ≡ scan (nodeRefusalAs whole (tableau (now (schema .entry)) s (now (proof .entry)) p root least (now (nodes .entry)) k (now (members .entry)) m)) k ⌝ }
 {
     bounds::work_out(nodes, k, least, work);
     classify(schema, s, proof, s + p, forms, sides);
@@ -172,11 +185,12 @@ fn single_steps(
         nodes: k,
         members: m,
     };
-    steps::steps::each_node(schema, proof, nodes, members, facts, forms, work, t)
+    steps::steps::each_node(whole, schema, proof, nodes, members, facts, forms, work, t)
 }
 
 // What is found from refusal 6 on in a record of few rows and nodes, which need not wait for the tables of a large one.
 fn small_record(
+    whole: bool,
     schema: &[i32],
     s: usize,
     proof: &[i32],
@@ -189,10 +203,11 @@ fn small_record(
     m: usize,
 ) -> Finding
     requires { ⌜ (s + p ≤ 256) × (k ≤ 256) × (m ≤ 8192) × (9 * k ≤ length (now nodes)) × (m ≤ length (now members)) ⌝ }
-    ensures { λ r. ⌜ finding r ≡ ((rowsRefusal (tableau (now (schema .entry)) s (now (proof .entry)) p root least (now (nodes .entry)) k (now (members .entry)) m) otherwise nodesRefusal (tableau (now (schema .entry)) s (now (proof .entry)) p root least (now (nodes .entry)) k (now (members .entry)) m)) otherwise scan (nodeRefusal (tableau (now (schema .entry)) s (now (proof .entry)) p root least (now (nodes .entry)) k (now (members .entry)) m)) k) ⌝ }
+    ensures { λ r. ⌜ finding r ≡ ((rowsRefusal (tableau (now (schema .entry)) s (now (proof .entry)) p root least (now (nodes .entry)) k (now (members .entry)) m) otherwise nodesRefusal whole (tableau (now (schema .entry)) s (now (proof .entry)) p root least (now (nodes .entry)) k (now (members .entry)) m)) otherwise scan (nodeRefusalAs whole (tableau (now (schema .entry)) s (now (proof .entry)) p root least (now (nodes .entry)) k (now (members .entry)) m)) k) ⌝ }
 {
     let mut facts = [0u32; 1024];
     let found = passes(
+        whole,
         schema,
         s,
         proof,
@@ -212,6 +227,7 @@ fn small_record(
     let mut sides = [0u32; 512];
     let mut work = [0u32; 1024];
     single_steps(
+        whole,
         schema,
         s,
         proof,
@@ -231,6 +247,7 @@ fn small_record(
 
 // The same in any record within the limits.
 fn large_record(
+    whole: bool,
     schema: &[i32],
     s: usize,
     proof: &[i32],
@@ -243,10 +260,11 @@ fn large_record(
     m: usize,
 ) -> Finding
     requires { ⌜ (s + p ≤ 1024) × (k ≤ 1024) × (m ≤ 8192) × (9 * k ≤ length (now nodes)) × (m ≤ length (now members)) ⌝ }
-    ensures { λ r. ⌜ finding r ≡ ((rowsRefusal (tableau (now (schema .entry)) s (now (proof .entry)) p root least (now (nodes .entry)) k (now (members .entry)) m) otherwise nodesRefusal (tableau (now (schema .entry)) s (now (proof .entry)) p root least (now (nodes .entry)) k (now (members .entry)) m)) otherwise scan (nodeRefusal (tableau (now (schema .entry)) s (now (proof .entry)) p root least (now (nodes .entry)) k (now (members .entry)) m)) k) ⌝ }
+    ensures { λ r. ⌜ finding r ≡ ((rowsRefusal (tableau (now (schema .entry)) s (now (proof .entry)) p root least (now (nodes .entry)) k (now (members .entry)) m) otherwise nodesRefusal whole (tableau (now (schema .entry)) s (now (proof .entry)) p root least (now (nodes .entry)) k (now (members .entry)) m)) otherwise scan (nodeRefusalAs whole (tableau (now (schema .entry)) s (now (proof .entry)) p root least (now (nodes .entry)) k (now (members .entry)) m)) k) ⌝ }
 {
     let mut facts = [0u32; 4096];
     let found = passes(
+        whole,
         schema,
         s,
         proof,
@@ -266,6 +284,7 @@ fn large_record(
     let mut sides = [0u32; 2048];
     let mut work = [0u32; 4096];
     single_steps(
+        whole,
         schema,
         s,
         proof,
@@ -283,8 +302,9 @@ fn large_record(
     )
 }
 
-// What is found first in a record.
+// What is found first in a whole record, or of rows that are held.
 fn first_refusal(
+    whole: bool,
     schema: &[i32],
     s: usize,
     proof: &[i32],
@@ -296,7 +316,7 @@ fn first_refusal(
     members: &[i32],
     m: usize,
 ) -> Finding
-    ensures { λ r. ⌜ finding r ≡ refusalWith olderFormulas nodeRefusal (tableau (now (schema .entry)) s (now (proof .entry)) p root least (now (nodes .entry)) k (now (members .entry)) m) ⌝ }
+    ensures { λ r. ⌜ finding r ≡ refusalAs whole olderFormulas (tableau (now (schema .entry)) s (now (proof .entry)) p root least (now (nodes .entry)) k (now (members .entry)) m) ⌝ }
 {
     if !hold(schema, s, proof, p, nodes, k, members, m) {
         return Finding::Found {
@@ -312,10 +332,34 @@ fn first_refusal(
     }
     if s + p <= 256 {
         if k <= 256 {
-            return small_record(schema, s, proof, p, root, least, nodes, k, members, m);
+            return small_record(
+                whole,
+                schema,
+                s,
+                proof,
+                p,
+                root,
+                least,
+                nodes,
+                k,
+                members,
+                m,
+            );
         }
     }
-    large_record(schema, s, proof, p, root, least, nodes, k, members, m)
+    large_record(
+        whole,
+        schema,
+        s,
+        proof,
+        p,
+        root,
+        least,
+        nodes,
+        k,
+        members,
+        m,
+    )
 }
 
 // The rows before a place, of n.
@@ -386,6 +430,37 @@ fn fresh(
     found
 }
 
+// What is found first of rows that are held: no node and missing children are no fault.
+pub fn held(
+    schema: &[i32],
+    schema_rows: usize,
+    proof: &[i32],
+    proof_rows: usize,
+    root: i32,
+    least: i32,
+    nodes: &[i32],
+    node_rows: usize,
+    members: &[i32],
+    member_count: usize,
+) -> Finding
+    ensures { λ r. ⌜ finding r ≡ heldRefusal (tableau (now (schema .entry)) «schema_rows» (now (proof .entry)) «proof_rows» root least (now (nodes .entry)) «node_rows» (now (members .entry)) «member_count») ⌝ }
+{
+    let found = first_refusal(
+        false,
+        schema,
+        schema_rows,
+        proof,
+        proof_rows,
+        root,
+        least,
+        nodes,
+        node_rows,
+        members,
+        member_count,
+    );
+    fresh(found, schema, schema_rows, proof, proof_rows, root, least)
+}
+
 // The verdict on what was found in a record of k nodes.
 fn verdict_on(found: Finding, nodes: &[i32], k: usize) -> Verdict
     requires { ⌜ (finding found ≡ none → k ≤ 1024) ⌝ }
@@ -417,6 +492,7 @@ pub fn check(
     ensures { λ r. ⌜ ((n l : ℕ) → r ≡ Accepted n l → Refuted (now (schema .entry)) root least) ⌝ }
 {
     let found = first_refusal(
+        true,
         schema,
         schema_rows,
         proof,
@@ -449,6 +525,7 @@ pub fn check_older(
     ensures { λ r. ⌜ ((n l : ℕ) → r ≡ Accepted n l → Refuted (now (schema .entry)) root least) ⌝ }
 {
     let found = first_refusal(
+        true,
         schema,
         schema_rows,
         proof,

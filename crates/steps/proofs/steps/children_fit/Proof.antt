@@ -1,7 +1,10 @@
 use borrow.Author.Needs.{needs}
 use native.Mathlib.Omega.{arith}
-use mathlib.Core.Path.{_∙_, ap, ap₂}
-use lib.Dec.{eqb}
+use mathlib.Core.Path.{_≡_, sym, _∙_, ap, ap₂}
+use lib.Dec.{eqb, leb}
+use denote.Ref.{now}
+use Rattle.stab.specs.Node.{nodeAt}
+use Rattle.stab.proofs.Bools.{if-true, if-false}
 use lib.IntN.{pos}
 use Rattle.stab.specs.Rule.{ruleOf}
 use Rattle.stab.specs.declared.Rule.{Rule}
@@ -24,11 +27,20 @@ add-kept-at c = search needs
 kept-at-requires : tie.Need-kept-at-requires
 kept-at-requires c κs = search needs
 
+-- the number of children that the rule has
+children-are : (c : tie.After-rule-at) → c .rule-at .result .children ≡ ruleOf (nodeAt (now (c .before .before .before .args .nodes)) (c .before .before .before .args .j) .rule) .children
+children-are c =
+    ap (λ (x : Rule). x .children) (c .rule-at .ensures ∙ ap ruleOf (ap pos (c .before .natural-of .ensures .0) ∙ below-pos 9 _ (c .before .before .before .pre .1)))
+
 returns : tie.Need-returns
 returns c =
-    let r = c .before .before in
-    ap₂ eqb (c .before .kept-at .ensures .0)
-    (ap (λ (x : Rule). x .children) (r .rule-at .ensures ∙ ap ruleOf (ap pos (r .before .natural-of .ensures .0) ∙ below-pos 9 _ (r .before .before .before .pre .1))))
+    let k = c .before .before in
+    ap₂ eqb (k .kept-at .ensures .0) (children-are (k .before)) ∙ sym (if-true _ _ _ (c .before .if1 .taken))
+
+returns-2 : tie.Need-returns-2
+returns-2 c =
+    let k = c .before .before in
+    ap₂ leb (k .kept-at .ensures .0) (children-are (k .before)) ∙ sym (if-false _ _ _ (c .before .if1 .left))
 
 pub children-fit-spec : {M : Type 1} → statement M
 children-fit-spec =
@@ -39,4 +51,5 @@ children-fit-spec =
     mul-kept-at
     add-kept-at
     kept-at-requires
-    returns)
+    returns
+    returns-2)

@@ -4,17 +4,18 @@ use native.Mathlib.Omega.{arith}
 use mathlib.Core.Path.{_≡_, sym, _∙_, ap, subst}
 use mathlib.Core.Option.{none}
 use Rattle.stab.specs.Basic.{scan}
-use Rattle.stab.specs.Check.{finding, nodeRefusal}
+use Rattle.stab.specs.Check.{finding}
 use Rattle.stab.proofs.Scans.{scan-none, scan-more, scan-found}
 use Rattle.branch.specs.Lent.{lent}
+use Rattle.steps.specs.Judged.{nodeRefusalAs}
 use Rattle.steps.proofs.steps.each_node.Statement.{statement}
 use Rattle.steps.proofs.steps.each_node.Tie as tie
 
 abbrev Inv-loop : tie.InvT-loop
-Inv-loop schema proof nodes members facts forms work t j₀ j = (j ≤ t .nodes) × (scan (nodeRefusal (lent schema proof nodes members t)) j ≡ none)
+Inv-loop whole schema proof nodes members facts forms work t j₀ j = (j ≤ t .nodes) × (scan (nodeRefusalAs whole (lent schema proof nodes members t)) j ≡ none)
 
 abbrev μ-loop : tie.MeasureT-loop
-μ-loop schema proof nodes members facts forms work t j₀ j = t .nodes - j
+μ-loop whole schema proof nodes members facts forms work t j₀ j = t .nodes - j
 
 loop-holds : tie.Need-loop-holds Inv-loop μ-loop
 loop-holds c = (omega arith, scan-none _ 0 (λ k l. absurd (omega arith)))
@@ -53,7 +54,7 @@ returns-2 c =
     let s = c .before .before .before .before .before .before in
     let l = c .before .before in
     let e : l .loop .j ≡ s .args .t .nodes = omega arith in
-    sym (subst (λ (n : ℕ). scan (nodeRefusal (lent (s .args .schema .now) (s .args .proof .now) (s .args .nodes .now) (s .args .members .now) (s .args .t))) n ≡ none) e (l .loop .inv .1))
+    sym (subst (λ (n : ℕ). scan (nodeRefusalAs (s .args .whole) (lent (s .args .schema .now) (s .args .proof .now) (s .args .nodes .now) (s .args .members .now) (s .args .t))) n ≡ none) e (l .loop .inv .1))
 
 pub each-node-spec : {M : Type 1} → statement M
 each-node-spec =

@@ -3,11 +3,14 @@ use native.Mathlib.Omega.{arith}
 use Prim.Native.Nat.{ℕ}
 use mathlib.Core.Path.{_≡_, sym, _∙_, ap}
 use mathlib.Core.Option.{none}
-use lib.Dec.{eqb}
+use mathlib.Core.Bool.{Bool}
+use lib.Dec.{eqb, leb}
+use Rattle.stab.specs.Basic.{if_then_else_}
 use Rattle.stab.specs.Node.{Tableau, node, nodeAt, childCount}
 use Rattle.stab.specs.Rule.{ruleOf, rule, childrenFit}
 use Rattle.stab.specs.Check.{finding, stepRefusal}
 use Rattle.branch.specs.Lent.{lent}
+use Rattle.steps.specs.Judged.{childrenAs}
 use Rattle.fields.proofs.FieldParts.{fields-known}
 use Rattle.steps.proofs.StepLaws.{fields-passed, step-found, children-found, node-passes}
 use Rattle.steps.proofs.steps.judge.Statement.{statement}
@@ -30,7 +33,7 @@ returns : tie.Need-returns
 unfolding finding
 returns c =
     let f = ap finding (c .enum-told2 .given .1) in
-    f ∙ step-found (Lent (c .before .before .before .before .before .before)) _ _ (sym (c .before .before .step .ensures) ∙ f)
+    f ∙ step-found (Lent (c .before .before .before .before .before .before)) _ _ _ (sym (c .before .before .step .ensures) ∙ f)
 
 -- where 11 to 16 found nothing
 abbrev Begin : tie.After-enum-told → tie.Start
@@ -46,17 +49,17 @@ children-fit-requires c κs =
     let s = Begin c in
     (omega (arith, s .pre .0, s .pre .1 .nodeLimit), fields-known (Lent s) _ (fields-passed (Lent s) _ (stepped c)) .rule)
 
-counted : (c : tie.After-children-fit) → c .children-fit .result ≡ childrenFit (Lent (Begin (c .before))) (Begin (c .before) .args .j)
-unfolding childrenFit childCount rule node
+counted : (c : tie.After-children-fit) → c .children-fit .result ≡ childrenAs (Begin (c .before) .args .whole) (Lent (Begin (c .before))) (Begin (c .before) .args .j)
+unfolding childrenAs childrenFit childCount rule node
 counted c =
     let s = Begin (c .before) in
-    c .children-fit .ensures ∙ ap (λ (n : ℕ). eqb n (ruleOf (nodeAt (s .args .nodes .now) (s .args .j) .rule) .children)) (s .pre .1 .worked _ (s .pre .0) .children)
+    c .children-fit .ensures ∙ ap (λ (n : ℕ). if s .args .whole then eqb n (ruleOf (nodeAt (s .args .nodes .now) (s .args .j) .rule) .children) else leb n (ruleOf (nodeAt (s .args .nodes .now) (s .args .j) .rule) .children)) (s .pre .1 .worked _ (s .pre .0) .children)
 
 returns-2 : tie.Need-returns-2
-returns-2 c = children-found (Lent (Begin (c .before .before))) _ (stepped (c .before .before)) (asked-false (counted (c .before)) (c .if1 .taken))
+returns-2 c = children-found (Lent (Begin (c .before .before))) _ _ (stepped (c .before .before)) (asked-false (counted (c .before)) (c .if1 .taken))
 
 returns-3 : tie.Need-returns-3
-returns-3 c = node-passes (Lent (Begin (c .before .before))) _ (stepped (c .before .before)) (asked-true (counted (c .before)) (c .if1 .left))
+returns-3 c = node-passes (Lent (Begin (c .before .before))) _ _ (stepped (c .before .before)) (asked-true (counted (c .before)) (c .if1 .left))
 
 pub judge-spec : {M : Type 1} → statement M
 judge-spec =

@@ -1,5 +1,6 @@
 use Prim.Native.Nat.{ℕ}
 use mathlib.Core.Path.{_≡_, sym, _∙_, ap, ap₂}
+use mathlib.Core.Bool.{true}
 use mathlib.Core.Option.{Option}
 use lib.IntN.{ℤ}
 use mir.Facts.{toZ-ofZ}
@@ -15,7 +16,8 @@ use Rattle.stab.specs.declared.Verdict.the-variants.{Accepted}
 use Rattle.stab.proofs.Soundness.{sound}
 use Rattle.branch.specs.Work.{tableau}
 use Rattle.tableau.specs.Fresh.{reached, countIn}
-use Rattle.tableau.proofs.CheckLaws.{few-present}
+use Rattle.tableau.specs.Passes.{refusalAs}
+use Rattle.tableau.proofs.CheckLaws.{few-present, whole-is}
 use Rattle.tableau.proofs.FreshLaws.{present-is, reached-count}
 use Rattle.tableau.proofs.check.check.Statement.{statement}
 use Rattle.tableau.proofs.check.check.Tie as tie
@@ -30,11 +32,11 @@ abbrev lent : tie.Start → Tableau
 lent c = lentAt c (c .args .root) (c .args .least)
 
 -- what was found first, proof rows that repeat aside
-first-found : (c : tie.After-first-refusal) → finding (c .first-refusal .result) ≡ refusalWith olderFormulas nodeRefusal (lent (c .before))
+first-found : (c : tie.After-first-refusal) → finding (c .first-refusal .result) ≡ refusalAs true olderFormulas (lent (c .before))
 unfolding tableau
 first-found c =
     let start = c .before in
-    c .first-refusal .ensures ∙ ap₂ (λ (r l : ℤ). refusalWith olderFormulas nodeRefusal (lentAt start r l)) (toZ-ofZ (start .fits .root)) (toZ-ofZ (start .fits .least))
+    c .first-refusal .ensures ∙ ap₂ (λ (r l : ℤ). refusalAs true olderFormulas (lentAt start r l)) (toZ-ofZ (start .fits .root)) (toZ-ofZ (start .fits .least))
 
 first-refusal-requires : tie.Need-first-refusal-requires
 first-refusal-requires c κs = search needs
@@ -52,8 +54,9 @@ fresh-found c =
     c .fresh .ensures
     ∙ ap₂ (λ (r l : ℤ). scan (repeatRefusal (rows T) (T .schemaRows)) (reached (finding (c .before .first-refusal .result)) (rootFits (T .schemaRows) r l) (countIn (T .schemaRows) (T .proofRows))) otherwise finding (c .before .first-refusal .result)) (toZ-ofZ (start .fits .root)) (toZ-ofZ (start .fits .least))
     ∙ ap (λ (x : Option Verdict). scan (repeatRefusal (rows T) (T .schemaRows)) (reached x fits (countIn (T .schemaRows) (T .proofRows))) otherwise x) (first-found (c .before))
-    ∙ ap (λ (n : ℕ). scan (repeatRefusal (rows T) (T .schemaRows)) n otherwise refusalWith olderFormulas nodeRefusal T) (reached-count T fits)
-    ∙ sym (present-is T)
+    ∙ ap (λ (n : ℕ). scan (repeatRefusal (rows T) (T .schemaRows)) n otherwise refusalAs true olderFormulas T) (reached-count true T fits)
+    ∙ sym (present-is true T)
+    ∙ whole-is T presentFormulas
 
 verdict-on-requires : tie.Need-verdict-on-requires
 verdict-on-requires c κs h = few-present (lent (c .before .before)) (sym (fresh-found c) ∙ h)

@@ -1,5 +1,6 @@
 use Prim.Native.Nat.{ℕ}
 use mathlib.Core.Path.{_≡_, sym, _∙_, ap, ap₂}
+use mathlib.Core.Bool.{true}
 use mathlib.Core.Option.{Option}
 use lib.IntN.{ℤ}
 use mir.Facts.{toZ-ofZ}
@@ -12,7 +13,8 @@ use Rattle.stab.specs.declared.Verdict.{Verdict}
 use Rattle.stab.specs.declared.Verdict.the-variants.{Accepted}
 use Rattle.stab.proofs.Soundness.{sound-older}
 use Rattle.branch.specs.Work.{tableau}
-use Rattle.tableau.proofs.CheckLaws.{few-older}
+use Rattle.tableau.specs.Passes.{refusalAs}
+use Rattle.tableau.proofs.CheckLaws.{few-older, whole-is}
 use Rattle.tableau.proofs.check.check_older.Statement.{statement}
 use Rattle.tableau.proofs.check.check_older.Tie as tie
 
@@ -30,7 +32,9 @@ first-found : (c : tie.After-first-refusal) → finding (c .first-refusal .resul
 unfolding tableau
 first-found c =
     let start = c .before in
-    c .first-refusal .ensures ∙ ap₂ (λ (r l : ℤ). refusalWith olderFormulas nodeRefusal (lentAt start r l)) (toZ-ofZ (start .fits .root)) (toZ-ofZ (start .fits .least))
+    c .first-refusal .ensures
+    ∙ ap₂ (λ (r l : ℤ). refusalAs true olderFormulas (lentAt start r l)) (toZ-ofZ (start .fits .root)) (toZ-ofZ (start .fits .least))
+    ∙ whole-is (lent start) olderFormulas
 
 first-refusal-requires : tie.Need-first-refusal-requires
 first-refusal-requires c κs = search needs

@@ -14,12 +14,13 @@ use borrow.Author.Tests.{leb-true}
 use Rattle.stab.specs.Basic.{_otherwise_, scan}
 use Rattle.stab.specs.Node.{Tableau, rowCount}
 use Rattle.stab.specs.declared.Verdict.{Verdict}
-use Rattle.stab.specs.Check.{refusalWith, olderFormulas, holds, tablesHold, withinLimits, nodeRefusal}
+use Rattle.stab.specs.Check.{olderFormulas, holds, tablesHold, withinLimits}
 use Rattle.stab.specs.declared.Refusal.the-variants.{TableTooShort, TooMany}
 use Rattle.stab.proofs.Bools.{and-left, and-right, asked-false, asked-true}
 use Rattle.stab.proofs.Findings.{later}
 use Rattle.branch.specs.Work.{tableau}
-use Rattle.tableau.specs.Passes.{rowsRefusal, nodesRefusal}
+use Rattle.steps.specs.Judged.{nodeRefusalAs}
+use Rattle.tableau.specs.Passes.{rowsRefusal, nodesRefusal, refusalAs}
 use Rattle.tableau.proofs.CheckLaws.{whole-found, whole-passes, refusal-is}
 use borrow.Author.Needs.{needs}
 use Rattle.tableau.proofs.check.first_refusal.Statement.{statement}
@@ -41,7 +42,7 @@ returns : tie.Need-returns
 unfolding tablesHold tableau
 returns c =
     let T = lent (c .before .before) in
-    whole-found (tablesHold T) TableTooShort _ (asked-false (c .before .hold .ensures) (c .if1 .taken)) ∙ sym (refusal-is T)
+    whole-found (tablesHold T) TableTooShort _ (asked-false (c .before .hold .ensures) (c .if1 .taken)) ∙ sym (refusal-is T _)
 
 -- the tables hold what their counts say, and the counts are within the limits
 held : (c : tie.Else1) → tablesHold (lent (c .before .before)) ≡ true
@@ -61,17 +62,18 @@ returns-2 c =
     let T = lent (c .before .before .before .before) in
     later _ _ _ (whole-passes (tablesHold T) TableTooShort (held (c .before .before)))
     (whole-found (withinLimits T) TooMany _ (asked-false (c .before .few .ensures) (c .if2 .taken)))
-    ∙ sym (refusal-is T)
+    ∙ sym (refusal-is T _)
 
 -- what is found after the first two tests is what is found first
 after-limits : (c : tie.Else2) (x : Option Verdict) →
+    let w = c .before .before .before .before .args .whole in
     let T = lent (c .before .before .before .before) in
-    x ≡ ((rowsRefusal T otherwise nodesRefusal T) otherwise scan (nodeRefusal T) (T .nodeRows)) → x ≡ refusalWith olderFormulas nodeRefusal T
+    x ≡ ((rowsRefusal T otherwise nodesRefusal w T) otherwise scan (nodeRefusalAs w T) (T .nodeRows)) → x ≡ refusalAs w olderFormulas T
 after-limits c x e =
     let T = lent (c .before .before .before .before) in
     later _ _ _ (whole-passes (tablesHold T) TableTooShort (held (c .before .before)))
     (later _ _ _ (whole-passes (withinLimits T) TooMany (limited c)) e)
-    ∙ sym (refusal-is T)
+    ∙ sym (refusal-is T _)
 
 -- the sizes of the tables
 sizes : (c : tie.Else2) →
@@ -97,13 +99,13 @@ sizes c =
 after-limits-as : (c : tie.Else2) (x : Option Verdict) →
     let start = c .before .before .before .before in
     let T = lentAt start (toZ w32 (ofZ w32 (start .args .root))) (toZ w32 (ofZ w32 (start .args .least))) in
-    x ≡ ((rowsRefusal T otherwise nodesRefusal T) otherwise scan (nodeRefusal T) (start .args .k)) → x ≡ refusalWith olderFormulas nodeRefusal (lent start)
+    x ≡ ((rowsRefusal T otherwise nodesRefusal (start .args .whole) T) otherwise scan (nodeRefusalAs (start .args .whole) T) (start .args .k)) → x ≡ refusalAs (start .args .whole) olderFormulas (lent start)
 unfolding tableau
 after-limits-as c x e =
     let start = c .before .before .before .before in
     after-limits c x
     (e
-    ∙ ap₂ (λ (r l : ℤ). (rowsRefusal (lentAt start r l) otherwise nodesRefusal (lentAt start r l)) otherwise scan (nodeRefusal (lentAt start r l)) (start .args .k)) (toZ-ofZ (start .fits .root)) (toZ-ofZ (start .fits .least)))
+    ∙ ap₂ (λ (r l : ℤ). (rowsRefusal (lentAt start r l) otherwise nodesRefusal (start .args .whole) (lentAt start r l)) otherwise scan (nodeRefusalAs (start .args .whole) (lentAt start r l)) (start .args .k)) (toZ-ofZ (start .fits .root)) (toZ-ofZ (start .fits .least)))
 
 add-if3 : tie.Need-add-if3
 add-if3 c = omega (arith, sizes c .0)

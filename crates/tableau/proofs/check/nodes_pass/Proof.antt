@@ -6,14 +6,14 @@ use lib.Dec.{ltb}
 use mir.Facts.{toZ-ofZ}
 use denote.Ref.{now}
 use borrow.Author.Needs.{needs}
-use borrow.Author.Tests.{lt-ltb, le-ltb}
-use Rattle.stab.specs.Basic.{scan}
+use Rattle.stab.specs.Basic.{_implies_, scan}
 use Rattle.stab.specs.Node.{Tableau}
 use Rattle.stab.specs.Check.{finding, setRefusal, parentRefusal}
 use Rattle.stab.specs.declared.Refusal.the-variants.{Parent}
+use Rattle.stab.proofs.Bools.{asked-false, asked-true}
 use Rattle.stab.proofs.Findings.{stays, nothing-found, later}
 use Rattle.branch.specs.Work.{tableau}
-use Rattle.tableau.specs.Passes.{nodesRefusal}
+use Rattle.tableau.specs.Passes.{noNodeAs, nodesRefusal}
 use Rattle.sets.proofs.Faults.{sets-refusal, parents-refusal}
 use Rattle.sets.proofs.SetRefusals.{sets-known, set-within}
 use Rattle.tableau.proofs.CheckLaws.{whole-found, whole-passes}
@@ -55,27 +55,30 @@ returns : tie.Need-returns
 unfolding nodesRefusal tableau
 returns c = stays _ _ _ _ _ (sets-found (c .before .before)) (c .enum-told2 .given .1)
 
+enough-requires : tie.Need-enough-requires
+enough-requires c κs = search needs
+
 returns-2 : tie.Need-returns-2
-unfolding nodesRefusal tableau
+unfolding nodesRefusal noNodeAs tableau
 returns-2 c =
-    let k = c .before .before .before .before .before .args .k in
-    later _ _ _ (sets-passed (c .before)) (whole-found (ltb 0 k) Parent _ (le-ltb 0 k (omega arith)))
+    let a = c .before .before .before .before .before .before .args in
+    later _ _ _ (sets-passed (c .before .before)) (whole-found (a .whole implies ltb 0 (a .k)) Parent _ (asked-false (c .before .enough .ensures) (c .if1 .taken)))
 
 parents-requires : tie.Need-parents-requires
 unfolding tableau
 parents-requires c κs =
-    let start = c .before .before .before .before .before in (
+    let start = c .before .before .before .before .before .before in (
       omega (arith, start .pre .0 .2),
-      λ j l. set-within (lent start (start .args .root)) j (sets-known (lent start (start .args .root)) (start .args .k) (sets-passed (c .before)) j l) (start .pre .0 .3),
+      λ j l. set-within (lent start (start .args .root)) j (sets-known (lent start (start .args .root)) (start .args .k) (sets-passed (c .before .before)) j l) (start .pre .0 .3),
     )
 
 returns-3 : tie.Need-returns-3
-unfolding nodesRefusal tableau
+unfolding nodesRefusal noNodeAs tableau
 returns-3 c =
-    let start = c .before .before .before .before .before .before in
+    let start = c .before .before .before .before .before .before .before in
     let a = start .args in
-    later _ _ _ (sets-passed (c .before .before))
-    (later _ _ _ (whole-passes (ltb 0 (a .k)) Parent (lt-ltb 0 (a .k) (omega arith)))
+    later _ _ _ (sets-passed (c .before .before .before))
+    (later _ _ _ (whole-passes (a .whole implies ltb 0 (a .k)) Parent (asked-true (c .before .before .enough .ensures) (c .before .if1 .left)))
     (c .parents .ensures
     ∙ parents-refusal (now (a .schema)) (a .s) (now (a .proof)) (a .p) _ (a .least) (now (a .nodes)) (a .k) (now (a .members)) (a .m) (a .k)
     ∙ ap (λ (r : ℤ). scan (parentRefusal (lent start r)) (a .k)) (toZ-ofZ (start .fits .root))))
@@ -89,6 +92,7 @@ nodes-pass-spec =
     enum-told
     enum-told-2
     returns
+    enough-requires
     returns-2
     parents-requires
     returns-3)

@@ -74,7 +74,7 @@ returns-2 c =
     let f = c .before .before .before .before .before .before in
     let passed = f .formulas .ensures .1 .0 (nothing-found _ _ (f .formulas .ensures .0) (told .enum-told .given .1)) in (
       later _ _ _ (rows-passed told)
-          (c .nodes-pass .ensures ∙ ap₂ (λ (r l : ℤ). nodesRefusal (lentAt start r l)) (toZ-ofZ (start .fits .root)) (toZ-ofZ (start .fits .least))),
+          (c .nodes-pass .ensures ∙ ap₂ (λ (r l : ℤ). nodesRefusal (start .args .whole) (lentAt start r l)) (toZ-ofZ (start .fits .root)) (toZ-ofZ (start .fits .least))),
       λ h. (passed .known, passed .formed),
     )
 

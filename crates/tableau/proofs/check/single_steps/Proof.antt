@@ -8,9 +8,9 @@ use mir.Facts.{toZ-ofZ}
 use denote.Ref.{now}
 use Rattle.stab.specs.Basic.{_otherwise_, scan}
 use Rattle.stab.specs.Node.{Tableau, rows, rowCount}
-use Rattle.stab.specs.Check.{nodeRefusal}
 use Rattle.stab.proofs.Bools.{otherwise-first, otherwise-second}
 use Rattle.branch.specs.Work.{tableau}
+use Rattle.steps.specs.Judged.{nodeRefusalAs}
 use Rattle.branch.proofs.ParentLaws.{parents-known}
 use Rattle.tableau.specs.Passes.{rowsRefusal, nodesRefusal}
 use Rattle.tableau.proofs.CheckLaws.{least-fits, nodes-parents, set-fits, parent-fits}
@@ -28,15 +28,15 @@ lentAt c root least =
 abbrev lent : tie.Start → Tableau
 lent c = lentAt c (toZ w32 (ofZ w32 (c .args .root))) (toZ w32 (ofZ w32 (c .args .least)))
 
-passed : (c : tie.Start) → (rowsRefusal (lent c) otherwise nodesRefusal (lent c)) ≡ none
+passed : (c : tie.Start) → (rowsRefusal (lent c) otherwise nodesRefusal (c .args .whole) (lent c)) ≡ none
 passed c =
-    ap₂ (λ (r l : ℤ). rowsRefusal (lentAt c r l) otherwise nodesRefusal (lentAt c r l)) (toZ-ofZ (c .fits .root)) (toZ-ofZ (c .fits .least))
+    ap₂ (λ (r l : ℤ). rowsRefusal (lentAt c r l) otherwise nodesRefusal (c .args .whole) (lentAt c r l)) (toZ-ofZ (c .fits .root)) (toZ-ofZ (c .fits .least))
     ∙ c .pre .1 .1
 
 rows-passed : (c : tie.Start) → rowsRefusal (lent c) ≡ none
 rows-passed c = otherwise-first _ _ (passed c)
 
-nodes-passed : (c : tie.Start) → nodesRefusal (lent c) ≡ none
+nodes-passed : (c : tie.Start) → nodesRefusal (c .args .whole) (lent c) ≡ none
 nodes-passed c = otherwise-second (rowsRefusal (lent c)) _ (passed c)
 
 work-out-requires : tie.Need-work-out-requires
@@ -47,7 +47,7 @@ work-out-requires c κs =
       start .pre .0 .3,
       start .pre .0 .7,
       least-fits T (rows-passed start),
-      parents-known T (T .nodeRows) (nodes-parents T (nodes-passed start)),
+      parents-known T (T .nodeRows) (nodes-parents T _ (nodes-passed start)),
     )
 
 add-classify : tie.Need-add-classify
@@ -71,8 +71,8 @@ each-node-requires c κs =
       leastFits = least-fits T (rows-passed start);
       known = start .pre .1 .0 .0;
       compared = record { few = start .pre .0 .0; formed = start .pre .1 .0 .1; worked = c .before .before .before .before .before .before .classify .ensures };
-      sets = set-fits T (nodes-passed start);
-      parents = parent-fits T (nodes-passed start);
+      sets = set-fits T _ (nodes-passed start);
+      parents = parent-fits T _ (nodes-passed start);
       worked = c .before .before .before .before .before .before .before .before .before .before .before .work-out .ensures .0;
     }
 
@@ -90,7 +90,7 @@ unfolding tableau
 returns c =
     let start = c .before .before .before .before .before .before .before .before .before .before .before .before .before .before .before .before .before .before in
     c .each-node .ensures
-    ∙ ap₂ (λ (r l : ℤ). scan (nodeRefusal (lentAt start r l)) (start .args .k)) (toZ-ofZ (start .fits .root)) (toZ-ofZ (start .fits .least))
+    ∙ ap₂ (λ (r l : ℤ). scan (nodeRefusalAs (start .args .whole) (lentAt start r l)) (start .args .k)) (toZ-ofZ (start .fits .root)) (toZ-ofZ (start .fits .least))
 
 pub single-steps-spec : {M : Type 1} → statement M
 single-steps-spec =

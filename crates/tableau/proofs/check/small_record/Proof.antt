@@ -6,9 +6,10 @@ use mir.Facts.{toZ-ofZ}
 use denote.Ref.{now}
 use Rattle.stab.specs.Basic.{_otherwise_, scan}
 use Rattle.stab.specs.Node.{Tableau}
-use Rattle.stab.specs.Check.{finding, nodeRefusal}
+use Rattle.stab.specs.Check.{finding}
 use Rattle.stab.proofs.Findings.{stays, nothing-found, later}
 use Rattle.branch.specs.Work.{tableau}
+use Rattle.steps.specs.Judged.{nodeRefusalAs}
 use Rattle.tableau.specs.Passes.{rowsRefusal, nodesRefusal}
 use Rattle.tableau.proofs.check.small_record.Statement.{statement}
 use Rattle.tableau.proofs.check.small_record.Tie as tie
@@ -39,11 +40,11 @@ enum-told-2 c = search needs
 -- what the passes found
 passes-found : (c : tie.After-passes) →
     let T = lent (c .before .before) in
-    finding (c .passes .result) ≡ (rowsRefusal T otherwise nodesRefusal T)
+    finding (c .passes .result) ≡ (rowsRefusal T otherwise nodesRefusal (c .before .before .args .whole) T)
 passes-found c =
     let start = c .before .before in
     c .passes .ensures .0
-    ∙ ap₂ (λ (r l : ℤ). rowsRefusal (lentAt start r l) otherwise nodesRefusal (lentAt start r l)) (toZ-ofZ (start .fits .root)) (toZ-ofZ (start .fits .least))
+    ∙ ap₂ (λ (r l : ℤ). rowsRefusal (lentAt start r l) otherwise nodesRefusal (start .args .whole) (lentAt start r l)) (toZ-ofZ (start .fits .root)) (toZ-ofZ (start .fits .least))
 
 returns : tie.Need-returns
 returns c = stays _ _ _ _ _ (passes-found (c .before .before .before)) (c .enum-told2 .given .1)
@@ -78,7 +79,7 @@ returns-2 c =
     let start = found .before .before in
     later _ _ _ (nothing-found _ _ (passes-found found) (told .enum-told .given .1))
     (judged .single-steps .ensures
-    ∙ ap₂ (λ (r l : ℤ). scan (nodeRefusal (lentAt start r l)) (start .args .k)) (toZ-ofZ (start .fits .root)) (toZ-ofZ (start .fits .least)))
+    ∙ ap₂ (λ (r l : ℤ). scan (nodeRefusalAs (start .args .whole) (lentAt start r l)) (start .args .k)) (toZ-ofZ (start .fits .root)) (toZ-ofZ (start .fits .least)))
 
 pub small-record-spec : {M : Type 1} → statement M
 small-record-spec =
