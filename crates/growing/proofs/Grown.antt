@@ -94,7 +94,7 @@ module _ (T : Tableau) (ok : takeBackRefusal T ≡ none) where
 
 -- ---- lists of calls
 
-passed : (T : Tableau) (call : Call) → callRefusal T call ≡ none → Holds (changed T call)
+pub passed : (T : Tableau) (call : Call) → callRefusal T call ≡ none → Holds (changed T call)
 unfolding callRefusal changed
 passed T (add w) ok = add-holds T w ok
 passed T takeBack ok = holds-shortened T (back-holds T ok) (some-row T ok)

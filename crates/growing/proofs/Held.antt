@@ -70,7 +70,7 @@ module _ {T U : Tableau} {k : ℕ} (A : Alike T U k) where
   parent-kept zero h p = (ap (λ (w : Node). w .up) (A .node 0 h) ∙ p .0, A .set 0 h ∙ p .1 ∙ ap (λ (z : ℤ). z ∷ []) (sym (A .root)))
   parent-kept (suc i) h p = rw (A .node (suc i) h) p
 
-  rule-same : (j : ℕ) → j < k → rule U j ≡ rule T j
+  pub rule-same : (j : ℕ) → j < k → rule U j ≡ rule T j
   unfolding rule
   rule-same j h = ap (λ (w : Node). ruleOf (w .rule)) (A .node j h)
 
@@ -78,7 +78,7 @@ module _ {T U : Tableau} {k : ℕ} (A : Alike T U k) where
   unfolding names node
   names-same z j h = ap (λ (w : Node). eqZ (w .up) z) (A .node j h)
 
-  counted-same : (j n : ℕ) → n ≤ k → childCountOf (U .nodes) n j ≡ childCountOf (T .nodes) n j
+  pub counted-same : (j n : ℕ) → n ≤ k → childCountOf (U .nodes) n j ≡ childCountOf (T .nodes) n j
   unfolding childCountOf
   counted-same j n h = count-same _ _ n (λ i l. names-same (pos j) i (omega arith))
 
@@ -92,15 +92,15 @@ count-more p n = go (p n)
     go false = omega arith
 
 -- nothing is found of a node, missing children aside
-held-node : (T : Tableau) (j : ℕ) → stepRefusal T j ≡ none → childrenHeld T j ≡ true → heldNodeRefusal T j ≡ none
+pub held-node : (T : Tableau) (j : ℕ) → stepRefusal T j ≡ none → childrenHeld T j ≡ true → heldNodeRefusal T j ≡ none
 unfolding heldNodeRefusal atUnless
 held-node T j s c = otherwise-none (stepRefusal T j) _ s ∙ none-unless (childrenHeld T j) _ c
 
-held-step : (T : Tableau) (j : ℕ) → heldNodeRefusal T j ≡ none → stepRefusal T j ≡ none
+pub held-step : (T : Tableau) (j : ℕ) → heldNodeRefusal T j ≡ none → stepRefusal T j ≡ none
 unfolding heldNodeRefusal
 held-step T j h = otherwise-first _ _ h
 
-held-children : (T : Tableau) (j : ℕ) → heldNodeRefusal T j ≡ none → childrenHeld T j ≡ true
+pub held-children : (T : Tableau) (j : ℕ) → heldNodeRefusal T j ≡ none → childrenHeld T j ≡ true
 unfolding heldNodeRefusal atUnless
 held-children T j h = unless-none (childrenHeld T j) _ (otherwise-second (stepRefusal T j) _ h)
 
@@ -118,23 +118,78 @@ unfolding beyondRefusal atUnless node nat
 beyond-held U zero j h e b = absurd (omega arith)
 beyond-held U (suc i) j h e b = subst (λ (z : ℤ). childrenHeld U (nat z) ≡ true) e (unless-none (childrenHeld U (nat (nodeAt (U .nodes) (suc i) .up))) _ b)
 
+-- ---- what room is
+
+pub fits : (T : Tableau) (w : NodeRow) → roomFor T w ≡ true → (T .nodeRows < 1024) × (T .memberCount + length (w .members) ≤ 8192) × (9 * suc (T .nodeRows) ≤ length (T .nodes)) × (T .memberCount + length (w .members) ≤ length (T .members))
+unfolding roomFor
+fits T w room =
+    let a = and-right (ltb (T .nodeRows) 1024) _ room in
+    let b = and-right (leb (T .memberCount + length (w .members)) 8192) _ a in
+    (ltb-true _ _ (and-left (ltb (T .nodeRows) 1024) _ room), leb-true _ _ (and-left _ _ a), leb-true _ _ (and-left _ _ b), leb-true _ _ (and-right (leb (9 * suc (T .nodeRows)) (length (T .nodes))) _ b))
+
 module _ (T : Tableau) (H : Holds T) where
-  -- ---- one row more
+  -- ---- one row more, where there is room
+
+  module _ (w : NodeRow) (room : roomFor T w ≡ true) where
+    A : Alike T (added T w) (T .nodeRows)
+    A = added-alike T H w room
+
+    pub old-set : (j : ℕ) → j < T .nodeRows → KeepsSet (added T w) j
+    unfolding added holding
+    old-set j h =
+        set-kept A j h (H .sets j h)
+        (le-of (atom (setEnd (T .nodes) j)) (num (T .memberCount + length (w .members))) (omega (arith, of-le (atom (setEnd (T .nodes) j)) (num (T .memberCount)) (leZ-of (H .sets j h .counted)))))
+        (λ e. absurd (omega arith))
+
+    pub old-parent : (j : ℕ) → j < T .nodeRows → KeepsParent (added T w) j
+    old-parent j h = parent-kept A j h (H .parents j h)
+
+    pub old-step : (j : ℕ) → j < T .nodeRows → stepRefusal (added T w) j ≡ none
+    old-step j h = step-same A j h (H .parents j h) ∙ held-step T j (H .steps j h)
+
+    -- the children that node j has with the new row
+    children-are : (j : ℕ) → childCount (added T w) j ≡ (if names (added T w .nodes) (pos j) (T .nodeRows) then suc (childCount T j) else childCount T j)
+    unfolding childCount childCountOf added holding count
+    children-are j = ap (λ (m : ℕ). if names (added T w .nodes) (pos j) (T .nodeRows) then suc m else m) (counted-same A j (T .nodeRows) (omega arith))
+
+    -- a node that is not the new row's parent has those that it had
+    pub other-children : (j : ℕ) → j < T .nodeRows → names (added T w .nodes) (pos j) (T .nodeRows) ≡ false → childrenHeld (added T w) j ≡ true
+    unfolding childrenHeld
+    other-children j h e =
+        ap₂ leb (children-are j ∙ if-false (names (added T w .nodes) (pos j) (T .nodeRows)) _ _ e) (ap (λ (r : Rule). r .children) (rule-same A j h)) ∙ held-children T j (H .steps j h)
+
+    pub new-children : KeepsParent (added T w) (T .nodeRows) → childrenHeld (added T w) (T .nodeRows) ≡ true
+    unfolding childrenHeld childCount childCountOf
+    new-children p =
+        let z : childCount (added T w) (T .nodeRows) ≡ 0 = children-are (T .nodeRows) ∙ if-false _ _ _ (no-later (added T w) (T .nodeRows) (T .nodeRows) (omega arith) p) ∙ count-none _ (T .nodeRows) (λ i l. no-later T i (T .nodeRows) (omega arith) (H .parents i l)) in
+        ap (λ (n : ℕ). leb n (rule (added T w) (T .nodeRows) .children)) z ∙ le-leb 0 (rule (added T w) (T .nodeRows) .children) (omega arith)
+
+    pub tables-added : KeepsTables (added T w)
+    unfolding added holding rowCount nodeNumbers
+    tables-added = record {
+      schemaHeld = H .tables .schemaHeld;
+      proofHeld = H .tables .proofHeld;
+      nodesHeld = rw (padded-length (length (T .nodes)) (take (9 * T .nodeRows) (T .nodes) ++ nodeNumbers w (T .memberCount)) nodes-fit) (fits T w room .2);
+      membersHeld = rw (padded-length (length (T .members)) (take (T .memberCount) (T .members) ++ w .members) members-fit) (fits T w room .3);
+      rowLimit = H .tables .rowLimit;
+      nodeLimit = omega (arith, fits T w room .0);
+      memberLimit = fits T w room .1;
+    }
+      where
+        nodes-fit : length (take (9 * T .nodeRows) (T .nodes) ++ nodeNumbers w (T .memberCount)) ≤ length (T .nodes)
+        nodes-fit =
+            omega (arith, length-append (take (9 * T .nodeRows) (T .nodes)) (nodeNumbers w (T .memberCount)), length-take-le (9 * T .nodeRows) (T .nodes) (H .tables .nodesHeld), fits T w room .2)
+
+        members-fit : length (take (T .memberCount) (T .members) ++ w .members) ≤ length (T .members)
+        members-fit =
+            omega (arith, length-append (take (T .memberCount) (T .members)) (w .members), length-take-le (T .memberCount) (T .members) (H .tables .membersHeld), fits T w room .3)
+
+  -- ---- and where it is accepted
 
   module _ (w : NodeRow) (ok : newRefusal T w ≡ none) where
     pub room : roomFor T w ≡ true
     unfolding newRefusal wholeUnless
     room = unless-none (roomFor T w) _ (otherwise-first _ _ ok)
-
-    fits : (T .nodeRows < 1024) × (T .memberCount + length (w .members) ≤ 8192) × (9 * suc (T .nodeRows) ≤ length (T .nodes)) × (T .memberCount + length (w .members) ≤ length (T .members))
-    unfolding roomFor
-    fits =
-        let a = and-right (ltb (T .nodeRows) 1024) _ room in
-        let b = and-right (leb (T .memberCount + length (w .members)) 8192) _ a in
-        (ltb-true _ _ (and-left (ltb (T .nodeRows) 1024) _ room), leb-true _ _ (and-left _ _ a), leb-true _ _ (and-left _ _ b), leb-true _ _ (and-right (leb (9 * suc (T .nodeRows)) (length (T .nodes))) _ b))
-
-    A : Alike T (added T w) (T .nodeRows)
-    A = added-alike T H w room
 
     ok-row : addedRefusal (added T w) (T .nodeRows) ≡ none
     unfolding newRefusal
@@ -158,62 +213,23 @@ module _ (T : Tableau) (H : Holds T) where
     new-step =
         otherwise-second (beyondRefusal (added T w) (T .nodeRows)) _ (otherwise-second (parentRefusal (added T w) (T .nodeRows)) _ (otherwise-second (setRefusal (added T w) (T .nodeRows)) _ ok-row))
 
-    old-set : (j : ℕ) → j < T .nodeRows → KeepsSet (added T w) j
-    unfolding added holding
-    old-set j h =
-        set-kept A j h (H .sets j h)
-        (le-of (atom (setEnd (T .nodes) j)) (num (T .memberCount + length (w .members))) (omega (arith, of-le (atom (setEnd (T .nodes) j)) (num (T .memberCount)) (leZ-of (H .sets j h .counted)))))
-        (λ e. absurd (omega arith))
-
-    -- the children that node j has with the new row
-    children-are : (j : ℕ) → childCount (added T w) j ≡ (if names (added T w .nodes) (pos j) (T .nodeRows) then suc (childCount T j) else childCount T j)
-    unfolding childCount childCountOf added holding count
-    children-are j = ap (λ (m : ℕ). if names (added T w .nodes) (pos j) (T .nodeRows) then suc m else m) (counted-same A j (T .nodeRows) (omega arith))
-
     old-children : (j : ℕ) → j < T .nodeRows → childrenHeld (added T w) j ≡ true
     unfolding childrenHeld names
     old-children j h = by (names (added T w .nodes) (pos j) (T .nodeRows)) refl
       where
         by : (b : Bool) → names (added T w .nodes) (pos j) (T .nodeRows) ≡ b → childrenHeld (added T w) j ≡ true
         by true e = beyond-held (added T w) (T .nodeRows) j h (eqZ-true _ _ e) new-beyond
-        by false e =
-            ap₂ leb (children-are j ∙ if-false (names (added T w .nodes) (pos j) (T .nodeRows)) _ _ e) (ap (λ (r : Rule). r .children) (rule-same A j h)) ∙ held-children T j (H .steps j h)
-
-    new-children : childrenHeld (added T w) (T .nodeRows) ≡ true
-    unfolding childrenHeld childCount childCountOf
-    new-children =
-        let z : childCount (added T w) (T .nodeRows) ≡ 0 = children-are (T .nodeRows) ∙ if-false _ _ _ (no-later (added T w) (T .nodeRows) (T .nodeRows) (omega arith) new-parent) ∙ count-none _ (T .nodeRows) (λ i l. no-later T i (T .nodeRows) (omega arith) (H .parents i l)) in
-        ap (λ (n : ℕ). leb n (rule (added T w) (T .nodeRows) .children)) z ∙ le-leb 0 (rule (added T w) (T .nodeRows) .children) (omega arith)
-
-    tables-added : KeepsTables (added T w)
-    unfolding added holding rowCount nodeNumbers
-    tables-added = record {
-      schemaHeld = H .tables .schemaHeld;
-      proofHeld = H .tables .proofHeld;
-      nodesHeld = rw (padded-length (length (T .nodes)) (take (9 * T .nodeRows) (T .nodes) ++ nodeNumbers w (T .memberCount)) nodes-fit) (fits .2);
-      membersHeld = rw (padded-length (length (T .members)) (take (T .memberCount) (T .members) ++ w .members) members-fit) (fits .3);
-      rowLimit = H .tables .rowLimit;
-      nodeLimit = omega (arith, fits .0);
-      memberLimit = fits .1;
-    }
-      where
-        nodes-fit : length (take (9 * T .nodeRows) (T .nodes) ++ nodeNumbers w (T .memberCount)) ≤ length (T .nodes)
-        nodes-fit =
-            omega (arith, length-append (take (9 * T .nodeRows) (T .nodes)) (nodeNumbers w (T .memberCount)), length-take-le (9 * T .nodeRows) (T .nodes) (H .tables .nodesHeld), fits .2)
-
-        members-fit : length (take (T .memberCount) (T .members) ++ w .members) ≤ length (T .members)
-        members-fit =
-            omega (arith, length-append (take (T .memberCount) (T .members)) (w .members), length-take-le (T .memberCount) (T .members) (H .tables .membersHeld), fits .3)
+        by false e = other-children w room j h e
 
     pub holds-added : Holds (added T w)
     unfolding added holding rows rowCount
     holds-added = record {
-      tables = tables-added;
+      tables = tables-added w room;
       formulas = H .formulas;
       fresh = H .fresh;
-      sets = λ j h. at-last j h (KeepsSet (added T w)) old-set new-set;
-      parents = λ j h. at-last j h (KeepsParent (added T w)) (λ i l. parent-kept A i l (H .parents i l)) new-parent;
-      steps = λ j h. at-last j h (λ i. heldNodeRefusal (added T w) i ≡ none) (λ i l. held-node (added T w) i (step-same A i l (H .parents i l) ∙ held-step T i (H .steps i l)) (old-children i l)) (held-node (added T w) (T .nodeRows) new-step new-children);
+      sets = λ j h. at-last j h (KeepsSet (added T w)) (old-set w room) new-set;
+      parents = λ j h. at-last j h (KeepsParent (added T w)) (old-parent w room) new-parent;
+      steps = λ j h. at-last j h (λ i. heldNodeRefusal (added T w) i ≡ none) (λ i l. held-node (added T w) i (old-step w room i l) (old-children i l)) (held-node (added T w) (T .nodeRows) new-step (new-children w room new-parent));
     }
       where
         at-last : (j : ℕ) → j < suc (T .nodeRows) → (P : ℕ → Type 0) → ((i : ℕ) → i < T .nodeRows → P i) → P (T .nodeRows) → P j
@@ -222,7 +238,7 @@ module _ (T : Tableau) (H : Holds T) where
   -- ---- the last row taken back
 
   -- a set ends where a later one starts, or before
-  ends-before : (j i : ℕ) → j < i → i < T .nodeRows → nat (node T j .start) + nat (node T j .size) ≤ nat (node T i .start)
+  pub ends-before : (j i : ℕ) → j < i → i < T .nodeRows → nat (node T j .start) + nat (node T j .size) ≤ nat (node T i .start)
   unfolding setStart node nat
   ends-before j zero l h = absurd (omega arith)
   ends-before j (suc i) l h =

@@ -2,6 +2,7 @@
 pub mod again;
 pub mod failing;
 pub mod fault;
+pub mod grower;
 pub mod joiner;
 pub mod texts;
 pub mod tidier;

@@ -1,0 +1,39 @@
+-- The children of each node, counted one node after another.
+use Prim.Native.Nat.{ℕ, zero, suc, _+_, _<_}
+use native.Mathlib.Omega.{arith}
+use native.Mathlib.Numerals.{add-one}
+use mathlib.Core.Path.{_≡_, refl, sym, _∙_, ap}
+use mathlib.Core.Logic.{⊎-elim}
+use mathlib.Core.Bool.{Bool, true, false}
+use lib.Dec.{ltb}
+use Rattle.stab.specs.Basic.{_and_}
+use Rattle.stab.specs.Node.{Tableau, childCount, node}
+use Rattle.stab.specs.Rule.{rule, childrenFit}
+use Rattle.stab.proofs.Bools.{and-both, and-first-false, and-second-false}
+use Rattle.stab.proofs.Scans.{below-suc}
+use Rattle.branch.specs.Work.{tableau}
+use Rattle.growing.specs.Complete.{childrenAll, complete}
+use Rattle.grow.specs.State.{nodesOnly}
+
+pub all-more : (T : Tableau) (j : ℕ) → childrenAll T j ≡ true → childrenFit T j ≡ true → childrenAll T (j + 1) ≡ true
+unfolding childrenAll
+all-more T j h f = ap (childrenAll T) (add-one j) ∙ and-both _ _ h f
+
+pub all-stops : (T : Tableau) (k j : ℕ) → j < k → childrenFit T j ≡ false → childrenAll T k ≡ false
+unfolding childrenAll
+all-stops T zero j h f = absurd (omega arith)
+all-stops T (suc k) j h f =
+    ⊎-elim
+    (λ l. and-first-false (childrenAll T k) _ (all-stops T k j l f))
+    (λ e. and-second-false (childrenAll T k) _ (ap (childrenFit T) (sym e) ∙ f))
+    (below-suc j k h)
+
+-- the nodes tell it alone
+all-alone : (T : Tableau) (j : ℕ) → childrenAll (nodesOnly (T .nodes) (T .nodeRows)) j ≡ childrenAll T j
+unfolding childrenAll nodesOnly tableau childrenFit childCount rule node
+all-alone T zero = refl
+all-alone T (suc j) = ap (λ (b : Bool). b and childrenFit T j) (all-alone T j)
+
+pub complete-alone : (T : Tableau) → complete (nodesOnly (T .nodes) (T .nodeRows)) ≡ complete T
+unfolding complete nodesOnly tableau
+complete-alone T = ap (λ (b : Bool). ltb 0 (T .nodeRows) and b) (all-alone T (T .nodeRows))

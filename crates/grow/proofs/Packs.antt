@@ -1,0 +1,111 @@
+-- The answer as the one number: its parts do not run into one another and are read back.
+use Prim.Native.Nat.{ℕ, zero, suc, _<_, _≤_}
+use native.Mathlib.Omega.{arith}
+use mathlib.Core.Path.{_≡_, refl, sym, _∙_, ap, subst}
+use mathlib.Core.Option.{Option, none, some, Option·none-ne-some}
+use lib.Dec.{leb}
+use Rattle.stab.specs.Basic.{_otherwise_}
+use Rattle.stab.specs.Node.{Tableau, rows, rowCount}
+use Rattle.stab.specs.Check.{rowRefusal, repeatRefusal, freshRowRefusal, formulasBy, setRefusal, parentRefusal, stepRefusal, withinLimits, refusalBy, presentFormulas, wholeUnless, isLink, linkCount}
+use Rattle.stab.specs.Answer.{Numbers, refusedNumbers, verdictNumbers, oneNumber, packed, numbersIn, Packs}
+use Rattle.stab.specs.declared.Refusal.the-variants.{TooMany, Room}
+use Rattle.stab.specs.declared.Verdict.{Verdict}
+use Rattle.stab.specs.declared.Verdict.the-variants.{Accepted, Refused}
+use Rattle.stab.proofs.Bools.{unless-none}
+use Rattle.stab.proofs.Scans.{count-le}
+use Rattle.stab.proofs.Tests.{_&_, le-tests, whole-clears}
+use Rattle.stab.proofs.Packed.{near-packs, read-back}
+use Rattle.stab.proofs.Exactness.Refusals.{FindsRefusals, of-whole, of-at, _or-else_, once, of-scan}
+use Rattle.growing.specs.Growing.{heldNodeRefusal, heldRefusal, NodeRow, roomFor, added, beyondRefusal, addedRefusal, newRefusal, addRefusal, takeBackRefusal, begun, beginRefusal, beginAnswer, growthBy, Call, add, takeBack, callRefusal, changed, answered, growthNumbers, growthPacked}
+use Rattle.growing.specs.declared.Growth.{Growth}
+use Rattle.growing.specs.declared.Growth.the-variants.{Held, Refused as GrowthRefused}
+use Rattle.growing.proofs.States.{held-clears}
+use Rattle.growing.proofs.Held.{fits}
+use Rattle.growing.proofs.Grown.{passed}
+use Rattle.grow.specs.Packed.{asVerdict}
+
+-- ---- the answer's number is the verdict's
+
+numbers-are : (r : Growth) → verdictNumbers (asVerdict r) ≡ growthNumbers r
+unfolding verdictNumbers refusedNumbers growthNumbers
+numbers-are (Held nodes links shown) = refl
+numbers-are (GrowthRefused why p) = refl
+
+pub packed-is : (r : Growth) → growthPacked r ≡ packed (asVerdict r)
+unfolding growthPacked packed
+packed-is r = ap oneNumber (sym (numbers-are r))
+
+-- ---- whatever is found is a refusal at a place that packs
+
+of-nothing : FindsRefusals none
+of-nothing v e = absurd (Option·none-ne-some v e)
+
+of-present : (T : Tableau) → rowCount T ≤ 4096 → FindsRefusals (presentFormulas T)
+unfolding presentFormulas formulasBy freshRowRefusal rowRefusal repeatRefusal
+of-present T l =
+    of-whole _ _ or-else
+    of-scan (freshRowRefusal (rows T) (T .schemaRows)) (rowCount T) l (λ r k. (of-at _ _ r k or-else of-at _ _ r k) or-else of-at _ _ r k) or-else
+    of-whole _ _
+
+of-step : (T : Tableau) (j : ℕ) → j < 4096 → FindsRefusals (stepRefusal T j)
+unfolding stepRefusal
+of-step T j l = of-at _ _ j l or-else of-at _ _ j l or-else of-at _ _ j l or-else of-at _ _ j l or-else of-at _ _ j l or-else of-at _ _ j l
+
+pub of-held : (T : Tableau) → FindsRefusals (heldRefusal T)
+unfolding heldRefusal refusalBy setRefusal parentRefusal heldNodeRefusal withinLimits
+of-held T =
+    of-whole _ _ or-else
+    once (of-whole _ TooMany)
+    (λ h.
+    let limits = whole-clears TooMany (le-tests (rowCount T) 1024 & le-tests (T .nodeRows) 1024 & le-tests (T .memberCount) 8192) .0 h in
+    let nodes : T .nodeRows ≤ 4096 = omega (arith, limits .1 .0) in
+    of-present T (omega (arith, limits .0)) or-else
+    of-scan (setRefusal T) (T .nodeRows) nodes (λ j l. of-at _ _ j l) or-else
+    of-nothing or-else
+    of-scan (parentRefusal T) (T .nodeRows) nodes (λ j l. of-at _ _ j l) or-else
+    of-scan (heldNodeRefusal T) (T .nodeRows) nodes (λ j l. of-step T j l or-else of-at _ _ j l))
+
+of-beyond : (T : Tableau) (j : ℕ) → j < 4096 → FindsRefusals (beyondRefusal T j)
+unfolding beyondRefusal
+of-beyond T zero l = of-nothing
+of-beyond T (suc i) l = of-at _ _ (suc i) l
+
+pub of-new : (T : Tableau) (w : NodeRow) → FindsRefusals (newRefusal T w)
+unfolding newRefusal addedRefusal setRefusal parentRefusal wholeUnless
+of-new T w =
+    once (of-whole (roomFor T w) Room)
+    (λ h.
+    let n = T .nodeRows in
+    let l : n < 4096 = omega (arith, fits T w (unless-none (roomFor T w) _ h) .0) in
+    of-at _ _ n l or-else of-at _ _ n l or-else of-beyond (added T w) n l or-else of-step (added T w) n l)
+
+of-call : (T : Tableau) (call : Call) → FindsRefusals (callRefusal T call)
+unfolding callRefusal addRefusal takeBackRefusal
+of-call T (add w) = of-held T or-else of-new T w
+of-call T takeBack = of-held T or-else of-whole _ _
+
+-- ---- the answers pack
+
+pub growth-packs : (x : Option Verdict) (T : Tableau) → FindsRefusals x → (x ≡ none → T .nodeRows ≤ 1024) → Packs (asVerdict (growthBy x T))
+unfolding growthBy linkCount
+growth-packs none T f few = (omega (arith, few refl), omega (arith, few refl, count-le (isLink (T .nodes)) (T .nodeRows)))
+growth-packs (some (Refused why p)) T f few = let r = f (Refused why p) refl in subst Packs (sym (r .2)) (near-packs (r .0) (r .1) (r .3))
+growth-packs (some (Accepted nodes links)) T f few = tt
+
+pub begin-packs : (T : Tableau) → Packs (asVerdict (beginAnswer T))
+unfolding beginAnswer beginRefusal
+begin-packs T = growth-packs (heldRefusal (begun T)) (begun T) (of-held (begun T)) (λ e. held-clears (begun T) .0 e .tables .nodeLimit)
+
+pub call-packs : (T : Tableau) (call : Call) → Packs (asVerdict (answered T call))
+unfolding answered
+call-packs T call = growth-packs (callRefusal T call) (changed T call) (of-call T call) (λ e. passed T call e .tables .nodeLimit)
+
+-- reading the one number back gives the answer's numbers
+growth-read-back : (r : Growth) → Packs (asVerdict r) → numbersIn (growthPacked r) ≡ growthNumbers r
+growth-read-back r h = ap numbersIn (packed-is r) ∙ read-back (asVerdict r) h ∙ numbers-are r
+
+pub begin-read-back : (T : Tableau) → numbersIn (growthPacked (beginAnswer T)) ≡ growthNumbers (beginAnswer T)
+begin-read-back T = growth-read-back (beginAnswer T) (begin-packs T)
+
+pub call-read-back : (T : Tableau) (call : Call) → numbersIn (growthPacked (answered T call)) ≡ growthNumbers (answered T call)
+call-read-back T call = growth-read-back (answered T call) (call-packs T call)

@@ -1,0 +1,49 @@
+use borrow.Author.Needs.{needs}
+use mathlib.Core.Path.{_≡_, refl, sym, _∙_, ap, ap₂}
+use mathlib.Core.Option.{Option, none, some}
+use lib.IntN.{ℤ}
+use mir.Facts.{toZ-ofZ}
+use denote.Ref.{now}
+use Rattle.stab.specs.Basic.{_otherwise_}
+use Rattle.stab.specs.Node.{Tableau}
+use Rattle.stab.specs.Check.{finding}
+use Rattle.stab.specs.declared.Verdict.{Verdict}
+use Rattle.stab.specs.declared.Verdict.the-variants.{Refused}
+use Rattle.stab.proofs.Bools.{otherwise-some, otherwise-none}
+use Rattle.branch.specs.Work.{tableau}
+use Rattle.growing.specs.Growing.{heldRefusal, growthBy}
+use Rattle.grow.proofs.turn_away.Statement.{statement}
+use Rattle.grow.proofs.turn_away.Tie as tie
+
+abbrev lentAt : tie.Start → ℤ → ℤ → Tableau
+lentAt c root least =
+    let a = c .args in
+    tableau (now (a .schema)) (a .schema-rows) (now (a .proof)) (a .proof-rows) root least (now (a .nodes)) (a .n) (now (a .members)) (a .m)
+
+-- what is found of the rows held
+found : (c : tie.After-held) → finding (c .held .result) ≡ heldRefusal (lentAt (c .before) (c .before .args .root) (c .before .args .least))
+found c =
+    let start = c .before in
+    c .held .ensures ∙ ap₂ (λ (r l : ℤ). heldRefusal (lentAt start r l)) (toZ-ofZ (start .fits .root)) (toZ-ofZ (start .fits .least))
+
+held-requires : tie.Need-held-requires
+held-requires c κs = search needs
+
+enum-known-w : tie.Need-enum-known-w
+enum-known-w c = search needs
+
+enum-told : tie.Need-enum-told
+enum-told c = search needs
+
+returns : tie.Need-returns
+unfolding finding growthBy
+returns c U =
+    ap (λ (x : Option Verdict). growthBy x U) (sym (otherwise-some _ _ _ (sym (found (c .before .before .before)) ∙ ap finding (c .before .w .given .1))))
+
+returns-2 : tie.Need-returns-2
+unfolding finding growthBy
+returns-2 c U =
+    ap (λ (x : Option Verdict). growthBy x U) (sym (otherwise-none _ _ (sym (found (c .before .before)) ∙ ap finding (c .enum-told .given .1))))
+
+pub turn-away-spec : {M : Type 1} → statement M
+turn-away-spec = tie.close (tie.spec held-requires enum-known-w enum-told returns returns-2)

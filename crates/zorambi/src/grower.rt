@@ -1,0 +1,141 @@
+// The entries with which a tableau grows row by row in lent tables: one number back as from the check, with the counts of the rows held,
+// and in a lent result whether the tableau is closed.
+use growing::Growth;
+use stab::Verdict;
+ghost use mathlib.Core.Path.{_≡_};
+ghost use mathlib.Core.List.{[], _∷_};
+ghost use lib.IntN.{pos};
+ghost use Rattle.stab.specs.Basic.{if_then_else_};
+ghost use Rattle.stab.specs.Answer.{Packs};
+ghost use Rattle.growing.specs.Growing.{begun, beginAnswer, add, takeBack, answered, after, growthPacked, shownNumber};
+ghost use Rattle.grow.specs.State.{state, rowFrom};
+ghost use Rattle.grow.specs.Packed.{asVerdict};
+
+// 1 for closed.
+fn shown_of(closed: bool) -> i32
+    ensures { λ r. ⌜ r ≡ pos (if closed then 1 else 0) ⌝ }
+{
+    if closed { 1 } else { 0 }
+}
+
+// What a call answers, as the one number, and whether the tableau is closed.
+fn told(r: Growth, shown: &mut [i32; 1]) -> u64
+    requires { ⌜ Packs (asVerdict r) ⌝ }
+    ensures { λ v. ⌜ v ≡ growthPacked r ⌝ }
+    ensures { λ v. ⌜ now (shown .exit) ≡ pos (shownNumber r) ∷ [] ⌝ }
+{
+    match r {
+        Growth::Held {
+            nodes,
+            links,
+            closed,
+        } => {
+            *shown = [shown_of(closed)];
+            answer::pack(Verdict::Accepted { nodes, links })
+        }
+        Growth::Refused { why, place } => {
+            *shown = [0];
+            answer::pack(Verdict::Refused { why, place })
+        }
+    }
+}
+
+// Formula rows are given. Then, and also after a refusal, no node is held and the tables are 0.
+#[no_mangle]
+pub extern "C" fn zorambi_begin(
+    schema: &[i32],
+    schema_rows: usize,
+    proof: &[i32],
+    proof_rows: usize,
+    root: i32,
+    least: i32,
+    nodes: &mut [i32],
+    members: &mut [i32],
+    held: &mut [usize; 2],
+    shown: &mut [i32; 1],
+) -> u64
+    ensures answer { λ r. ⌜ r ≡ growthPacked (beginAnswer (state (now (schema .entry)) «schema_rows» (now (proof .entry)) «proof_rows» root least (now (nodes .entry)) (now (members .entry)) (now (held .entry)))) ⌝ }
+    ensures shown { λ r. ⌜ now (shown .exit) ≡ pos (shownNumber (beginAnswer (state (now (schema .entry)) «schema_rows» (now (proof .entry)) «proof_rows» root least (now (nodes .entry)) (now (members .entry)) (now (held .entry))))) ∷ [] ⌝ }
+    ensures left { λ r. ⌜ state (now (schema .entry)) «schema_rows» (now (proof .entry)) «proof_rows» root least (now (nodes .exit)) (now (members .exit)) (now (held .exit)) ≡ begun (state (now (schema .entry)) «schema_rows» (now (proof .entry)) «proof_rows» root least (now (nodes .entry)) (now (members .entry)) (now (held .entry))) ⌝ }
+{
+    let r = grow::begin(
+        schema,
+        schema_rows,
+        proof,
+        proof_rows,
+        root,
+        least,
+        nodes,
+        members,
+        held,
+    );
+    told(r, shown)
+}
+
+// A node row is added at the end of the rows held: seven numbers, and its set. A refused call leaves all as it stood.
+#[no_mangle]
+pub extern "C" fn zorambi_add(
+    schema: &[i32],
+    schema_rows: usize,
+    proof: &[i32],
+    proof_rows: usize,
+    root: i32,
+    least: i32,
+    nodes: &mut [i32],
+    members: &mut [i32],
+    held: &mut [usize; 2],
+    shown: &mut [i32; 1],
+    row: &[i32; 7],
+    set: &[i32],
+) -> u64
+    ensures answer { λ r. ⌜ r ≡ growthPacked (answered (state (now (schema .entry)) «schema_rows» (now (proof .entry)) «proof_rows» root least (now (nodes .entry)) (now (members .entry)) (now (held .entry))) (add (rowFrom (now (row .entry)) (now (set .entry))))) ⌝ }
+    ensures shown { λ r. ⌜ now (shown .exit) ≡ pos (shownNumber (answered (state (now (schema .entry)) «schema_rows» (now (proof .entry)) «proof_rows» root least (now (nodes .entry)) (now (members .entry)) (now (held .entry))) (add (rowFrom (now (row .entry)) (now (set .entry)))))) ∷ [] ⌝ }
+    ensures left { λ r. ⌜ state (now (schema .entry)) «schema_rows» (now (proof .entry)) «proof_rows» root least (now (nodes .exit)) (now (members .exit)) (now (held .exit)) ≡ after (state (now (schema .entry)) «schema_rows» (now (proof .entry)) «proof_rows» root least (now (nodes .entry)) (now (members .entry)) (now (held .entry))) (add (rowFrom (now (row .entry)) (now (set .entry)))) ⌝ }
+{
+    let r = grow::add(
+        schema,
+        schema_rows,
+        proof,
+        proof_rows,
+        root,
+        least,
+        nodes,
+        members,
+        held,
+        row,
+        set,
+    );
+    told(r, shown)
+}
+
+// The last row is taken back. A refused call leaves all as it stood.
+#[no_mangle]
+pub extern "C" fn zorambi_take_back(
+    schema: &[i32],
+    schema_rows: usize,
+    proof: &[i32],
+    proof_rows: usize,
+    root: i32,
+    least: i32,
+    nodes: &mut [i32],
+    members: &mut [i32],
+    held: &mut [usize; 2],
+    shown: &mut [i32; 1],
+) -> u64
+    ensures answer { λ r. ⌜ r ≡ growthPacked (answered (state (now (schema .entry)) «schema_rows» (now (proof .entry)) «proof_rows» root least (now (nodes .entry)) (now (members .entry)) (now (held .entry))) takeBack) ⌝ }
+    ensures shown { λ r. ⌜ now (shown .exit) ≡ pos (shownNumber (answered (state (now (schema .entry)) «schema_rows» (now (proof .entry)) «proof_rows» root least (now (nodes .entry)) (now (members .entry)) (now (held .entry))) takeBack)) ∷ [] ⌝ }
+    ensures left { λ r. ⌜ state (now (schema .entry)) «schema_rows» (now (proof .entry)) «proof_rows» root least (now (nodes .exit)) (now (members .exit)) (now (held .exit)) ≡ after (state (now (schema .entry)) «schema_rows» (now (proof .entry)) «proof_rows» root least (now (nodes .entry)) (now (members .entry)) (now (held .entry))) takeBack ⌝ }
+{
+    let r = grow::take_back(
+        schema,
+        schema_rows,
+        proof,
+        proof_rows,
+        root,
+        least,
+        nodes,
+        members,
+        held,
+    );
+    told(r, shown)
+}
