@@ -56,6 +56,14 @@ struct Node<'a> {
     set: &'a [i32],
 }
 
+impl<'a> Node<'a> {
+    /// The first seven numbers of a row, and its set.
+    fn new(row: &[i32], set: &'a [i32]) -> Node<'a> {
+        let [up, rule, on, with, other, to, by] = std::array::from_fn(|field| row[field]);
+        Node { up, rule, on, with, other, to, by, set }
+    }
+}
+
 /// n ≥ `least`, and n ≤ `most` if there is an upper bound.
 #[derive(Clone, Copy)]
 struct Bound {
@@ -127,30 +135,116 @@ fn check_tables(
     twice: Twice,
     root: i32,
     least: i32,
+    schema: (&[i32], usize),
+    proof: (&[i32], usize),
+    nodes: (&[i32], usize),
+    members: (&[i32], usize),
+) -> Verdict {
+    match judge_tables(twice, Missing::Refused, root, least, schema, proof, nodes, members) {
+        Ok(kept) => Verdict::accepted(kept.nodes(), kept.links()),
+        Err(refusal) => Verdict::refused(refusal),
+    }
+}
+
+/// Whether a tableau may have no node, and a node too few children: while it grows it may.
+#[derive(Clone, Copy, Debug, PartialEq, Eq)]
+pub(crate) enum Missing {
+    Refused,
+    Allowed,
+}
+
+/// A tableau that keeps the rules.
+pub(crate) struct Kept<'a> {
+    root: i32,
+    least: i64,
+    formulas: Formulas,
+    nodes: Vec<Node<'a>>,
+    bounds: Vec<Bound>,
+    children: Vec<usize>,
+}
+
+#[allow(clippy::too_many_arguments)]
+pub(crate) fn judge_tables<'a>(
+    twice: Twice,
+    missing: Missing,
+    root: i32,
+    least: i32,
     (schema, schema_count): (&[i32], usize),
     (proof, proof_count): (&[i32], usize),
     (nodes, node_count): (&[i32], usize),
-    (members, member_count): (&[i32], usize),
-) -> Verdict {
+    (members, member_count): (&'a [i32], usize),
+) -> Result<Kept<'a>, Refusal> {
     let long_enough = holds(schema.len(), schema_count, ROW_WIDTH)
         && holds(proof.len(), proof_count, ROW_WIDTH)
         && holds(nodes.len(), node_count, NODE_WIDTH)
         && holds(members.len(), member_count, 1);
     if !long_enough {
-        return Verdict::refused(Refusal { answer: 2, place: -1 });
+        return refuse(2, -1);
     }
     if schema_count.saturating_add(proof_count) > MAX_ROWS || node_count > MAX_NODES || member_count > MAX_MEMBERS {
-        return Verdict::refused(Refusal { answer: 5, place: -1 });
+        return refuse(5, -1);
     }
-    let answer = judge_rows(twice, root, least, schema, schema_count, proof, proof_count).and_then(|formulas| {
-        let nodes = find_sets(&formulas, &nodes[..node_count * NODE_WIDTH], &members[..member_count])?;
-        check_tree(&nodes, root)?;
-        check_rules(&formulas, &nodes, i64::from(least))?;
-        Ok(nodes.iter().filter(|node| node.rule == RULE_LOOP as i32).count())
-    });
-    match answer {
-        Ok(links) => Verdict::accepted(node_count, links),
-        Err(refusal) => Verdict::refused(refusal),
+    let formulas = judge_rows(twice, root, least, schema, schema_count, proof, proof_count)?;
+    let nodes = find_sets(&formulas, &nodes[..node_count * NODE_WIDTH], &members[..member_count])?;
+    if nodes.is_empty() && missing == Missing::Refused {
+        return refuse(10, -1);
+    }
+    check_tree(&nodes, root)?;
+    let least = i64::from(least);
+    let (bounds, children) = check_rules(&formulas, &nodes, least, missing)?;
+    Ok(Kept { root, least, formulas, nodes, bounds, children })
+}
+
+impl<'a> Kept<'a> {
+    pub(crate) fn nodes(&self) -> usize {
+        self.nodes.len()
+    }
+
+    /// The rule 8 rows.
+    pub(crate) fn links(&self) -> usize {
+        self.nodes.iter().filter(|node| node.rule == RULE_LOOP as i32).count()
+    }
+
+    /// Takes the last row away; false if there is none.
+    pub(crate) fn pop(&mut self) -> bool {
+        self.bounds.pop();
+        self.children.pop();
+        let last = self.nodes.pop();
+        if let Some(up) = last.and_then(|node| usize::try_from(node.up).ok()) {
+            self.children[up] -= 1;
+        }
+        last.is_some()
+    }
+
+    /// A further row at the end: 9, of its set's order and members, and 10; then 17 if its parent has all its children,
+    /// and 11 to 16.
+    pub(crate) fn push(&mut self, row: &[i32; 7], set: &'a [i32]) -> Result<(), Refusal> {
+        let number = self.nodes.len();
+        let node = Node::new(row, set);
+        if !set_is_right(&self.formulas, set) {
+            return refuse(9, number as i32);
+        }
+        if !parent_is_right(number, &node, self.root) {
+            return refuse(10, number as i32);
+        }
+        let mut bound = Bound { least: self.least, most: None };
+        if number > 0 {
+            let up = node.up as usize;
+            let (parent, position) = (&self.nodes[up], self.children[up]);
+            if position == RULES[parent.rule as usize].children {
+                return refuse(17, number as i32);
+            }
+            if !set_fits(&self.formulas, parent, position, set) {
+                return refuse(11, number as i32);
+            }
+            bound = bound_of_child(self.bounds[up], parent, position);
+            self.children[up] += 1;
+        }
+        self.nodes.push(node);
+        self.bounds.push(bound);
+        self.children.push(0);
+        check_node(&self.formulas, &self.nodes, &self.bounds, number, 0, Missing::Allowed)
+            .or_else(|answer| refuse(answer, number as i32))
     }
 }
 
@@ -170,46 +264,43 @@ fn find_sets<'a>(formulas: &Formulas, nodes: &[i32], members: &'a [i32]) -> Resu
         }
         let set = &members[start..start + length];
         used += length;
-        let ascending = set.windows(2).all(|pair| pair[0] < pair[1]);
         let left_over = number + 1 == count && used < members.len();
-        if !ascending || !set.iter().all(|&row| formulas.outer(row)) || left_over {
+        if !set_is_right(formulas, set) || left_over {
             return refuse(9, number as i32);
         }
-        found.push(Node {
-            up: row[0],
-            rule: row[1],
-            on: row[2],
-            with: row[3],
-            other: row[4],
-            to: row[5],
-            by: row[6],
-            set,
-        });
+        found.push(Node::new(row, set));
     }
     Ok(found)
 }
 
-/// Refusal 10: there is a node, every up is right, node 0's set is the root alone.
+fn set_is_right(formulas: &Formulas, set: &[i32]) -> bool {
+    set.windows(2).all(|pair| pair[0] < pair[1]) && set.iter().all(|&row| formulas.outer(row))
+}
+
+/// Refusal 10: every up is right, node 0's set is the root alone.
 fn check_tree(nodes: &[Node], root: i32) -> Result<(), Refusal> {
-    if nodes.is_empty() {
-        return refuse(10, -1);
+    match nodes.iter().enumerate().find(|(number, node)| !parent_is_right(*number, node, root)) {
+        Some((number, _)) => refuse(10, number as i32),
+        None => Ok(()),
     }
-    for (number, node) in nodes.iter().enumerate() {
-        let right = if number == 0 {
-            node.up == -1 && node.set == [root]
-        } else {
-            usize::try_from(node.up).is_ok_and(|up| up < number)
-        };
-        if !right {
-            return refuse(10, number as i32);
-        }
+}
+
+fn parent_is_right(number: usize, node: &Node, root: i32) -> bool {
+    if number == 0 {
+        node.up == -1 && node.set == [root]
+    } else {
+        usize::try_from(node.up).is_ok_and(|up| up < number)
     }
-    Ok(())
 }
 
 /// Refusals 11 to 17, node by node. A parent has a smaller number, so all is known to be right with
-/// it, its number of children included, when its children are looked at.
-fn check_rules(formulas: &Formulas, nodes: &[Node], least: i64) -> Result<(), Refusal> {
+/// it, its number of children included, when its children are looked at. Gives each node's bound and number of children.
+fn check_rules(
+    formulas: &Formulas,
+    nodes: &[Node],
+    least: i64,
+    missing: Missing,
+) -> Result<(Vec<Bound>, Vec<usize>), Refusal> {
     // How many children each node has, and which child of its parent each node is (0 the first).
     let mut children = vec![0_usize; nodes.len()];
     let mut position = vec![0_usize; nodes.len()];
@@ -229,11 +320,11 @@ fn check_rules(formulas: &Formulas, nodes: &[Node], least: i64) -> Result<(), Re
                 return refuse(11, number as i32);
             }
         }
-        if let Err(answer) = check_node(formulas, nodes, &bounds, number, children[number]) {
+        if let Err(answer) = check_node(formulas, nodes, &bounds, number, children[number], missing) {
             return refuse(answer, number as i32);
         }
     }
-    Ok(())
+    Ok((bounds, children))
 }
 
 fn bound_of_child(bound: Bound, parent: &Node, position: usize) -> Bound {
@@ -269,7 +360,14 @@ fn stands_in(row: i32, set: &[i32]) -> bool {
 }
 
 /// Refusals 12 to 17 at one node.
-fn check_node(formulas: &Formulas, nodes: &[Node], bounds: &[Bound], number: usize, children: usize) -> Result<(), u8> {
+fn check_node(
+    formulas: &Formulas,
+    nodes: &[Node],
+    bounds: &[Bound],
+    number: usize,
+    children: usize,
+    missing: Missing,
+) -> Result<(), u8> {
     let node = &nodes[number];
     let bound = bounds[number];
 
@@ -342,7 +440,7 @@ fn check_node(formulas: &Formulas, nodes: &[Node], bounds: &[Bound], number: usi
     }
 
     // 17: the number of children.
-    if children != rule.children {
+    if children > rule.children || (missing == Missing::Refused && children < rule.children) {
         return Err(17);
     }
     Ok(())
