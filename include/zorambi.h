@@ -162,6 +162,47 @@ uint64_t zorambi_join(const int32_t *schema_1, size_t schema_1_len, size_t schem
                       int32_t *schema, size_t schema_len, int32_t *proof, size_t proof_len,
                       int32_t *nodes, size_t nodes_len, int32_t *members, size_t members_len, int32_t results[6]);
 
+/* ---- A tableau that grows. */
+
+/* A tableau built row by row, with formula rows that are given first. It stands in memory that the caller lends to every call and
+ * keeps between them: the node table and the member table, as for the check but with any lengths; held, how many nodes and
+ * members they hold; and shown, 1 for "closed" and 0 otherwise. Formula rows, root and least are given anew with every call. What
+ * stands in the memory need not be believed: every call but the first puts the formula rows and all rows held under the check,
+ * except that there may be no node and a node may have too few children, and gives its refusal; too many children are
+ * ZORAMBI_CHILDREN at the parent.
+ *
+ * zorambi_begin takes the formula rows, by themselves, under the check. Whatever it answers and whatever was held, no row is held
+ * after it: both tables, held and shown are all 0. So the memory needs no start of its own.
+ *
+ * zorambi_add adds a node row at the end, with its set, which needs no place of its own: it follows the sets held. Before the row
+ * is looked at it needs room: ZORAMBI_ROOM (place -1) if 1024 nodes are held, if there would be more than 8192 members, or if
+ * the node table is shorter than 9 numbers for each node, or the member table than the members, with the row's own. So tables of
+ * 9216 and 8192 numbers always have room. The row then passes the check's refusals, its place the number that it would have:
+ * ZORAMBI_SET for its set's order or members, ZORAMBI_PARENT, ZORAMBI_CHILDREN if its parent has all the children that its rule
+ * has, then ZORAMBI_DRAWN to ZORAMBI_LOWERED.
+ *
+ * zorambi_take_back takes the last row back; ZORAMBI_NO_ROW (place -1) if none is held.
+ *
+ * After an accepted call held is the new number of nodes and members, the tables are 0 past these, shown is 1 exactly when
+ * zorambi_check accepts the rows held, and the number has the nodes and links held. A refused zorambi_add or zorambi_take_back
+ * leaves the tables and held as they are, past the rows held too, but shown is 0. */
+uint64_t zorambi_begin(const int32_t *schema, size_t schema_len, size_t schema_rows,
+                       const int32_t *proof, size_t proof_len, size_t proof_rows,
+                       int32_t root, int32_t least,
+                       int32_t *nodes, size_t nodes_len, int32_t *members, size_t members_len,
+                       size_t held[2], int32_t shown[1]);
+uint64_t zorambi_add(const int32_t *schema, size_t schema_len, size_t schema_rows,
+                     const int32_t *proof, size_t proof_len, size_t proof_rows,
+                     int32_t root, int32_t least,
+                     int32_t *nodes, size_t nodes_len, int32_t *members, size_t members_len,
+                     size_t held[2], int32_t shown[1],
+                     const int32_t row[7], const int32_t *set, size_t set_len);
+uint64_t zorambi_take_back(const int32_t *schema, size_t schema_len, size_t schema_rows,
+                           const int32_t *proof, size_t proof_len, size_t proof_rows,
+                           int32_t root, int32_t least,
+                           int32_t *nodes, size_t nodes_len, int32_t *members, size_t members_len,
+                           size_t held[2], int32_t shown[1]);
+
 /* The one number that comes back from the others: ((answer * 8192 + place + 1) * 8192 + nodes) * 8192 + links. In reading and
  * writing both counts are 0, but that a text that was written has its bytes in their place. */
 static inline unsigned zorambi_answer(uint64_t packed) { return (unsigned)(packed >> 39); }
@@ -197,6 +238,8 @@ enum zorambi_answer_number {
   /* converting */
   ZORAMBI_PLAIN = 23,           /* too many plain rows, or one too large or too deep; place: -1 */
   /* growing */
+  ZORAMBI_ROOM = 24,            /* 1024 nodes are held, or the row's members or a lent table have no room for it; place: -1 */
+  ZORAMBI_NO_ROW = 25,          /* no row to take back; place: -1 */
   /* enquiring */
   /* checking */
   ZORAMBI_REPEATED = 27,        /* a proof row equals an earlier schema or proof row, not in the older check; place: the row */
@@ -389,6 +432,33 @@ static inline uint64_t zorambi_c_join(const int32_t *schema_1, size_t schema_1_l
                       zorambi_lent_numbers(nodes, nodes_len), nodes_len, zorambi_lent_numbers(members, members_len), members_len,
                       results);
 }
+/* A tableau that grows. */
+static inline uint64_t zorambi_c_begin(const int32_t *schema, size_t schema_len, size_t schema_rows, const int32_t *proof,
+                                       size_t proof_len, size_t proof_rows, int32_t root, int32_t least, int32_t *nodes,
+                                       size_t nodes_len, int32_t *members, size_t members_len, size_t held[2],
+                                       int32_t shown[1]) {
+  return zorambi_begin(zorambi_numbers_of(schema, schema_len), schema_len, schema_rows, zorambi_numbers_of(proof, proof_len),
+                       proof_len, proof_rows, root, least, zorambi_lent_numbers(nodes, nodes_len), nodes_len,
+                       zorambi_lent_numbers(members, members_len), members_len, held, shown);
+}
+static inline uint64_t zorambi_c_add(const int32_t *schema, size_t schema_len, size_t schema_rows, const int32_t *proof,
+                                     size_t proof_len, size_t proof_rows, int32_t root, int32_t least, int32_t *nodes,
+                                     size_t nodes_len, int32_t *members, size_t members_len, size_t held[2],
+                                     int32_t shown[1], const int32_t row[7], const int32_t *set, size_t set_len) {
+  return zorambi_add(zorambi_numbers_of(schema, schema_len), schema_len, schema_rows, zorambi_numbers_of(proof, proof_len),
+                     proof_len, proof_rows, root, least, zorambi_lent_numbers(nodes, nodes_len), nodes_len,
+                     zorambi_lent_numbers(members, members_len), members_len, held, shown, row,
+                     zorambi_numbers_of(set, set_len), set_len);
+}
+static inline uint64_t zorambi_c_take_back(const int32_t *schema, size_t schema_len, size_t schema_rows, const int32_t *proof,
+                                           size_t proof_len, size_t proof_rows, int32_t root, int32_t least, int32_t *nodes,
+                                           size_t nodes_len, int32_t *members, size_t members_len, size_t held[2],
+                                           int32_t shown[1]) {
+  return zorambi_take_back(zorambi_numbers_of(schema, schema_len), schema_len, schema_rows,
+                           zorambi_numbers_of(proof, proof_len), proof_len, proof_rows, root, least,
+                           zorambi_lent_numbers(nodes, nodes_len), nodes_len, zorambi_lent_numbers(members, members_len),
+                           members_len, held, shown);
+}
 
 #define zorambi_check zorambi_c_check
 #define zorambi_check_older zorambi_c_check_older
@@ -417,6 +487,10 @@ static inline uint64_t zorambi_c_join(const int32_t *schema_1, size_t schema_1_l
 #define zorambi_tidy zorambi_c_tidy
 /* One record for either fault. */
 #define zorambi_join zorambi_c_join
+/* A tableau that grows. */
+#define zorambi_begin zorambi_c_begin
+#define zorambi_add zorambi_c_add
+#define zorambi_take_back zorambi_c_take_back
 
 #ifdef __cplusplus
 }

@@ -308,6 +308,72 @@ static void join(void) {
           ZORAMBI_TABLE_TOO_SHORT, 0);
 }
 
+/* ---- A tableau that grows. */
+
+/* p_n and not p_n: node 0 has both, node 1 is their clash. */
+static const int32_t clash_rows[] = {2, 0, 1, 0, 3, 0, 1, 0, 4, 0, 1, 0};
+static const int32_t clash_and[7] = {-1, 0, 2, -1, -1, -1, 0};
+static const int32_t clash[7] = {0, 6, 0, 1, -1, -1, 0};
+static size_t held[2];
+static int32_t shown[1];
+
+static uint64_t begin_clash(size_t rows) {
+  return zorambi_begin(clash_rows, 12, rows, NULL, 0, 0, 2, 0, nodes, 9216, members, 8192, held, shown);
+}
+static uint64_t add_clash(const int32_t row[7], const int32_t *set, size_t set_len) {
+  return zorambi_add(clash_rows, 12, 3, NULL, 0, 0, 2, 0, nodes, 9216, members, 8192, held, shown, row, set, set_len);
+}
+static uint64_t take_back_clash(void) {
+  return zorambi_take_back(clash_rows, 12, 3, NULL, 0, 0, 2, 0, nodes, 9216, members, 8192, held, shown);
+}
+static void holds(const char *name, size_t node_count, size_t member_count, int32_t closed) {
+  test(name, held[0] == node_count && held[1] == member_count && shown[0] == closed);
+}
+
+static void grow(void) {
+  static const int32_t of_root[] = {2}, of_clash[] = {0, 1}, twice[] = {1, 1};
+  memset(nodes, 7, sizeof nodes);
+  memset(members, 7, sizeof members);
+  held[0] = held[1] = 7, shown[0] = 7;
+  answers("a row too many to grow from", begin_clash(4), ZORAMBI_TABLE_TOO_SHORT, -1);
+  holds("a row too many, nothing held", 0, 0, 0);
+  test("a row too many, memory", all_zero(nodes, 9216) && all_zero(members, 8192));
+  memset(nodes, 7, sizeof nodes);
+  answers("rows to grow from", begin_clash(3), ZORAMBI_ACCEPTED, 0);
+  test("rows to grow from, memory", all_zero(nodes, 9216) && all_zero(members, 8192));
+  answers("no row to take back", take_back_clash(), ZORAMBI_NO_ROW, -1);
+  answers("a first row without its set", add_clash(clash_and, NULL, 0), ZORAMBI_PARENT, 0);
+  holds("a first row refused", 0, 0, 0);
+  uint64_t packed = add_clash(clash_and, of_root, 1);
+  answers("a first row", packed, ZORAMBI_ACCEPTED, 0);
+  test("a first row, counts", zorambi_nodes(packed) == 1 && zorambi_links(packed) == 0);
+  holds("a first row, held", 1, 1, 0);
+  nodes[9] = 5;
+  answers("a set out of order", add_clash(clash, twice, 2), ZORAMBI_SET, 1);
+  test("a set out of order, memory", nodes[9] == 5);
+  packed = add_clash(clash, of_clash, 2);
+  answers("a second row", packed, ZORAMBI_ACCEPTED, 0);
+  test("a second row, counts", zorambi_nodes(packed) == 2 && zorambi_links(packed) == 0);
+  holds("closed", 2, 3, 1);
+  answers("closed, and checked", zorambi_check(clash_rows, 12, 3, NULL, 0, 0, 2, 0, nodes, 9216, 2, members, 8192, 3), ZORAMBI_ACCEPTED, 0);
+  answers("a child too many", add_clash(clash, of_clash, 2), ZORAMBI_CHILDREN, 2);
+  holds("a child too many, held", 2, 3, 0);
+  members[2] = 2;
+  answers("a set altered", take_back_clash(), ZORAMBI_FIELDS, 1);
+  members[2] = 1;
+  answers("taken back", take_back_clash(), ZORAMBI_ACCEPTED, 0);
+  holds("taken back, held", 1, 1, 0);
+  test("taken back, memory", all_zero(nodes + 9, 9207) && members[0] == 2 && all_zero(members + 1, 8191));
+
+  answers("nothing to grow from", zorambi_begin(NULL, 0, 0, NULL, 0, 0, 0, 0, NULL, 0, NULL, 0, held, shown), ZORAMBI_ROOT, -1);
+  answers("no tables to grow in", zorambi_begin(clash_rows, 12, 3, NULL, 0, 0, 2, 0, NULL, 0, NULL, 0, held, shown), ZORAMBI_ACCEPTED, 0);
+  answers("no room", zorambi_add(clash_rows, 12, 3, NULL, 0, 0, 2, 0, NULL, 0, NULL, 0, held, shown, clash_and, of_root, 1), ZORAMBI_ROOM, -1);
+  answers("no rows and no tables", zorambi_take_back(NULL, 0, 0, NULL, 0, 0, 0, 0, NULL, 0, NULL, 0, held, shown), ZORAMBI_ROOT, -1);
+  held[0] = 1;
+  answers("rows held, and no tables", zorambi_take_back(clash_rows, 12, 3, NULL, 0, 0, 2, 0, NULL, 0, NULL, 0, held, shown),
+          ZORAMBI_TABLE_TOO_SHORT, -1);
+}
+
 int main(void) {
   check(zorambi_check);
   which = ", older";
@@ -331,6 +397,7 @@ int main(void) {
   /* one record for either fault */
   join();
   /* a tableau that grows */
+  grow();
   printf("%d passed, %d failed\n", passed, failed);
   return failed > 0;
 }

@@ -185,3 +185,35 @@ uint64_t zorambi_join(const int32_t *schema_1, size_t schema_1_len, size_t schem
        AT(schema), schema_len, AT(proof), proof_len, AT(nodes), nodes_len, AT(members), members_len, AT(results));
   return 23;
 }
+
+/* A tableau that grows. */
+uint64_t zorambi_begin(const int32_t *schema, size_t schema_len, size_t schema_rows,
+                       const int32_t *proof, size_t proof_len, size_t proof_rows,
+                       int32_t root, int32_t least,
+                       int32_t *nodes, size_t nodes_len, int32_t *members, size_t members_len,
+                       size_t held[2], int32_t shown[1]) {
+  NOTE(AT(schema), schema_len, schema_rows, AT(proof), proof_len, proof_rows, NUMBER(root), NUMBER(least),
+       AT(nodes), nodes_len, AT(members), members_len, AT(held), AT(shown));
+  return 24;
+}
+
+uint64_t zorambi_add(const int32_t *schema, size_t schema_len, size_t schema_rows,
+                     const int32_t *proof, size_t proof_len, size_t proof_rows,
+                     int32_t root, int32_t least,
+                     int32_t *nodes, size_t nodes_len, int32_t *members, size_t members_len,
+                     size_t held[2], int32_t shown[1],
+                     const int32_t row[7], const int32_t *set, size_t set_len) {
+  NOTE(AT(schema), schema_len, schema_rows, AT(proof), proof_len, proof_rows, NUMBER(root), NUMBER(least),
+       AT(nodes), nodes_len, AT(members), members_len, AT(held), AT(shown), AT(row), AT(set), set_len);
+  return 25;
+}
+
+uint64_t zorambi_take_back(const int32_t *schema, size_t schema_len, size_t schema_rows,
+                           const int32_t *proof, size_t proof_len, size_t proof_rows,
+                           int32_t root, int32_t least,
+                           int32_t *nodes, size_t nodes_len, int32_t *members, size_t members_len,
+                           size_t held[2], int32_t shown[1]) {
+  NOTE(AT(schema), schema_len, schema_rows, AT(proof), proof_len, proof_rows, NUMBER(root), NUMBER(least),
+       AT(nodes), nodes_len, AT(members), members_len, AT(held), AT(shown));
+  return 26;
+}

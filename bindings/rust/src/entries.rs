@@ -306,3 +306,56 @@ entry! {
         results: &mut [i32; 6],
     )
 }
+
+// A tableau that grows.
+
+entry! {
+    /// Takes the formula rows of a tableau that grows; no row is held after it. Held: nodes, members. Shown: 1 for
+    /// "closed".
+    begin = zorambi_begin(
+        schema: &[i32],
+        schema_rows: usize,
+        proof: &[i32],
+        proof_rows: usize,
+        root: i32,
+        least: i32,
+        nodes: &mut [i32],
+        members: &mut [i32],
+        held: &mut [usize; 2],
+        shown: &mut [i32; 1],
+    )
+}
+
+entry! {
+    /// Adds a node row and its set. A refused call leaves the rows held as they are.
+    add = zorambi_add(
+        schema: &[i32],
+        schema_rows: usize,
+        proof: &[i32],
+        proof_rows: usize,
+        root: i32,
+        least: i32,
+        nodes: &mut [i32],
+        members: &mut [i32],
+        held: &mut [usize; 2],
+        shown: &mut [i32; 1],
+        row: &[i32; 7],
+        set: &[i32],
+    )
+}
+
+entry! {
+    /// Takes the last node row back.
+    take_back = zorambi_take_back(
+        schema: &[i32],
+        schema_rows: usize,
+        proof: &[i32],
+        proof_rows: usize,
+        root: i32,
+        least: i32,
+        nodes: &mut [i32],
+        members: &mut [i32],
+        held: &mut [usize; 2],
+        shown: &mut [i32; 1],
+    )
+}

@@ -92,3 +92,7 @@ pub use tidy::tidy;
 // One record for either fault.
 mod join;
 pub use join::join;
+
+// A tableau that grows.
+mod growing;
+pub use growing::{Growing, Standing};

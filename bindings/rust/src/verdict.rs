@@ -54,6 +54,9 @@ refusals! {
     Output = 22, "an output shorter than the text, or a text over 65,536 bytes";
     // Connectives as designers write them.
     Plain = 23, "plain rows that are too many, or one too large or too deep";
+    // A tableau that grows.
+    Room = 24, "no room for the row: 1,024 nodes, 8,192 members, or a lent table that is too short";
+    NoRow = 25, "no row to take back";
     // Enquiry and commit.
     // Proof rows written twice.
     Repeated = 27, "a proof row written twice";

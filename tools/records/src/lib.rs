@@ -34,6 +34,8 @@ pub const COMMANDS: &[Command] = &[
     ("tidy", "DIR", tidy::tidy),
     // One record for either fault.
     ("join", "DIR1 DIR2 OUT", join::join),
+    // A tableau that grows.
+    ("grow", "DIR", grow::grow),
 ];
 
 // A failing width.
@@ -47,3 +49,6 @@ pub mod tidy;
 
 // One record for either fault.
 pub mod join;
+
+// A tableau that grows.
+pub mod grow;

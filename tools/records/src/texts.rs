@@ -68,6 +68,11 @@ impl Text {
         self.refused(refused, refused.place.filter(|_| at_row).map_or(0, |row| 4 + row))
     }
 
+    /// A refusal of a node row that a proof with this many formula rows has: node j is line 3 + rows + j.
+    pub fn refused_node(&self, refused: Refused, rows: usize, node: usize) -> Stop {
+        self.refused(refused, 3 + rows + node)
+    }
+
     /// A line with its text's name and its number, as it can be shown.
     pub fn line_shown(&self, line: usize) -> String {
         format!("{}{}:{line}: {}", self.folder, self.name, shown(zorambi::line(&self.bytes, line)))

@@ -1,0 +1,61 @@
+/* The paper's record built row by row through the proved library: a row that is wrong is refused and changes nothing, one is taken
+ * back, and the last one closes the tableau. */
+#include <stdio.h>
+
+#include "zorambi.h"
+
+#define COUNT(table) (sizeof(table) / sizeof((table)[0]))
+
+/* kind a b c: some p_i for i from 2 to n, and no p_i for i from 2 to n. */
+static const int32_t schema[] = {
+    2, 0, 2, 0,
+    3, 0, 2, 0,
+    7, 0, 2, 0,
+    6, 1, 2, 0,
+    4, 2, 3, 0,
+};
+
+static const int32_t proof[] = {
+    7, 0, 2, 1,
+    2, 0, 1, 0,
+    6, 1, 2, 1,
+    3, 0, 1, 0,
+};
+
+/* What is lent to every call: here with room for the seven nodes and fourteen members that will be held. */
+static int32_t nodes[7 * 9], members[14], shown[1];
+static size_t held[2];
+
+#define FORMULAS schema, COUNT(schema), COUNT(schema) / 4, proof, COUNT(proof), COUNT(proof) / 4, 4, 1
+#define TABLEAU nodes, COUNT(nodes), members, COUNT(members), held, shown
+
+static void print(const char *what, uint64_t packed) {
+  unsigned answer = zorambi_answer(packed);
+  if (answer == ZORAMBI_ACCEPTED)
+    printf("%s: nodes %u, links %u, %s\n", what, zorambi_nodes(packed), zorambi_links(packed), shown[0] ? "closed" : "open");
+  else
+    printf("%s: refused %u at %d\n", what, answer, zorambi_place(packed));
+}
+
+/* up rule on with other to by, then the set. */
+static void add(int32_t up, int32_t rule, int32_t on, int32_t with, int32_t other, int32_t to, int32_t by, size_t count,
+                const int32_t *set) {
+  const int32_t row[7] = {up, rule, on, with, other, to, by};
+  print("add", zorambi_add(FORMULAS, TABLEAU, row, set, count));
+}
+
+int main(void) {
+  print("begin", zorambi_begin(FORMULAS, TABLEAU));
+  add(-1, 0, 4, -1, -1, -1, 0, 1, (const int32_t[]){4});
+  add(0, 2, -1, -1, -1, -1, 0, 2, (const int32_t[]){2, 3});
+  add(1, 7, 2, -1, -1, -1, 0, 2, (const int32_t[]){2, 3});
+  add(1, 3, 3, 7, 8, -1, 0, 2, (const int32_t[]){2, 3});
+  add(3, 4, 2, 5, 6, -1, 0, 3, (const int32_t[]){2, 7, 8});
+  add(4, 8, -1, -1, -1, 1, 2, 2, (const int32_t[]){5, 7}); /* by 2: a bound */
+  add(4, 8, -1, -1, -1, 1, 1, 2, (const int32_t[]){5, 7});
+  print("back", zorambi_take_back(FORMULAS, TABLEAU));
+  add(4, 8, -1, -1, -1, 1, 1, 2, (const int32_t[]){5, 7});
+  add(4, 6, 6, 8, -1, -1, 0, 2, (const int32_t[]){6, 8});
+  add(4, 6, 6, 8, -1, -1, 0, 2, (const int32_t[]){6, 8}); /* no room */
+  return 0;
+}

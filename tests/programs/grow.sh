@@ -1,0 +1,258 @@
+# shellcheck shell=bash
+# ./zorambi grow, from tests/programs.sh: every shipped record row by row, 01's record with other lines in between, what is saved,
+# and folders that hold no tableau. Each line is answered before the next one is given.
+
+# One run with these lines on standard input: its exit status, all that it prints and all that it says.
+grows() { # NAME STATUS LINES PRINTED SAID DIR
+  gives "$1" "$2" "$4" "$5" grow "$6" < <(printf '%s' "$3")
+}
+# The same where it begins: the lines that answer the first state and each line given.
+answers() { # NAME LINES ANSWERS DIR
+  grows "$1" 0 "$2" $'answer place nodes links\n'"$3" "" "$4"
+}
+# What a record's folder is before it has nodes, in $work/g.
+without_nodes() { # FOLDER
+  rm -rf "$work/g"
+  mkdir "$work/g"
+  cp "$1/schema.txt" "$work/g"
+  sed '/^up/q' "$1/proof.txt" >"$work/g/proof.txt"
+}
+nodes_of() { # FOLDER
+  sed '1,/^up/d' "$1/proof.txt"
+}
+
+alike() { # NAME EXPECTED FOUND
+  if [ "$2" = "$3" ]; then
+    passed=$((passed + 1))
+  else
+    failed=$((failed + 1))
+    echo "$1: expected '${2//$'\n'/ / }'; got '${3//$'\n'/ / }'"
+  fi
+}
+
+# ---- every accepted record, row by row
+
+grown_whole=0
+for r in records/accepted/* records/wide/* records/tidy/rows_once; do
+  without_nodes "$r"
+  # A row is open but for the last; links are counted as they come.
+  expected=$(nodes_of "$r" | awk -v last="$(nodes_of "$r" | wc -l)" '
+    BEGIN { print "0 0 0 0 open" }
+    { if ($2 == 8) links++; print "0 0", NR, links + 0, NR == last ? "closed" : "open" }')
+  answers "grow $r" "$(nodes_of "$r")"$'\n' "$expected"$'\n' "$work/g"
+  alike "grow $r, closed" "$(cat "$r/expected") closed" "$(tail -n 1 "$work/out")"
+  # All nodes in the folder: closed at once.
+  answers "grow $r, all there" "" "$(cat "$r/expected") closed"$'\n' "$r"
+  grown_whole=$((grown_whole + 1))
+done
+alike "at least 15 records grown" 1 "$((grown_whole >= 15))"
+
+# A refused one says at its begin what the check says of it.
+for r in records/refused/*; do
+  ./zorambi check "$r" >"$work/checked" 2>"$work/said"
+  gives "grow $r" 1 "$(cat "$work/checked")"$'\n' "$(cat "$work/said")"$'\n' grow "$r" </dev/null
+done
+
+# ---- 01's record
+
+record "$work/p"
+without_nodes "$work/p"
+first='-1 0 4 -1 -1 -1 0 4
+0 2 -1 -1 -1 -1 0 2 3
+1 7 2 -1 -1 -1 0 2 3
+1 3 3 7 8 -1 0 2 3
+3 4 2 5 6 -1 0 2 7 8
+'
+last='4 8 -1 -1 -1 1 1 5 7
+4 6 6 8 -1 -1 0 6 8
+'
+five='0 0 0 0 open
+0 0 1 0 open
+0 0 2 0 open
+0 0 3 0 open
+0 0 4 0 open
+0 0 5 0 open
+'
+# Rows that are refused change nothing.
+answers "rows that are refused" "$first"'4 8 -1 -1 -1 1 2 5 7
+4 8 -1 -1 -1 5 1 5 7
+4 8 -1 -1 -1 1 1 5
+4 8 -1 -1 -1 1 0 5 7
+4 8 -1 -1 -1 1 1 7 5
+5 8 -1 -1 -1 1 1 5 7
+4 8 -1 -1 -1 1 1 3 5 7
+0 8 -1 -1 -1 1 1 3 5 7
+4 9 -1 -1 -1 1 1 5 7
+'"$last$last" "$five""14 5 0 0 open refused: a link's bounds: n - by may lie outside its target's (14) at node 5
+13 5 0 0 open refused: a link whose to is not the number of a node before it (13) at node 5
+16 5 0 0 open refused: a link's row without its lowered partner (16) at node 5
+12 5 0 0 open refused: the fields of rule 8, loop (12) at node 5
+9 5 0 0 open refused: a set's place, order or members (9) at node 5
+10 5 0 0 open refused: a wrong parent (10) at node 5
+11 5 0 0 open refused: a formula that the parent does not give (11) at node 5
+17 5 0 0 open refused: a child more than its parent's rule has (17) at node 5
+12 5 0 0 open refused: no such rule (12) at node 5
+0 0 6 1 open
+0 0 7 1 closed
+17 7 0 0 closed refused: a child more than its parent's rule has (17) at node 7
+17 7 0 0 closed refused: a child more than its parent's rule has (17) at node 7
+" "$work/g"
+answers "an unfolding that is refused" "${first%3 4*}"'3 4 2 5 8 -1 0 2 7 8
+-1 0 4 -1 -1 -1 0 4
+' "${five%0 0 5*}15 4 0 0 open refused: an unfolding's with or other (15) at node 4
+10 4 0 0 open refused: a wrong parent (10) at node 4
+" "$work/g"
+answers "a first row that is refused" '-1 0 4 -1 -1 -1 0 3
+' "0 0 0 0 open
+10 0 0 0 open refused: the first node's parent or set (10) at node 0
+" "$work/g"
+# Back, further than there are rows, and on again.
+answers "back" "$first"'back
+3 4 2 5 6 -1 0 2 7 8
+'"$last"'back
+back
+back
+back
+back
+back
+back
+back
+back
+-1 0 4 -1 -1 -1 0 4
+' "$five"'0 0 4 0 open
+0 0 5 0 open
+0 0 6 1 open
+0 0 7 1 closed
+0 0 6 1 open
+0 0 5 0 open
+0 0 4 0 open
+0 0 3 0 open
+0 0 2 0 open
+0 0 1 0 open
+0 0 0 0 open
+25 -1 0 0 open refused: no row to take back (25)
+25 -1 0 0 open refused: no row to take back (25)
+0 0 1 0 open
+' "$work/g"
+
+# ---- lines that cannot be read change nothing, and are told by their number
+
+form="refused: a line's form (4) at line"
+answers "lines that are no rows" "$first"$'\n \n4 8 -1 -1 -1 1 1 5 7 \n4  8 -1 -1 -1 1 1 5 7\n4 8 -1 -1 -1 1 1 05 7\n4 8 -1 -1 -1 1\nBack\nback \nsave\nsave \nup rule on with other to by set\n4 8 -1 -1 -1 1 1 \x1b[2J\n4 8 -1 -1 -1 1 1 5 7\r\n'"${last%$'\n'}" "$five$(
+  for n in $(seq 6 18); do echo "4 $n 0 0 open $form $n"; done)
+0 0 6 1 open
+4 20 0 0 open $form 20
+" "$work/g"
+members=$(seq -s ' ' 10000 18192)
+answers "lines that are too long" "${first%3 4*}3 4 2 5 6 -1 0 $members
+$(head -c 70000 /dev/zero | tr '\0' '7')
+$(head -c 200000 /dev/zero | tr '\0' '7')
+3 4 2 5 6 -1 0 2 7 8
+" "${five%0 0 5*}5 5 0 0 open refused: too many rows or members (5) at line 5
+1 0 0 0 open refused: a text over 65,536 bytes (1)
+1 0 0 0 open refused: a text over 65,536 bytes (1)
+0 0 5 0 open
+" "$work/g"
+# True and true, from itself again and again: 1,024 nodes, then no room.
+mkdir -p "$work/h"
+printf 'root least\n1 0\nkind a b c\n0 0 0 0\n4 0 0 0\n' >"$work/h/schema.txt"
+answers "1,025 rows, and no proof text" "$(for up in $(seq -1 1023); do echo "$up 0 1 -1 -1 -1 0 1"; done)"$'\n' "$(
+  for n in $(seq 0 1024); do echo "0 0 $n 0 open"; done)
+24 -1 0 0 open refused: no room for the row (24)
+" "$work/h"
+
+# ---- what is saved
+
+saved() { # NAME FILE: what stands there is 01's proof
+  if cmp -s "$2" "$work/p/proof.txt"; then
+    passed=$((passed + 1))
+  else
+    failed=$((failed + 1))
+    echo "$1: $2 is not 01's proof"
+  fi
+}
+mkdir "$work/s"
+cp "$work/p/schema.txt" "$work/s"
+answers "save" "$first${last}save $work/s/proof.txt
+save $work/s/proof.txt
+back
+save $work/s/proof.txt
+save $work/s/none/proof.txt
+save $work/s/a file
+" "${five}0 0 6 1 open
+0 0 7 1 closed
+saved $work/s/proof.txt
+not saved: $work/s/proof.txt exists and is not written over
+0 0 6 1 open
+not saved: $work/s/proof.txt exists and is not written over
+not saved: $work/s/none/proof.txt: No such file or directory (os error 2)
+saved $work/s/a file
+" "$work/g"
+saved "save" "$work/s/proof.txt"
+same "what was saved, checked" "answer place nodes links
+0 0 7 1" "$(./zorambi check "$work/s" 2>&1)" $?
+cp "$work/s/a file" "$work/s/proof.txt"
+answers "what was saved, grown on" "${last#*$'\n'}save $work/s/whole
+" "0 0 6 1 open
+0 0 7 1 closed
+saved $work/s/whole
+" "$work/s"
+saved "grown on" "$work/s/whole"
+# A name is meant from where the caller stands; nothing but what is saved is written.
+before=$(find "$work/s" -type f | LC_ALL=C sort | xargs -d '\n' sha256sum)
+(cd "$work/s" && "$here/zorambi" grow . <<<"save here" >/dev/null 2>&1)
+saved_here=$(find "$work/s" -type f ! -name here | LC_ALL=C sort | xargs -d '\n' sha256sum)
+alike "only what is saved is written" "$before" "$saved_here"
+alike "saved from another folder" "$(cat "$work/s/proof.txt")" "$(cat "$work/s/here")"
+
+# ---- each line is answered before the next one is given, in colour only on a terminal
+
+coproc GROWS { ./zorambi grow "$work/g" 2>"$work/err"; }
+grows_pid=$GROWS_PID
+told=''
+for line in "" "-1 0 4 -1 -1 -1 0 4" "0 9 -1 -1 -1 -1 0" "back"; do
+  [ -z "$line" ] || echo "$line" >&"${GROWS[1]}"
+  [ -n "$line" ] || IFS= read -r -t 20 answered <&"${GROWS[0]}"
+  IFS= read -r -t 20 answered <&"${GROWS[0]}" || answered="no answer in time"
+  told+="$answered|"
+done
+eval "exec ${GROWS[1]}>&-"
+wait "$grows_pid"
+alike "line by line" "0 0 0 0 open|0 0 1 0 open|12 1 0 0 open refused: no such rule (12) at node 1|0 0 0 0 open|0" "$told$?"
+# On a terminal that shows what is typed too.
+on_terminal=$({ printf '%s\n' "$first$last" "back" "x" "save $work/s/proof.txt"; sleep 2; } |
+  script -qec "./zorambi grow $work/g" /dev/null | tr -d '\r')
+for shown in $'0 0 7 1 \e[32mclosed\e[0m' $'4 10 0 0 open \e[31mrefused: a line\'s form (4) at line 10\e[0m' $'0 0 6 1 open' \
+  $'\e[31mnot saved: '"$work/s/proof.txt exists and is not written over"$'\e[0m'; do
+  alike "in colour" "$shown" "$(grep -F -x -m 1 -- "$shown" <<<"$on_terminal")"
+done
+
+# ---- folders that hold no tableau
+
+turns() { # NAME NUMBERS SAID
+  grows "$1" 1 "" $'answer place nodes links\n'"$2"$'\n' "$3"$'\n' "$work/n"
+}
+rm -rf "$work/n"
+mkdir "$work/n"
+turns "no schema" "3 1 0 0" "refused: a heading (3) at line 1
+schema.txt:1: "
+record "$work/n"
+: >"$work/n/proof.txt"
+turns "an empty proof text" "3 1 0 0" "refused: a heading (3) at line 1
+proof.txt:1: "
+record "$work/n"
+sed -i '$s/^4 6/1 6/' "$work/n/proof.txt"
+turns "a child too many" "17 6 0 0" "refused: a child more than its parent's rule has (17) at node 6
+proof.txt:13: 1 6 6 8 -1 -1 0 6 8"
+record "$work/n"
+sed -i '5s/.*/3 0 9 0/' "$work/n/proof.txt"
+turns "a formula row" "7 8 0 0" "refused: an ill-formed formula (7) at row 8
+proof.txt:5: 3 0 9 0"
+head -c 65537 /dev/zero >"$work/n/proof.txt"
+turns "a long proof" "1 0 0 0" "refused: proof.txt has over 65,536 bytes (1)"
+
+for words in "grow" "grow $work/none" "grow $work/g $work/g"; do
+  # shellcheck disable=SC2086
+  wrong_use $words </dev/null
+done
+wrong_use grow "" </dev/null
