@@ -8,6 +8,7 @@
 //! * [`sides`]: shipped records with sides of their ands and ors swapped
 //! * [`edges`]: texts and tables at the limits of the paper
 //! * [`find`]: the first model at an n that is named
+//! * [`grow`]: a tableau that grows, by lists of calls
 //! * [`heavy`]: the largest and slowest inputs
 //! * [`soundness`]: accepted records evaluated
 //! * [`kinds`]: how often cases of each kind were compared, for entries that are compared by themselves
@@ -20,6 +21,7 @@ pub mod calls;
 pub mod convert;
 pub mod edges;
 pub mod find;
+pub mod grow;
 pub mod heavy;
 pub mod join;
 pub mod kinds;

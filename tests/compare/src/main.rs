@@ -4,7 +4,7 @@ use std::path::Path;
 use std::process::exit;
 use zorambi_compare::kinds::Run;
 use zorambi_compare::tally::Tally;
-use zorambi_compare::{convert, edges, find, heavy, join, paper, records, sides, tidy};
+use zorambi_compare::{convert, edges, find, grow, heavy, join, paper, records, sides, tidy};
 use zorambi_reference::generate::{across, case, ranges, twice, Case};
 
 const USE: &str = "\
@@ -25,6 +25,8 @@ const ENTRIES: &[Entry] = &[
     (tidy::test, tidy::heavy),
     // Two records, joined.
     (join::test, join::heavy),
+    // A tableau that grows.
+    (grow::test, grow::heavy),
 ];
 
 fn generated(tally: &mut Tally, seed: u64, count: u64) {

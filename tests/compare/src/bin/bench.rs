@@ -9,6 +9,7 @@ use zorambi::entries::check_older;
 use zorambi_compare::calls::{of_library, of_reference, CheckEntry};
 use zorambi_compare::convert;
 use zorambi_compare::find;
+use zorambi_compare::grow;
 use zorambi_compare::heavy::{self, Part};
 use zorambi_compare::join;
 use zorambi_compare::records;
@@ -16,6 +17,7 @@ use zorambi_compare::tidy;
 use zorambi_reference::generate::models::ModelTables;
 use zorambi_reference::generate::tables::Tables;
 use zorambi_reference::generate::Input;
+use zorambi_reference::grow::{Given, Memory};
 use zorambi_reference::{formula, model, tableau, text, Verdict};
 
 /// Seconds that one call takes, the median of some rounds.
@@ -377,6 +379,57 @@ fn joins(shipped: &[Shipped]) {
     }
 }
 
+/// The last row added to a tableau that grows, beside one check of the same rows.
+fn grows(shipped: &[Shipped]) {
+    println!("\n## A tableau that grows");
+    heading("the last row added | nodes | members | the check of the same rows | addition by check");
+    let adder = shipped.iter().find(|record| record.name == "rca_zero").expect("the adder's record");
+    let adder = (adder.name.as_str(), records::tables(&adder.schema, &adder.proof));
+    for (name, t) in [adder].into_iter().chain(heavy::tableaux().into_iter().take(3)) {
+        let check = check(name, &t).library;
+        let add = add(name, &t);
+        let of_check = format!("{} | {:.2}", shown(check), add.library / check);
+        println!("| {name} | {} | {} | {of_check} | {} |", t.node_count, t.member_count, add.cells());
+    }
+}
+
+fn add(name: &str, t: &Tables) -> Times {
+    let Tables { root, least, schema, schema_count, proof, proof_count, .. } = t;
+    let (root, least, schema_count, proof_count) = (*root, *least, *schema_count, *proof_count);
+    let given = Given { root, least, schema, schema_count, proof, proof_count };
+    let mut rows = grow::rows_of(t);
+    let (row, set) = rows.pop().expect("a row to add");
+    let before = [rows.len(), t.member_count - set.len()];
+    let mut theirs = Memory { nodes: t.nodes.clone(), members: t.members.clone(), held: before, shown: 0 };
+    let Memory { mut nodes, mut members, mut held, .. } = theirs.clone();
+    let mut shown = [0];
+    let times = time(
+        || {
+            held = before;
+            black_box(entries::add(
+                black_box(schema),
+                schema_count,
+                proof,
+                proof_count,
+                root,
+                least,
+                &mut nodes,
+                &mut members,
+                &mut held,
+                &mut shown,
+                &row,
+                &set,
+            ));
+        },
+        || {
+            theirs.held = before;
+            black_box(zorambi_reference::grow::add(black_box(&given), &mut theirs, &row, &set));
+        },
+    );
+    assert_eq!((&nodes, &members, held, shown), (&theirs.nodes, &theirs.members, theirs.held, [1]), "{name}");
+    times
+}
+
 fn model_tables(record: &Shipped) -> ModelTables {
     let Tables { root, least, schema, schema_count, .. } = records::tables(&record.schema, &record.proof);
     let mut pairs = vec![0; 8192];
@@ -580,6 +633,7 @@ fn main() {
     none_twice();
     tidies(&shipped);
     joins(&shipped);
+    grows(&shipped);
     models(&shipped);
     finds();
     texts(&shipped);
