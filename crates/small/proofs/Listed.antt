@@ -233,7 +233,7 @@ table-fits (suc n) t l m r k =
 
 -- ---- the list
 
-small-use : (rows : ℕ → Row) (n r : ℕ) → allSmall rows n ≡ true → r < n → isSmall rows r ≡ true
+pub small-use : (rows : ℕ → Row) (n r : ℕ) → allSmall rows n ≡ true → r < n → isSmall rows r ≡ true
 unfolding allSmall
 small-use rows zero r h l = absurd (omega arith)
 small-use rows (suc n) r h l =

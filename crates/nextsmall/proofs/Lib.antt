@@ -1,0 +1,4 @@
+pub mod RowPlaces
+pub mod TablePlaces
+pub mod Judging
+pub mod Answers
