@@ -4,6 +4,7 @@ pub mod failing;
 pub mod fault;
 pub mod grower;
 pub mod joiner;
+pub mod successor;
 pub mod texts;
 pub mod tidier;
 pub mod wider;
