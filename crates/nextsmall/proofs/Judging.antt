@@ -1,17 +1,15 @@
 -- A table of such rows is on the list exactly if its formulas pass.
-use Prim.Native.Nat.{ℕ, zero, suc, _+_, _*_, _-_, _<_, _≤_, max}
+use Prim.Native.Nat.{ℕ, zero, suc, _+_, _-_, _<_, _≤_}
 use native.Mathlib.Omega.{arith}
-use mathlib.Core.Path.{_≡_, refl, sym, _∙_, ap, subst}
+use mathlib.Core.Path.{_≡_, refl, sym, _∙_}
 use mathlib.Core.Logic.{⊎-elim}
 use mathlib.Core.Bool.{Bool, true, false}
-use mathlib.Core.List.{List, [], _∷_, _++_, List·Memᴰ}
+use mathlib.Core.List.{List, List·Memᴰ}
 use mathlib.Core.Option.{Option, none, some, Option·some-ne-none}
-use lib.Dec.{leb}
-use lib.IntN.{ℤ, pos, negℤ}
-use lib.ListN.{length, getD}
+use lib.IntN.{ℤ, pos}
 use borrow.Author.Tests.{le-leb}
 use Rattle.stab.specs.Basic.{if_then_else_, _and_, eqZ, within, nat, below, scan, _otherwise_, unless, allOf}
-use Rattle.stab.specs.Formula.{Row, rowAt, Kind, constant, literal, junction, iteration, unknown, kindOf, Formula, const, lit, join, iter, partIf, part, decode, treeN, tree, size, depth, isOuter, wellFormed, smallEnough}
+use Rattle.stab.specs.Formula.{Row, rowAt, Kind, constant, literal, junction, iteration, unknown, kindOf, Formula, partIf, part, decode, treeN, tree, size, depth, isOuter, wellFormed, smallEnough}
 use Rattle.stab.specs.Check.{atUnless, wholeUnless, rowRefusal, rootFits, formulasBy, formulasRefusal}
 use Rattle.stab.specs.declared.Verdict.{Verdict}
 use Rattle.stab.proofs.Bools.{decide, and-left, and-both, none-unless, unless-none, otherwise-none, otherwise-first, otherwise-second}

@@ -16,11 +16,11 @@ ghost use Rattle.small.specs.Small.{nextSmall, nextSmallTable};
 ghost use Rattle.small.specs.declared.NextSmall.the-variants.{Refused};
 
 // A refusal, which leaves all 0.
-fn refuse(why: Refusal, next: &mut [i32]) -> NextSmall
+fn refuse(why: Refusal, table: &mut [i32]) -> NextSmall
     ensures { λ r. ⌜ r ≡ Refused why Whole ⌝ }
-    ensures { λ r. ⌜ now (next .exit) ≡ padded (pos 0) (length (now (next .entry))) [] ⌝ }
+    ensures { λ r. ⌜ now (table .exit) ≡ padded (pos 0) (length (now (table .entry))) [] ⌝ }
 {
-    signed::clear(next, 0);
+    signed::clear(table, 0);
     NextSmall::Refused {
         why,
         place: Place::Whole,

@@ -1,16 +1,15 @@
 use Prim.Native.Nat.{_+_, _<_}
-use Rattle.nextsmall.proofs.Answers.{no-fit, Holds, both-hold, not-listed, refused-so, table-so, last-so}
-use Rattle.nextsmall.proofs.TablePlaces.{next-from}
-use Rattle.nextsmall.specs.Places.{firstFrom}
-use Rattle.small.specs.Small.{tables, nextTable}
+use native.Mathlib.Omega.{arith}
+use mathlib.Core.Path.{_≡_, _∙_}
+use lib.ListN.{length}
+use denote.Ref.{now}
+use borrow.Author.Needs.{needs}
 use Rattle.stab.specs.declared.Refusal.the-variants.{NotListed}
 use Rattle.stab.proofs.Bools.{asked-false, asked-true}
-use denote.Ref.{now}
-use lib.ListN.{length, take}
-use native.Mathlib.Omega.{arith}
-use mathlib.Core.Option.{none, some}
-use mathlib.Core.Path.{_≡_, sym, _∙_}
-use borrow.Author.Needs.{needs}
+use Rattle.small.specs.Small.{tables, nextTable}
+use Rattle.nextsmall.specs.Places.{firstFrom}
+use Rattle.nextsmall.proofs.Answers.{no-fit, Holds, both-hold, not-listed, refused-so, table-so, last-so}
+use Rattle.nextsmall.proofs.TablePlaces.{next-from}
 use Rattle.nextsmall.proofs.after.Statement.{statement}
 use Rattle.nextsmall.proofs.after.Tie as tie
 

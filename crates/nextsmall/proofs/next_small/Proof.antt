@@ -1,16 +1,14 @@
-use Rattle.nextsmall.proofs.Answers.{no-rows, Holds, both-hold, too-short, not-listed, refused-so}
-use Rattle.small.proofs.Order.{too-many}
+use Prim.Native.Nat.{_*_, _≤_}
+use native.Mathlib.Omega.{arith}
+use lib.ListN.{length}
+use denote.Ref.{now}
+use borrow.Author.Tests.{leb-true}
+use borrow.Author.Needs.{needs}
 use Rattle.stab.specs.declared.Refusal.the-variants.{TableTooShort, NotListed}
 use Rattle.stab.proofs.Bools.{and-first-false, and-second-false, asked-false, asked-true}
 use Rattle.stab.specs.Check.{holds}
-use borrow.Author.Tests.{leb-true}
-use denote.Ref.{now}
-use lib.ListN.{length}
-use Prim.Native.Nat.{_*_, _≤_}
-use mathlib.Core.Bool.{true}
-use native.Mathlib.Omega.{arith}
-use mathlib.Core.Path.{_≡_, sym, _∙_}
-use borrow.Author.Needs.{needs}
+use Rattle.small.proofs.Order.{too-many}
+use Rattle.nextsmall.proofs.Answers.{no-rows, both-hold, too-short, not-listed, refused-so}
 use Rattle.nextsmall.proofs.next_small.Statement.{statement}
 use Rattle.nextsmall.proofs.next_small.Tie as tie
 

@@ -1,15 +1,15 @@
-use lib.IntN.{ℤ}
-use Rattle.nextsmall.proofs.TablePlaces.{front-is, front-fits, from-found, from-on, from-end}
-use Rattle.nextsmall.specs.Places.{firstFrom}
-use Rattle.small.specs.Small.{onList, tables}
-use lib.Seq.{length-take-le}
-use lib.ListN.{length, getD, take, drop}
-use mathlib.Core.Option.{some}
-use mathlib.Core.List.{List, []}
-use mathlib.Core.Bool.{true≢false, false≢true}
-use mathlib.Core.Path.{_≡_, refl, sym, _∙_, ap}
-use Prim.Native.Nat.{ℕ, _+_, _*_, _<_, _≤_, _-_}
+use Prim.Native.Nat.{ℕ, _*_, _<_, _≤_, _-_}
 use native.Mathlib.Omega.{arith}
+use mathlib.Core.Path.{_≡_, refl, sym, _∙_, ap}
+use mathlib.Core.Bool.{true≢false, false≢true}
+use mathlib.Core.List.{List, []}
+use mathlib.Core.Option.{some}
+use lib.IntN.{ℤ}
+use lib.ListN.{length, getD, take}
+use lib.Seq.{length-take-le}
+use Rattle.small.specs.Small.{onList, tables}
+use Rattle.nextsmall.specs.Places.{firstFrom}
+use Rattle.nextsmall.proofs.TablePlaces.{front-is, front-fits, from-found, from-on, from-end}
 use Rattle.nextsmall.proofs.list.first.Statement.{statement}
 use Rattle.nextsmall.proofs.list.first.Tie as tie
 

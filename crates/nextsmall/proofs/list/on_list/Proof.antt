@@ -1,16 +1,14 @@
-use Rattle.nextsmall.proofs.Judging.{passes, passes-listed, fails-unlisted}
-use denote.Ref.{now}
-use mir.Syntax.{w32}
-use mir.Val.{ofZ, toZ}
+use Prim.Native.Nat.{ℕ, _-_}
+use mathlib.Core.Path.{_≡_, sym, _∙_, ap, ap₂}
 use lib.IntN.{ℤ, pos}
-use Rattle.stab.specs.Formula.{Row, rowAt}
+use denote.Ref.{now}
+use borrow.Author.Needs.{needs}
+use Rattle.stab.specs.Formula.{Row}
 use Rattle.stab.specs.Check.{finding, formulasRefusal}
 use Rattle.stab.proofs.Findings.{nothing-found}
 use Rattle.signed.proofs.Signs.{read-back}
 use Rattle.formula.proofs.Columns.{joined-part}
-use mathlib.Core.Path.{_≡_, sym, _∙_, ap, ap₂}
-use Prim.Native.Nat.{ℕ, _-_}
-use borrow.Author.Needs.{needs}
+use Rattle.nextsmall.proofs.Judging.{passes, passes-listed, fails-unlisted}
 use Rattle.nextsmall.proofs.list.on_list.Statement.{statement}
 use Rattle.nextsmall.proofs.list.on_list.Tie as tie
 

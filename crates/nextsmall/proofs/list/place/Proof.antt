@@ -1,10 +1,8 @@
-use Rattle.nextsmall.proofs.TablePlaces.{Placed, placed-none, placed-more, table-here, table-nowhere, total-most}
-use denote.Ref.{now}
-use Rattle.small.specs.Small.{tables}
-use lib.ListN.{length}
-use mathlib.Core.Path.{_≡_, sym, _∙_, subst}
 use Prim.Native.Nat.{ℕ, _+_, _*_, _≤_, _-_, _<_}
 use native.Mathlib.Omega.{arith}
+use mathlib.Core.Path.{_≡_, subst}
+use denote.Ref.{now}
+use Rattle.nextsmall.proofs.TablePlaces.{Placed, placed-none, placed-more, table-here, table-nowhere, total-most}
 use Rattle.nextsmall.proofs.list.place.Statement.{statement}
 use Rattle.nextsmall.proofs.list.place.Tie as tie
 

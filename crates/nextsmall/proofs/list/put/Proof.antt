@@ -1,14 +1,13 @@
-use Rattle.nextsmall.proofs.TablePlaces.{put-step, put-end}
-use Rattle.nextsmall.specs.Places.{asRow}
+use Prim.Native.Nat.{_*_, _-_, _<_, _≤_}
+use native.Mathlib.Nat.{mod-lt}
+use native.Mathlib.Omega.{arith}
+use mathlib.Core.Path.{_≡_, refl, sym, _∙_}
+use mathlib.Core.List.{[], _++_}
+use lib.ListN.{length, getD, drop}
 use Rattle.small.specs.Fits.{columns}
 use Rattle.small.specs.Small.{tables}
-use denote.Ref.{now}
-use lib.ListN.{length, getD, drop}
-use mathlib.Core.List.{[], _++_}
-use mathlib.Core.Path.{_≡_, refl, sym, _∙_}
-use native.Mathlib.Nat.{mod-lt}
-use Prim.Native.Nat.{ℕ, _*_, _-_, _/_, _<_, _≤_}
-use native.Mathlib.Omega.{arith}
+use Rattle.nextsmall.specs.Places.{asRow}
+use Rattle.nextsmall.proofs.TablePlaces.{put-step, put-end}
 use Rattle.nextsmall.proofs.list.put.Statement.{statement}
 use Rattle.nextsmall.proofs.list.put.Tie as tie
 

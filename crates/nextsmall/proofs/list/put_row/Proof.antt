@@ -1,12 +1,12 @@
-use Rattle.nextsmall.proofs.TablePlaces.{row-put}
-use Rattle.signed.proofs.Signs.{read-back}
-use denote.Ref.{now}
-use lib.ListN.{take, drop, length-set}
 use Prim.Native.Nat.{_+_, _*_}
-use mathlib.Core.List.{_++_, [], _∷_}
-use mathlib.Core.Path.{_∙_}
 use native.Mathlib.Omega.{arith}
+use mathlib.Core.Path.{_∙_}
+use mathlib.Core.List.{_++_, [], _∷_}
+use lib.ListN.{take, drop, length-set}
+use denote.Ref.{now}
 use borrow.Author.Needs.{needs}
+use Rattle.signed.proofs.Signs.{read-back}
+use Rattle.nextsmall.proofs.TablePlaces.{row-put}
 use Rattle.nextsmall.proofs.list.put_row.Statement.{statement}
 use Rattle.nextsmall.proofs.list.put_row.Tie as tie
 

@@ -1,6 +1,6 @@
-use Rattle.nextsmall.proofs.TablePlaces.{total-1, total-2, total-3, total-at}
-use mathlib.Core.Path.{_≡_}
 use native.Mathlib.Omega.{arith}
+use mathlib.Core.Path.{_≡_}
+use Rattle.nextsmall.proofs.TablePlaces.{total-1, total-2, total-3, total-at}
 use Rattle.nextsmall.proofs.list.total.Statement.{statement}
 use Rattle.nextsmall.proofs.list.total.Tie as tie
 

@@ -1,6 +1,6 @@
-use Rattle.nextsmall.proofs.RowPlaces.{plain-at, over-1, over-2, over-at}
 use mathlib.Core.Path.{_∙_}
 use borrow.Author.Needs.{needs}
+use Rattle.nextsmall.proofs.RowPlaces.{plain-at, over-1, over-2, over-at}
 use Rattle.nextsmall.proofs.rows.candidate.Statement.{statement}
 use Rattle.nextsmall.proofs.rows.candidate.Tie as tie
 

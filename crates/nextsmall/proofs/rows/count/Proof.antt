@@ -1,6 +1,6 @@
-use Rattle.nextsmall.proofs.RowPlaces.{count-0, count-1, count-2, count-at}
-use mathlib.Core.Path.{_≡_}
 use native.Mathlib.Omega.{arith}
+use mathlib.Core.Path.{_≡_}
+use Rattle.nextsmall.proofs.RowPlaces.{count-0, count-1, count-2, count-at}
 use Rattle.nextsmall.proofs.rows.count.Statement.{statement}
 use Rattle.nextsmall.proofs.rows.count.Tie as tie
 

@@ -1,10 +1,10 @@
-use Rattle.nextsmall.proofs.RowPlaces.{one-less}
+use Prim.Native.Nat.{ℕ}
+use mathlib.Core.Path.{sym, _∙_, ap}
+use lib.IntN.{pos, _-ℤ_}
+use borrow.Author.Needs.{needs}
 use Rattle.signed.proofs.Signs.{read-back}
 use Rattle.signed.specs.Numbers.{signedOf}
-use lib.IntN.{pos, _-ℤ_}
-use mathlib.Core.Path.{_≡_, sym, _∙_, ap}
-use Prim.Native.Nat.{ℕ}
-use borrow.Author.Needs.{needs}
+use Rattle.nextsmall.proofs.RowPlaces.{one-less}
 use Rattle.nextsmall.proofs.rows.less_one.Statement.{statement}
 use Rattle.nextsmall.proofs.rows.less_one.Tie as tie
 

@@ -1,6 +1,6 @@
-use Rattle.nextsmall.proofs.RowPlaces.{junction-1, iteration-1}
 use mathlib.Core.Path.{_∙_}
 use borrow.Author.Needs.{needs}
+use Rattle.nextsmall.proofs.RowPlaces.{junction-1, iteration-1}
 use Rattle.nextsmall.proofs.rows.over_one.Statement.{statement}
 use Rattle.nextsmall.proofs.rows.over_one.Tie as tie
 

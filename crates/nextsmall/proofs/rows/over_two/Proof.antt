@@ -1,6 +1,6 @@
-use Rattle.nextsmall.proofs.RowPlaces.{junction-2, iteration-2}
 use mathlib.Core.Path.{_∙_}
 use borrow.Author.Needs.{needs}
+use Rattle.nextsmall.proofs.RowPlaces.{junction-2, iteration-2}
 use Rattle.nextsmall.proofs.rows.over_two.Statement.{statement}
 use Rattle.nextsmall.proofs.rows.over_two.Tie as tie
 

@@ -1,9 +1,9 @@
-use Rattle.nextsmall.proofs.RowPlaces.{Later, later-more, row-here, row-nowhere}
-use Rattle.nextsmall.specs.Places.{asRow}
-use denote.Ref.{now}
-use mathlib.Core.Path.{sym, _∙_}
 use Prim.Native.Nat.{_≤_, _-_}
 use native.Mathlib.Omega.{arith}
+use mathlib.Core.Path.{sym, _∙_}
+use denote.Ref.{now}
+use Rattle.nextsmall.specs.Places.{asRow}
+use Rattle.nextsmall.proofs.RowPlaces.{Later, later-more, row-here, row-nowhere}
 use Rattle.nextsmall.proofs.rows.place.Statement.{statement}
 use Rattle.nextsmall.proofs.rows.place.Tie as tie
 

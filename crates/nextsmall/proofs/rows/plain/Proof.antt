@@ -1,6 +1,6 @@
-use Rattle.nextsmall.proofs.RowPlaces.{constant-at, literal-at}
 use mathlib.Core.Path.{_∙_}
 use borrow.Author.Needs.{needs}
+use Rattle.nextsmall.proofs.RowPlaces.{constant-at, literal-at}
 use Rattle.nextsmall.proofs.rows.plain.Statement.{statement}
 use Rattle.nextsmall.proofs.rows.plain.Tie as tie
 

@@ -1,8 +1,8 @@
-use Rattle.small.specs.Small.{rowOf}
-use Rattle.signed.proofs.Signs.{read-back}
-use mathlib.Core.List.{[], _∷_}
 use mathlib.Core.Path.{_∙_}
+use mathlib.Core.List.{[], _∷_}
 use borrow.Author.Needs.{needs}
+use Rattle.signed.proofs.Signs.{read-back}
+use Rattle.small.specs.Small.{rowOf}
 use Rattle.nextsmall.proofs.rows.row.Statement.{statement}
 use Rattle.nextsmall.proofs.rows.row.Tie as tie
 

@@ -1,14 +1,11 @@
-use Rattle.signed.proofs.Signs.{read-back}
+use mathlib.Core.Path.{_≡_, sym, _∙_, ap}
+use denote.Ref.{now}
+use borrow.Author.Needs.{needs}
 use Rattle.stab.proofs.Bools.{and-first-false, and-second-false, and-first-true, asked-false, asked-true}
 use Rattle.stab.specs.Check.{sameRow}
 use Rattle.stab.specs.Formula.{rowAt}
 use Rattle.stab.specs.Basic.{eqZ}
-use denote.Ref.{now}
-use lib.ListN.{getD}
-use lib.IntN.{pos}
-use mathlib.Core.Path.{_≡_, sym, _∙_, ap}
-use Prim.Native.Nat.{ℕ, _+_, _*_}
-use borrow.Author.Needs.{needs}
+use Rattle.signed.proofs.Signs.{read-back}
 use Rattle.nextsmall.proofs.rows.same.Statement.{statement}
 use Rattle.nextsmall.proofs.rows.same.Tie as tie
 

@@ -1,12 +1,12 @@
+use mathlib.Core.Path.{_≡_, sym, _∙_, ap, subst}
+use lib.ListN.{length}
+use denote.Ref.{now}
+use borrow.Author.Needs.{needs}
+use Rattle.stab.specs.Answer.{Packs}
 use Rattle.small.proofs.Packs.{asVerdict, packed-is, next-packs}
 use Rattle.small.specs.declared.NextSmall.the-variants.{Table, Last, Refused}
 use Rattle.small.specs.declared.NextSmall.{NextSmall}
 use Rattle.small.specs.Small.{nextSmall, nextPacked}
-use Rattle.stab.specs.Answer.{Packs}
-use denote.Ref.{now}
-use lib.ListN.{length}
-use mathlib.Core.Path.{_≡_, sym, _∙_, ap, subst}
-use borrow.Author.Needs.{needs}
 use Rattle.zorambi.proofs.successor.zorambi_next_small.Statement.{statement}
 use Rattle.zorambi.proofs.successor.zorambi_next_small.Tie as tie
 
