@@ -124,6 +124,14 @@ uint64_t zorambi_find_model(const int32_t *schema, size_t schema_len, size_t sch
 uint64_t zorambi_convert(const int32_t *wide, size_t wide_len, size_t wide_rows, int32_t root, int32_t least,
                          int32_t *plain, size_t plain_len, int32_t results[3]);
 
+/* ---- All small schemata. */
+
+/* The next of all small tables of so many rows, 1 to 3, in ascending order of their numbers: well-formed tables with symbol 0,
+ * literal offsets -1 to 1, iterations from 0 with c 0 or 1, and an outer last row, which is the root. The first is all 0.
+ * zorambi_nodes is 1 where a next table is given, in the lent table, which needs 4 numbers a row and is 0 past these. It is 0
+ * where the given table is the last one; the lent table is then all 0, as after a refusal. */
+uint64_t zorambi_next_small(const int32_t *table, size_t table_len, size_t rows, int32_t *next, size_t next_len);
+
 /* ---- Older records, tidied. */
 
 /* Each proof row that equals an earlier schema or proof row, its parts under their new numbers, is folded into
@@ -249,6 +257,7 @@ enum zorambi_answer_number {
   /* finding a model */
   ZORAMBI_WIRES = 30,           /* more than 16 pairs occur; place: -1 */
   /* the next small table */
+  ZORAMBI_NOT_LISTED = 31,      /* not 1 to 3 rows, or the given table is not on the list; place: -1 */
 };
 
 /* The library's own functions take an empty slice as they take any: with an address, which is not NULL. So each name above stands
@@ -396,6 +405,10 @@ static inline uint64_t zorambi_c_convert(const int32_t *wide, size_t wide_len, s
   return zorambi_convert(zorambi_numbers_of(wide, wide_len), wide_len, wide_rows, root, least,
                          zorambi_lent_numbers(plain, plain_len), plain_len, results);
 }
+/* All small schemata. */
+static inline uint64_t zorambi_c_next_small(const int32_t *table, size_t table_len, size_t rows, int32_t *next, size_t next_len) {
+  return zorambi_next_small(zorambi_numbers_of(table, table_len), table_len, rows, zorambi_lent_numbers(next, next_len), next_len);
+}
 /* Older records, tidied. */
 static inline uint64_t zorambi_c_tidy(const int32_t *schema, size_t schema_len, size_t schema_rows, const int32_t *proof,
                                       size_t proof_len, size_t proof_rows, int32_t root, int32_t least, const int32_t *nodes,
@@ -483,6 +496,8 @@ static inline uint64_t zorambi_c_take_back(const int32_t *schema, size_t schema_
 #define zorambi_find_model zorambi_c_find_model
 /* Connectives as designers write them. */
 #define zorambi_convert zorambi_c_convert
+/* All small schemata. */
+#define zorambi_next_small zorambi_c_next_small
 /* Older records, tidied. */
 #define zorambi_tidy zorambi_c_tidy
 /* One record for either fault. */

@@ -291,6 +291,10 @@ expect "a second record refused, what is said" said "refused: a link's bounds: n
 misuse join
 misuse join "$work/record" "$work/record"
 misuse join "$work/record" "$work/record" c d
+misuse small
+misuse small 1 2
+misuse small --count 1
+misuse small 1 --count 2
 rm -rf "$work/repo/tools" "$work/kit/cargo"
 
 # ---- a proof row written twice

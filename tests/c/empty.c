@@ -242,6 +242,28 @@ static void convert(void) {
   answers("no table for plain rows", zorambi_convert(wide, 12, 3, 2, 5, NULL, 0, results), ZORAMBI_TABLE_TOO_SHORT, 0);
 }
 
+/* ---- All small schemata. */
+
+static void next_small(void) {
+  static const int32_t first[8] = {0}, last[] = {3, 0, 2, 1, 7, 0, 0, 1}, other[] = {2, 1, 0, 0}, second[] = {0, 0, 0, 0, 1, 0, 0, 0};
+  int32_t next[16];
+  memset(next, 7, sizeof next);
+  uint64_t packed = zorambi_next_small(first, 8, 2, next, 16);
+  answers("a next table", packed, ZORAMBI_ACCEPTED, 0);
+  test("a next table, given", zorambi_nodes(packed) == 1 && memcmp(next, second, sizeof second) == 0 && all_zero(next + 8, 8));
+  memset(next, 7, sizeof next);
+  packed = zorambi_next_small(last, 8, 2, next, 16);
+  answers("the last table", packed, ZORAMBI_ACCEPTED, 0);
+  test("the last table, memory", zorambi_nodes(packed) == 0 && all_zero(next, 16));
+  memset(next, 7, sizeof next);
+  answers("another symbol", zorambi_next_small(other, 4, 1, next, 16), ZORAMBI_NOT_LISTED, -1);
+  test("another symbol, memory", all_zero(next, 16));
+  answers("four rows", zorambi_next_small(next, 16, 4, table, 4096), ZORAMBI_NOT_LISTED, -1);
+  answers("no small table", zorambi_next_small(NULL, 0, 0, NULL, 0), ZORAMBI_NOT_LISTED, -1);
+  answers("small rows counted", zorambi_next_small(NULL, 0, 1, next, 16), ZORAMBI_TABLE_TOO_SHORT, -1);
+  answers("no table for the next", zorambi_next_small(first, 8, 2, NULL, 0), ZORAMBI_TABLE_TOO_SHORT, -1);
+}
+
 /* ---- Older records, tidied. */
 
 /* False twice, as schema row 0 and proof row 1, and once more as proof row 2: rule 5 on any of them. Tidied, row 0 is the only one. */
@@ -392,6 +414,7 @@ int main(void) {
   /* connectives as designers write them */
   convert();
   /* all small schemata */
+  next_small();
   /* older records, tidied */
   tidy();
   /* one record for either fault */

@@ -95,6 +95,10 @@ int main(void) {
   HANDS(zorambi_convert(a, 11, 12, 13, 14, b, 15, r), 20, AT(a), 11, 12, 13, 14, AT(b), 15, AT(r));
   HANDS(zorambi_convert(NULL, 0, 12, 13, 14, NULL, 0, r), 20, SOME, 0, 12, 13, 14, SOME, 0, AT(r));
 
+  /* All small schemata. */
+  HANDS(zorambi_next_small(a, 11, 12, b, 13), 21, AT(a), 11, 12, AT(b), 13);
+  HANDS(zorambi_next_small(NULL, 0, 12, NULL, 0), 21, SOME, 0, 12, SOME, 0);
+
   /* Older records, tidied. */
   HANDS(zorambi_tidy(a, 11, 12, b, 13, 14, 15, 16, c, 17, 18, d, 19, 20, e, 21, f, 22, g, 23, r), 22,
         AT(a), 11, 12, AT(b), 13, 14, 15, 16, AT(c), 17, 18, AT(d), 19, 20, AT(e), 21, AT(f), 22, AT(g), 23, AT(r));

@@ -151,6 +151,12 @@ uint64_t zorambi_convert(const int32_t *wide, size_t wide_len, size_t wide_rows,
   return 20;
 }
 
+/* All small schemata. */
+uint64_t zorambi_next_small(const int32_t *table, size_t table_len, size_t rows, int32_t *next, size_t next_len) {
+  NOTE(AT(table), table_len, rows, AT(next), next_len);
+  return 21;
+}
+
 /* Older records, tidied. */
 uint64_t zorambi_tidy(const int32_t *schema, size_t schema_len, size_t schema_rows,
                       const int32_t *proof, size_t proof_len, size_t proof_rows,

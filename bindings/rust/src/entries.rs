@@ -252,6 +252,14 @@ entry! {
     )
 }
 
+// All small schemata.
+
+entry! {
+    /// The small table after the given one. The number that comes back has 1 as its count of nodes where one is given, and
+    /// 0 where the given table is the last.
+    next_small = zorambi_next_small(table: &[i32], rows: usize, next: &mut [i32])
+}
+
 // Older records, tidied.
 
 entry! {

@@ -85,6 +85,10 @@ pub use find::find_model;
 mod convert;
 pub use convert::convert;
 
+// All small schemata.
+mod small;
+pub use small::{next_small, small, Small};
+
 // Older records, tidied.
 mod tidy;
 pub use tidy::tidy;

@@ -65,6 +65,8 @@ refusals! {
     Joint = 29, "a joined record that passes a limit";
     // A failing width.
     Wires = 30, "more than 16 pairs that occur in the schema at n";
+    // All small schemata.
+    NotListed = 31, "not 1 to 3 rows, or a table that is not on the list of small ones";
 }
 
 impl Refusal {

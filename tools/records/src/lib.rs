@@ -30,6 +30,8 @@ pub const COMMANDS: &[Command] = &[
     ("find", "DIR N", find::find),
     // Connectives as designers write them.
     ("convert", "DIR", convert::convert),
+    // All small schemata.
+    ("small", "ROWS [--count]", small::small),
     // Older records, tidied.
     ("tidy", "DIR", tidy::tidy),
     // One record for either fault.
@@ -43,6 +45,9 @@ pub mod find;
 
 // Connectives as designers write them.
 pub mod convert;
+
+// All small schemata.
+pub mod small;
 
 // Older records, tidied.
 pub mod tidy;
