@@ -12,6 +12,7 @@
 //! * [`heavy`]: the largest and slowest inputs
 //! * [`soundness`]: accepted records evaluated
 //! * [`kinds`]: how often cases of each kind were compared, for entries that are compared by themselves
+//! * [`small`]: all small schemata, one after another
 //! * [`tidy`]: older records tidied
 //! * [`join`]: two records joined
 //! * [`tally`]: what passed and failed, and how often each answer occurred
@@ -28,6 +29,7 @@ pub mod kinds;
 pub mod paper;
 pub mod records;
 pub mod sides;
+pub mod small;
 pub mod soundness;
 pub mod tally;
 pub mod tidy;

@@ -4,7 +4,7 @@ use std::path::Path;
 use std::process::exit;
 use zorambi_compare::kinds::Run;
 use zorambi_compare::tally::Tally;
-use zorambi_compare::{convert, edges, find, grow, heavy, join, paper, records, sides, tidy};
+use zorambi_compare::{convert, edges, find, grow, heavy, join, paper, records, sides, small, tidy};
 use zorambi_reference::generate::{across, case, ranges, twice, Case};
 
 const USE: &str = "\
@@ -21,6 +21,8 @@ const ENTRIES: &[Entry] = &[
     (find::test, find::heavy),
     // Wide connectives.
     (convert::test, convert::heavy),
+    // All small schemata.
+    (small::test, small::heavy),
     // Older records, tidied.
     (tidy::test, tidy::heavy),
     // Two records, joined.

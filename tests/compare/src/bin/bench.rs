@@ -13,6 +13,7 @@ use zorambi_compare::grow;
 use zorambi_compare::heavy::{self, Part};
 use zorambi_compare::join;
 use zorambi_compare::records;
+use zorambi_compare::small;
 use zorambi_compare::tidy;
 use zorambi_reference::generate::models::ModelTables;
 use zorambi_reference::generate::tables::Tables;
@@ -533,6 +534,29 @@ fn texts(shipped: &[Shipped]) {
     text_row("writing a model of 4,096 pairs", bytes, write_model("model", 9999, &pairs, bytes));
 }
 
+/// All small schemata, one after another. The other implementation has its list made before.
+fn smalls() {
+    println!("\n## All small schemata");
+    heading("rows | tables");
+    for rows in 1..=3 {
+        let (count, last) = small::walked(rows);
+        let listed = zorambi_reference::small::all(rows);
+        assert!(listed.len() == count && listed.last() == Some(&last), "tables of {rows} rows");
+        let times = time(
+            || {
+                black_box(small::walked(black_box(rows)));
+            },
+            || {
+                let (mut table, mut next) = (vec![0; 4 * rows], vec![0; 4 * rows]);
+                while zorambi_reference::small::next_small(black_box(&table), rows, &mut next).nodes == 1 {
+                    std::mem::swap(&mut table, &mut next);
+                }
+            },
+        );
+        println!("| {rows} | {count} | {} |", times.cells());
+    }
+}
+
 /// Wide connectives written in plain rows.
 fn converts() {
     println!("\n## Wide connectives");
@@ -638,5 +662,6 @@ fn main() {
     finds();
     texts(&shipped);
     converts();
+    smalls();
     all_growth();
 }
