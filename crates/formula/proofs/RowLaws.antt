@@ -25,7 +25,7 @@ use Rattle.stab.proofs.Scans.{below-suc, scan-found}
 use Rattle.stab.proofs.Decoded.{decoded, junction-tree, iteration-tree}
 use Rattle.stab.proofs.Trees.{below-nat}
 use Rattle.formula.specs.Facts.{bit, Known}
-use Rattle.formula.specs.Rows.{factsOf, factsAt, bothFacts, overFacts, keptFacts, keptIf, factsTableBy, judged, unmixed, pairJudged, bodyJudged, judgedRefusal, keptJudged, Summable, Passed}
+use Rattle.formula.specs.Rows.{factsOf, factsAt, bothFacts, overFacts, keptFacts, keptIf, factsTableBy, judged, constantJudged, literalJudged, unmixed, pairJudged, bodyJudged, judgedRefusal, keptJudged, Summable, Passed}
 use Rattle.formula.specs.declared.rows.Facts.{Facts}
 use Rattle.formula.specs.declared.rows.Judged.{Judged}
 use Rattle.formula.specs.declared.rows.Judged.the-variants.{Ill, Formed}
@@ -214,13 +214,21 @@ module _ (rows : ℕ → Row) (r : ℕ) (k : Kind) (kind : kindOf (rows r .kind)
   unfolding judged
   ill h = sym (if-false (wellFormed rows r) _ _ (formed-as ∙ h))
 
-  pub formed-tree : wellFormedAs rows r (rows r) k ≡ true → {f : Facts} → f ≡ factsOf (tree rows r) → Formed f ≡ judged rows r
-  unfolding judged
-  formed-tree h p = ap Formed p ∙ sym (if-true (wellFormed rows r) _ _ (formed-as ∙ h))
+-- ---- a row without parts, judged by its columns
 
-  -- the same, by what the row is decoded to
-  pub formed : wellFormedAs rows r (rows r) k ≡ true → {f : Facts} → f ≡ factsOf (decode r (rows r) k (tree rows)) → Formed f ≡ judged rows r
-  formed h p = formed-tree h (p ∙ ap factsOf (sym (decoded rows r k kind)))
+module _ (rows : ℕ → Row) (r : ℕ) (v : Bool) where
+  pub constant-judged : kindOf (rows r .kind) ≡ constant v → constantJudged (rows r) ≡ judged rows r
+  unfolding constantJudged judged wellFormedAs decode factsOf F.size F.depth F.loose F.fixed bit
+  constant-judged kind =
+      sym (ap₂ (λ (t : Bool) (f : Facts). if t then Formed f else Ill) (formed-as rows r (constant v) kind) (ap factsOf (decoded rows r (constant v) kind)))
+
+  pub literal-judged : kindOf (rows r .kind) ≡ literal v → literalJudged (rows r) ≡ judged rows r
+  unfolding literalJudged judged wellFormedAs decode
+  literal-judged kind =
+      ap₂ (λ (t : Bool) (f : Facts). if t then Formed f else Ill)
+      (ap₂ (λ (x y : Bool). x and y and offset (rows r .c)) (within-below 255 (rows r .a)) (within-below 2 (rows r .b))
+      ∙ sym (formed-as rows r (literal v) kind))
+      (literal-facts v (rows r .a) (baseOf (rows r .b)) (rows r .c) refl refl refl refl ∙ ap factsOf (sym (decoded rows r (literal v) kind)))
 
 -- ---- a row with parts, judged by the numbers that are kept
 

@@ -1,3 +1,4 @@
+pub mod Cells
 pub mod Column
 pub mod Facts
 pub mod Kept

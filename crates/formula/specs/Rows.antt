@@ -1,5 +1,5 @@
 -- What the pass over formula rows works out for a row, and what holds of rows that passed.
-use Prim.Native.Nat.{ℕ, zero, suc, _+_, _*_, _<_, _≤_, max}
+use Prim.Native.Nat.{ℕ, zero, suc, _+_, _-_, _*_, _<_, _≤_, max}
 use mathlib.Core.Path.{_≡_}
 use mathlib.Core.Bool.{true}
 use mathlib.Core.List.{List}
@@ -14,7 +14,7 @@ use Rattle.stab.specs.declared.Refusal.the-variants.{IllFormed, TooLarge}
 use Rattle.stab.specs.declared.Verdict.{Verdict}
 use Rattle.stab.specs.declared.Verdict.the-variants.{Refused}
 use Rattle.stab.specs.Formula as F
-use Rattle.stab.specs.Formula.{Row, Formula, tree, offset, wellFormed, smallEnough}
+use Rattle.stab.specs.Formula.{Row, Formula, tree, offset, baseOf, onIndex, wellFormed, smallEnough}
 use Rattle.formula.specs.Facts.{bit, AllKnown, AllFormed}
 use Rattle.formula.specs.Kept.{kept}
 use Rattle.formula.specs.declared.rows.Facts.{Facts}
@@ -68,6 +68,20 @@ formulasTable rows facts n s root least = if rootFits s root least then factsTab
 -- row r is ill-formed, or has these four numbers
 unfoldable pub judged : (ℕ → Row) → ℕ → Judged
 judged rows r = if wellFormed rows r then Formed (factsOf (tree rows r)) else Ill
+
+-- a row whose columns are w is true or false: a, b and c are 0
+unfoldable pub constantJudged : Row → Judged
+constantJudged w =
+    if eqZ (w .a) (pos 0) and eqZ (w .b) (pos 0) and eqZ (w .c) (pos 0)
+    then Formed (record { size = 1; depth = 1; loose = 0; fixed = 0 })
+    else Ill
+
+-- it is a literal: a is 0..255, b 0..2, c -9999..9999
+unfoldable pub literalJudged : Row → Judged
+literalJudged w =
+    if below 256 (w .a) and below 3 (w .b) and offset (w .c)
+    then Formed (record { size = 1; depth = 1; loose = bit (onIndex (baseOf (w .b))); fixed = 1 - bit (onIndex (baseOf (w .b))) })
+    else Ill
 
 -- a row with these numbers is well formed, unless it mixes literals on i with what is not on i
 unfoldable pub unmixed : Facts → Judged

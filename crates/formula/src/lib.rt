@@ -1,4 +1,5 @@
 // Formula rows: which are well formed, and how large they are.
+pub mod cells;
 pub mod kept;
 pub mod rows;
 

@@ -1,25 +1,20 @@
 // The pass over formula rows: which are well formed and small enough. What is worked out for a row, its size, its depth and
 // the two facts about mixing, is kept in a lent table, four numbers a row, so that each row looks at its parts' numbers alone.
 ghost use mathlib.Core.Path.{_≡_};
-ghost use mathlib.Core.Bool.{Bool, true};
+ghost use mathlib.Core.Bool.{true};
 ghost use mathlib.Core.Option.{none};
-ghost use Prim.Native.Nat.{_+_, _*_, _<_, _≤_, _^_, max};
+ghost use Prim.Native.Nat.{_+_, _*_, _<_, _≤_, max};
 ghost use lib.ListN.{length};
 ghost use lib.IntN.{pos};
 ghost use Rattle.stab.specs.Basic.{nat, below, scan};
-ghost use Rattle.stab.specs.Formula.{joined, offset, kindOf, constant, literal, baseOf, onIndex, tree};
+ghost use Rattle.stab.specs.Formula.{joined, offset, kindOf, baseOf, onIndex, tree};
 ghost use Rattle.stab.specs.Check.{rowRefusal, rootFits, formulasRefusal, finding};
-ghost use Rattle.formula.specs.Column.{column};
+ghost use Rattle.formula.specs.Cells.{rowOf};
 ghost use Rattle.formula.specs.Facts.{bit};
-ghost use Rattle.formula.specs.Rows.{factsOf, factsAt, bothFacts, overFacts, keptIf, factsTable, formulasTable, judged, pairJudged, bodyJudged, judgedRefusal, keptJudged, Summable, Passed};
-use crate::A;
-use crate::B;
-use crate::C;
-use crate::KIND;
-use crate::is_in;
+ghost use Rattle.formula.specs.Rows.{factsOf, factsAt, bothFacts, overFacts, keptIf, factsTable, formulasTable, judged, constantJudged, literalJudged, pairJudged, bodyJudged, judgedRefusal, keptJudged, Summable, Passed};
+use crate::cells;
+use crate::cells::Cells;
 use crate::kept;
-use crate::natural_in;
-use crate::under_in;
 use stab::Finding;
 use stab::Place;
 use stab::Refusal;
@@ -50,48 +45,44 @@ pub enum Judged {
 
 // ---- columns
 
-// Column k of row r is one of 0 .. m - 1.
-pub fn below_in(schema: &[i32], s: usize, proof: &[i32], r: usize, k: usize, m: usize) -> bool
-    requires { ⌜ (r < 2 ^ 32) × (k < 4) ⌝ }
-    ensures { λ v. ⌜ v ≡ below m (column (joined (now (schema .entry)) s (now (proof .entry)) r) k) ⌝ }
+// z is one of 0 .. m - 1.
+pub fn below(m: usize, z: i32) -> bool
+    ensures { λ v. ⌜ v ≡ below m z ⌝ }
 {
-    if 0 < under_in(schema, s, proof, r, k) {
+    if 0 < signed::under(z) {
         return false;
     }
-    natural_in(schema, s, proof, r, k) < m
+    signed::natural(z) < m
 }
 
-// It is one of -9999..9999.
-fn offset_in(schema: &[i32], s: usize, proof: &[i32], r: usize, k: usize) -> bool
-    requires { ⌜ (r < 2 ^ 32) × (k < 4) ⌝ }
-    ensures { λ v. ⌜ v ≡ offset (column (joined (now (schema .entry)) s (now (proof .entry)) r) k) ⌝ }
+// z is one of -9999..9999.
+fn is_offset(z: i32) -> bool
+    ensures { λ v. ⌜ v ≡ offset z ⌝ }
 {
-    if 9999 < under_in(schema, s, proof, r, k) {
+    if 9999 < signed::under(z) {
         return false;
     }
-    natural_in(schema, s, proof, r, k) <= 9999
+    signed::natural(z) <= 9999
 }
 
-// A number of the same kind as row r's, 0..7 where the kind is known.
-fn kind_in(schema: &[i32], s: usize, proof: &[i32], r: usize) -> usize
-    requires { ⌜ r < 2 ^ 32 ⌝ }
-    ensures { λ v. ⌜ kindOf (pos v) ≡ kindOf (joined (now (schema .entry)) s (now (proof .entry)) r .kind) ⌝ }
+// A number of the same kind as z, 0..7 where the kind is known.
+fn kind_of(z: i32) -> usize
+    ensures { λ v. ⌜ kindOf (pos v) ≡ kindOf z ⌝ }
 {
-    if 0 < under_in(schema, s, proof, r, KIND) {
+    if 0 < signed::under(z) {
         return 8;
     }
-    natural_in(schema, s, proof, r, KIND)
+    signed::natural(z)
 }
 
-// 1 where a literal of row r is on i.
-fn on_index(schema: &[i32], s: usize, proof: &[i32], r: usize) -> u32
-    requires { ⌜ r < 2 ^ 32 ⌝ }
-    ensures { λ v. ⌜ v ≡ bit (onIndex (baseOf (joined (now (schema .entry)) s (now (proof .entry)) r .b))) ⌝ }
+// 1 where a literal with this b is on i.
+fn on_index(b: i32) -> u32
+    ensures { λ v. ⌜ v ≡ bit (onIndex (baseOf b)) ⌝ }
 {
-    if is_in(schema, s, proof, r, B, 0) {
+    if signed::equal(b, 0) {
         return 0;
     }
-    if is_in(schema, s, proof, r, B, 1) {
+    if signed::equal(b, 1) {
         return 0;
     }
     1
@@ -147,18 +138,17 @@ fn over(f: Facts) -> Facts
 
 // ---- one row
 
-// Row r is true or false: a, b, c are 0.
-pub fn constant(schema: &[i32], s: usize, proof: &[i32], r: usize) -> Judged
-    requires { ⌜ (r < 1024) × ((v : Bool) × (kindOf (joined (now schema) s (now proof) r .kind) ≡ constant v)) ⌝ }
-    ensures { λ v. ⌜ v ≡ judged (joined (now (schema .entry)) s (now (proof .entry))) r ⌝ }
+// A row is true or false: a, b, c are 0.
+pub fn constant(w: Cells) -> Judged
+    ensures { λ v. ⌜ v ≡ constantJudged (rowOf w) ⌝ }
 {
-    if !is_in(schema, s, proof, r, A, 0) {
+    if !signed::equal(w.a, 0) {
         return Judged::Ill;
     }
-    if !is_in(schema, s, proof, r, B, 0) {
+    if !signed::equal(w.b, 0) {
         return Judged::Ill;
     }
-    if !is_in(schema, s, proof, r, C, 0) {
+    if !signed::equal(w.c, 0) {
         return Judged::Ill;
     }
     Judged::Formed(Facts {
@@ -170,20 +160,19 @@ pub fn constant(schema: &[i32], s: usize, proof: &[i32], r: usize) -> Judged
 }
 
 // A literal: a is 0..255, b 0..2, c -9999..9999.
-pub fn literal(schema: &[i32], s: usize, proof: &[i32], r: usize) -> Judged
-    requires { ⌜ (r < 1024) × ((v : Bool) × (kindOf (joined (now schema) s (now proof) r .kind) ≡ literal v)) ⌝ }
-    ensures { λ v. ⌜ v ≡ judged (joined (now (schema .entry)) s (now (proof .entry))) r ⌝ }
+pub fn literal(w: Cells) -> Judged
+    ensures { λ v. ⌜ v ≡ literalJudged (rowOf w) ⌝ }
 {
-    if !below_in(schema, s, proof, r, A, 256) {
+    if !below(256, w.a) {
         return Judged::Ill;
     }
-    if !below_in(schema, s, proof, r, B, 3) {
+    if !below(3, w.b) {
         return Judged::Ill;
     }
-    if !offset_in(schema, s, proof, r, C) {
+    if !is_offset(w.c) {
         return Judged::Ill;
     }
-    let loose = on_index(schema, s, proof, r);
+    let loose = on_index(w.b);
     Judged::Formed(Facts {
         size: 1,
         depth: 1,
@@ -192,31 +181,31 @@ pub fn literal(schema: &[i32], s: usize, proof: &[i32], r: usize) -> Judged
     })
 }
 
-// The numbers of the smaller row that column k of row r points to.
-pub fn part(schema: &[i32], s: usize, proof: &[i32], r: usize, k: usize, facts: &[u32]) -> Facts
-    requires { ⌜ (r < 1024) × (k < 4) × (below r (column (joined (now schema) s (now proof) r) k) ≡ true) × Summable (now facts) r ⌝ }
-    ensures { λ v. ⌜ v ≡ factsAt (now (facts .entry)) (nat (column (joined (now (schema .entry)) s (now (proof .entry)) r) k)) ⌝ }
+// The numbers of the row before r that z points to.
+pub fn part(r: usize, z: i32, facts: &[u32]) -> Facts
+    requires { ⌜ (r < 1024) × (below r z ≡ true) × Summable (now facts) r ⌝ }
+    ensures { λ v. ⌜ v ≡ factsAt (now (facts .entry)) (nat z) ⌝ }
     ensures { λ v. ⌜ (v .size ≤ 4096) × (v .depth ≤ 64) ⌝ }
 {
-    known(facts, natural_in(schema, s, proof, r, k))
+    known(facts, signed::natural(z))
 }
 
 // A row with two parts: a and b are smaller rows, c is 0, and the parts do not mix.
-pub fn junction(schema: &[i32], s: usize, proof: &[i32], r: usize, facts: &[u32]) -> Judged
+pub fn junction(w: Cells, r: usize, facts: &[u32]) -> Judged
     requires { ⌜ (r < 1024) × Summable (now facts) r ⌝ }
-    ensures { λ v. ⌜ v ≡ pairJudged r (joined (now (schema .entry)) s (now (proof .entry)) r) (now (facts .entry)) ⌝ }
+    ensures { λ v. ⌜ v ≡ pairJudged r (rowOf w) (now (facts .entry)) ⌝ }
 {
-    if !below_in(schema, s, proof, r, A, r) {
+    if !below(r, w.a) {
         return Judged::Ill;
     }
-    if !below_in(schema, s, proof, r, B, r) {
+    if !below(r, w.b) {
         return Judged::Ill;
     }
-    if !is_in(schema, s, proof, r, C, 0) {
+    if !signed::equal(w.c, 0) {
         return Judged::Ill;
     }
-    let a = part(schema, s, proof, r, A, facts);
-    let b = part(schema, s, proof, r, B, facts);
+    let a = part(r, w.a, facts);
+    let b = part(r, w.b, facts);
     let f = both(a, b);
     if f.loose == 0 {
         return Judged::Formed(f);
@@ -228,20 +217,20 @@ pub fn junction(schema: &[i32], s: usize, proof: &[i32], r: usize, facts: &[u32]
 }
 
 // An iteration: a is a smaller row that is a body, b and c are -9999..9999.
-pub fn iteration(schema: &[i32], s: usize, proof: &[i32], r: usize, facts: &[u32]) -> Judged
+pub fn iteration(w: Cells, r: usize, facts: &[u32]) -> Judged
     requires { ⌜ (r < 1024) × Summable (now facts) r ⌝ }
-    ensures { λ v. ⌜ v ≡ bodyJudged r (joined (now (schema .entry)) s (now (proof .entry)) r) (now (facts .entry)) ⌝ }
+    ensures { λ v. ⌜ v ≡ bodyJudged r (rowOf w) (now (facts .entry)) ⌝ }
 {
-    if !below_in(schema, s, proof, r, A, r) {
+    if !below(r, w.a) {
         return Judged::Ill;
     }
-    if !offset_in(schema, s, proof, r, B) {
+    if !is_offset(w.b) {
         return Judged::Ill;
     }
-    if !offset_in(schema, s, proof, r, C) {
+    if !is_offset(w.c) {
         return Judged::Ill;
     }
-    let f = part(schema, s, proof, r, A, facts);
+    let f = part(r, w.a, facts);
     if f.fixed == 0 {
         return Judged::Formed(over(f));
     }
@@ -254,18 +243,19 @@ fn row(schema: &[i32], s: usize, proof: &[i32], r: usize, facts: &[u32]) -> Judg
     requires { ⌜ Passed (joined (now schema) s (now proof)) (now facts) r ⌝ }
     ensures { λ v. ⌜ v ≡ judged (joined (now (schema .entry)) s (now (proof .entry))) r ⌝ }
 {
-    let k = kind_in(schema, s, proof, r);
+    let w = cells::of_row(schema, s, proof, r);
+    let k = kind_of(w.kind);
     if k < 2 {
-        return constant(schema, s, proof, r);
+        return constant(w);
     }
     if k < 4 {
-        return literal(schema, s, proof, r);
+        return literal(w);
     }
     if k < 6 {
-        return junction(schema, s, proof, r, facts);
+        return junction(w, r, facts);
     }
     if k < 8 {
-        return iteration(schema, s, proof, r, facts);
+        return iteration(w, r, facts);
     }
     Judged::Ill
 }
@@ -331,16 +321,6 @@ fn each(schema: &[i32], s: usize, proof: &[i32], n: usize, facts: &mut [u32]) ->
 }
 
 // ---- the root
-
-// z is one of 0 .. m - 1.
-fn below(m: usize, z: i32) -> bool
-    ensures { λ v. ⌜ v ≡ below m z ⌝ }
-{
-    if 0 < signed::under(z) {
-        return false;
-    }
-    signed::natural(z) < m
-}
 
 // The root is one of s schema rows, and the least value is 0..9999.
 pub fn root_fits(s: usize, root: i32, least: i32) -> bool

@@ -2,7 +2,7 @@
 // are those of the pass over 01's rows.
 ghost use mathlib.Core.Path.{_≡_};
 ghost use mathlib.Core.Option.{none};
-ghost use Prim.Native.Nat.{_+_, _*_, _<_, _≤_, _^_};
+ghost use Prim.Native.Nat.{_+_, _*_, _<_, _≤_};
 ghost use lib.ListN.{length};
 ghost use lib.IntN.{pos};
 ghost use Rattle.stab.specs.Basic.{scan};
@@ -10,17 +10,14 @@ ghost use Rattle.stab.specs.Formula.{rowAt, joined};
 ghost use Rattle.stab.specs.Check.{finding};
 ghost use Rattle.wide.specs.WideFormula.{wideKindOf, wideTree};
 ghost use Rattle.wide.specs.Convert.{wideRowRefusal, wideRefusal};
+ghost use Rattle.formula.specs.Cells.{rowOf};
 ghost use Rattle.formula.specs.Rows.{keptIf, Summable};
 ghost use Rattle.widerows.specs.WideRows.{wideFactsOf, notJudged, wideJudged, wideTable, wideRowsTable, WidePassed};
-use formula::A;
-use formula::B;
-use formula::C;
-use formula::KIND;
-use formula::is_in;
-use formula::natural_in;
+use formula::cells;
+use formula::cells::Cells;
 use formula::rows::Facts;
 use formula::rows::Judged;
-use formula::rows::below_in;
+use formula::rows::below;
 use formula::rows::constant;
 use formula::rows::iteration;
 use formula::rows::junction;
@@ -29,39 +26,37 @@ use formula::rows::literal;
 use formula::rows::part;
 use formula::rows::root_fits;
 use formula::rows::sized;
-use formula::under_in;
 use stab::Finding;
 use stab::Place;
 use stab::Refusal;
 
 // ---- one row
 
-// A number of the same kind as row r's, 0..11 where the kind is known.
-fn kind_in(schema: &[i32], s: usize, proof: &[i32], r: usize) -> usize
-    requires { ⌜ r < 2 ^ 32 ⌝ }
-    ensures { λ v. ⌜ wideKindOf (pos v) ≡ wideKindOf (joined (now (schema .entry)) s (now (proof .entry)) r .kind) ⌝ }
+// A number of the same kind as z, 0..11 where the kind is known.
+fn kind_of(z: i32) -> usize
+    ensures { λ v. ⌜ wideKindOf (pos v) ≡ wideKindOf z ⌝ }
 {
-    if 0 < under_in(schema, s, proof, r, KIND) {
+    if 0 < signed::under(z) {
         return 12;
     }
-    natural_in(schema, s, proof, r, KIND)
+    signed::natural(z)
 }
 
 // A not: a is a smaller row, b and c are 0.
-fn negation(schema: &[i32], s: usize, proof: &[i32], r: usize, facts: &[u32]) -> Judged
+fn negation(w: Cells, r: usize, facts: &[u32]) -> Judged
     requires { ⌜ (r < 1024) × Summable (now facts) r ⌝ }
-    ensures { λ v. ⌜ v ≡ notJudged r (joined (now (schema .entry)) s (now (proof .entry)) r) (now (facts .entry)) ⌝ }
+    ensures { λ v. ⌜ v ≡ notJudged r (rowOf w) (now (facts .entry)) ⌝ }
 {
-    if !below_in(schema, s, proof, r, A, r) {
+    if !below(r, w.a) {
         return Judged::Ill;
     }
-    if !is_in(schema, s, proof, r, B, 0) {
+    if !signed::equal(w.b, 0) {
         return Judged::Ill;
     }
-    if !is_in(schema, s, proof, r, C, 0) {
+    if !signed::equal(w.c, 0) {
         return Judged::Ill;
     }
-    let f = part(schema, s, proof, r, A, facts);
+    let f = part(r, w.a, facts);
     Judged::Formed(Facts {
         size: 1 + f.size,
         depth: 1 + f.depth,
@@ -75,24 +70,25 @@ fn row(schema: &[i32], s: usize, proof: &[i32], r: usize, facts: &[u32]) -> Judg
     requires { ⌜ (r < 1024) × WidePassed (joined (now schema) s (now proof)) (now facts) r ⌝ }
     ensures { λ v. ⌜ v ≡ wideJudged (joined (now (schema .entry)) s (now (proof .entry))) r ⌝ }
 {
-    let k = kind_in(schema, s, proof, r);
+    let w = cells::of_row(schema, s, proof, r);
+    let k = kind_of(w.kind);
     if k < 2 {
-        return constant(schema, s, proof, r);
+        return constant(w);
     }
     if k < 4 {
-        return literal(schema, s, proof, r);
+        return literal(w);
     }
     if k < 6 {
-        return junction(schema, s, proof, r, facts);
+        return junction(w, r, facts);
     }
     if k < 8 {
-        return iteration(schema, s, proof, r, facts);
+        return iteration(w, r, facts);
     }
     if k < 9 {
-        return negation(schema, s, proof, r, facts);
+        return negation(w, r, facts);
     }
     if k < 12 {
-        return junction(schema, s, proof, r, facts);
+        return junction(w, r, facts);
     }
     Judged::Ill
 }

@@ -1,62 +1,85 @@
-use mathlib.Core.Path.{refl, sym, _∙_}
+use mathlib.Core.Path.{_≡_, refl, sym, _∙_, ap}
+use lib.IntN.{pos}
 use borrow.Author.Needs.{needs}
-use Rattle.stab.specs.Formula.{wellFormedAs}
-use Rattle.formula.proofs.RowLaws.{ill, passed-sums, pair-judged, body-judged, constant-kind, literal-kind, junction-kind, iteration-kind, unknown-kind}
+use Rattle.stab.specs.Formula.{Row, joined, kindOf, wellFormedAs}
+use Rattle.signed.proofs.Signs.{read-back}
+use Rattle.formula.specs.Cells.{rowOf}
+use Rattle.formula.specs.Rows.{constantJudged, literalJudged, pairJudged, bodyJudged}
+use Rattle.formula.proofs.RowLaws.{ill, constant-judged, literal-judged, passed-sums, pair-judged, body-judged, constant-kind, literal-kind, junction-kind, iteration-kind, unknown-kind}
 use Rattle.formula.proofs.rows.row.Statement.{statement}
 use Rattle.formula.proofs.rows.row.Tie as tie
 
-kind-in-requires : tie.Need-kind-in-requires
-kind-in-requires c κs = search needs
+-- where the row's columns are read, and its kind is known
+abbrev start : tie.After-kind-of → tie.Start
+start c = c .before .before .before .before
+
+abbrev columns : tie.After-kind-of → Row
+columns c = let a = start c .args in joined (a .schema .now) (a .s) (a .proof .now) (a .r)
+
+known-kind : (c : tie.After-kind-of) → kindOf (pos (c .kind-of .result)) ≡ kindOf (columns c .kind)
+unfolding rowOf
+known-kind c =
+    let w = c .before .before .of-row in
+    rw (read-back (w .result .kind) (c .before .struct-told .given .0 .1)) at (c .kind-of .ensures) ∙ ap (λ (u : Row). kindOf (u .kind)) (w .ensures)
+
+of-row-requires : tie.Need-of-row-requires
+of-row-requires c κs = search needs
+
+kind-of-requires : tie.Need-kind-of-requires
+kind-of-requires c κs = search needs
 
 constant-requires : tie.Need-constant-requires
-constant-requires c κs =
-    let k = constant-kind (c .before .kind-in .result) (c .if1 .taken) in
-    (search needs, (k .0, sym (c .before .kind-in .ensures) ∙ k .1))
+constant-requires c κs = search needs
 
 returns : tie.Need-returns
-returns c = search needs
+returns c =
+    let d = c .before .before in
+    let k = constant-kind (d .kind-of .result) (c .before .if1 .taken) in
+    c .constant .ensures ∙ ap constantJudged (d .before .before .of-row .ensures) ∙ constant-judged _ _ (k .0) (sym (known-kind d) ∙ k .1)
 
 literal-requires : tie.Need-literal-requires
-literal-requires c κs =
-    let k = literal-kind (c .before .before .kind-in .result) (c .before .if1 .left) (c .if2 .taken) in
-    (search needs, (k .0, sym (c .before .before .kind-in .ensures) ∙ k .1))
+literal-requires c κs = search needs
 
 returns-2 : tie.Need-returns-2
-returns-2 c = search needs
+returns-2 c =
+    let d = c .before .before .before in
+    let k = literal-kind (d .kind-of .result) (c .before .before .if1 .left) (c .before .if2 .taken) in
+    c .literal .ensures ∙ ap literalJudged (d .before .before .of-row .ensures) ∙ literal-judged _ _ (k .0) (sym (known-kind d) ∙ k .1)
 
 junction-requires : tie.Need-junction-requires
-junction-requires c κs =
-    let d = c .before .before .before in
-    (search needs, passed-sums (d .before .before .pre .1))
+junction-requires c κs = (search needs, passed-sums (start (c .before .before .before) .pre .1))
 
 returns-3 : tie.Need-returns-3
 returns-3 c =
     let d = c .before .before .before .before in
-    let k = junction-kind (d .kind-in .result) (c .before .before .if2 .left) (c .before .if3 .taken) in
-    c .junction .ensures ∙ pair-judged _ _ _ (d .before .before .pre .1) (k .0) (sym (d .kind-in .ensures) ∙ k .1)
+    let k = junction-kind (d .kind-of .result) (c .before .before .if2 .left) (c .before .if3 .taken) in
+    c .junction .ensures
+    ∙ ap (λ (u : Row). pairJudged (start d .args .r) u (start d .args .facts .now)) (d .before .before .of-row .ensures)
+    ∙ pair-judged _ _ _ (start d .pre .1) (k .0) (sym (known-kind d) ∙ k .1)
 
 iteration-requires : tie.Need-iteration-requires
-iteration-requires c κs =
-    let d = c .before .before .before .before in
-    (search needs, passed-sums (d .before .before .pre .1))
+iteration-requires c κs = (search needs, passed-sums (start (c .before .before .before .before) .pre .1))
 
 returns-4 : tie.Need-returns-4
 returns-4 c =
     let d = c .before .before .before .before .before in
-    let k = iteration-kind (d .kind-in .result) (c .before .before .if3 .left) (c .before .if4 .taken) in
-    c .iteration .ensures ∙ body-judged _ _ _ (d .before .before .pre .1) (k .0) (sym (d .kind-in .ensures) ∙ k .1)
+    let k = iteration-kind (d .kind-of .result) (c .before .before .if3 .left) (c .before .if4 .taken) in
+    c .iteration .ensures
+    ∙ ap (λ (u : Row). bodyJudged (start d .args .r) u (start d .args .facts .now)) (d .before .before .of-row .ensures)
+    ∙ body-judged _ _ _ (start d .pre .1) (k .0) (sym (known-kind d) ∙ k .1)
 
 returns-5 : tie.Need-returns-5
 unfolding wellFormedAs
 returns-5 c =
     let d = c .before .before .before .before in
-    ill _ _ _ (sym (d .kind-in .ensures) ∙ unknown-kind (d .kind-in .result) (c .if4 .left)) refl
+    ill _ _ _ (sym (known-kind d) ∙ unknown-kind (d .kind-of .result) (c .if4 .left)) refl
 
 pub row-spec : {M : Type 1} → statement M
 row-spec =
     tie.close
     (tie.spec
-    kind-in-requires
+    of-row-requires
+    kind-of-requires
     constant-requires
     returns
     literal-requires
