@@ -1,7 +1,9 @@
-// Proof rows written twice, found by chains of rows that may be equal.
+// Proof rows written twice, found by links between rows that may be equal.
 pub mod chain;
+pub mod places;
 pub mod row;
 
+use formula::cells;
 use stab::Finding;
 use stab::Place;
 use stab::Refusal;
@@ -12,7 +14,8 @@ ghost use lib.ListN.{length, getD};
 ghost use Rattle.stab.specs.Basic.{scan};
 ghost use Rattle.stab.specs.Formula.{joined};
 ghost use Rattle.stab.specs.Check.{finding, repeatRefusal};
-ghost use Rattle.repeats.specs.Chain.{repeated, Chained};
+ghost use Rattle.repeats.specs.Chain.{repeated};
+ghost use Rattle.repeats.specs.Places.{Linked};
 
 // One row more: it repeats an earlier one, and is no row before `from`.
 fn step(
@@ -21,36 +24,36 @@ fn step(
     proof: &[i32],
     from: usize,
     r: usize,
-    next: &mut [u32],
-    heads: &mut [u32],
+    next: &mut [u16],
+    heads: &mut [u16],
 ) -> bool
-    requires { ⌜ (r < 1024) × (r < length (now next)) × (1021 ≤ length (now heads)) ⌝ }
-    requires { ⌜ Chained (joined (now schema) s (now proof)) (now next) (now heads) r ⌝ }
+    requires { ⌜ (r < 1024) × (r < length (now next)) × (4096 ≤ length (now heads)) ⌝ }
+    requires { ⌜ Linked (joined (now schema) s (now proof)) (now next) (now heads) r ⌝ }
     ensures { λ v. ⌜ v ≡ repeated (joined (now (schema .entry)) s (now (proof .entry))) from r ⌝ }
-    ensures { λ v. ⌜ (v ≡ false → Chained (joined (now (schema .entry)) s (now (proof .entry))) (now (next .exit)) (now (heads .exit)) (r + 1)) ⌝ }
+    ensures { λ v. ⌜ (v ≡ false → Linked (joined (now (schema .entry)) s (now (proof .entry))) (now (next .exit)) (now (heads .exit)) (r + 1)) ⌝ }
 {
-    let h = row::slot(schema, s, proof, r);
+    let h = places::place(cells::of_row(schema, s, proof, r));
     if from <= r {
-        if chain::stands(schema, s, proof, r, h, next, heads) {
+        if places::stands(schema, s, proof, r, h, next, heads) {
             return true;
         }
     }
-    chain::keep(r, h, next, heads);
+    places::keep(r, h, next, heads);
     false
 }
 
-// The first row from `from` on that repeats an earlier one. What is lent: a number for each row, and one for each slot, which are 0.
+// The first row from `from` on that repeats an earlier one. What is lent: a number for each row, and one for each place, which are 0.
 fn first_repeat(
     schema: &[i32],
     s: usize,
     proof: &[i32],
     from: usize,
     n: usize,
-    next: &mut [u32],
-    heads: &mut [u32],
+    next: &mut [u16],
+    heads: &mut [u16],
 ) -> Finding
-    requires { ⌜ (n ≤ 1024) × (n ≤ length (now next)) × (1021 ≤ length (now heads)) ⌝ }
-    requires { ⌜ ((h : ℕ) → h < 1021 → getD (now heads) h 0 ≡ 0) ⌝ }
+    requires { ⌜ (n ≤ 1024) × (n ≤ length (now next)) × (4096 ≤ length (now heads)) ⌝ }
+    requires { ⌜ ((h : ℕ) → h < 4096 → getD (now heads) h 0 ≡ 0) ⌝ }
     ensures { λ r. ⌜ finding r ≡ scan (repeatRefusal (joined (now (schema .entry)) s (now (proof .entry))) from) n ⌝ }
 {
     let mut r: usize = 0;
@@ -66,25 +69,6 @@ fn first_repeat(
     Finding::Nothing
 }
 
-// A table of few rows, which need not wait for as many numbers as a large one.
-fn small_table(schema: &[i32], s: usize, proof: &[i32], from: usize, n: usize) -> Finding
-    requires { ⌜ n ≤ 64 ⌝ }
-    ensures { λ r. ⌜ finding r ≡ scan (repeatRefusal (joined (now (schema .entry)) s (now (proof .entry))) from) n ⌝ }
-{
-    let mut next = [0u32; 64];
-    let mut heads = [0u32; 1021];
-    first_repeat(schema, s, proof, from, n, &mut next, &mut heads)
-}
-
-fn large_table(schema: &[i32], s: usize, proof: &[i32], from: usize, n: usize) -> Finding
-    requires { ⌜ n ≤ 1024 ⌝ }
-    ensures { λ r. ⌜ finding r ≡ scan (repeatRefusal (joined (now (schema .entry)) s (now (proof .entry))) from) n ⌝ }
-{
-    let mut next = [0u32; 1024];
-    let mut heads = [0u32; 1021];
-    first_repeat(schema, s, proof, from, n, &mut next, &mut heads)
-}
-
 // The first of n rows, from `from` on, whose columns are those of an earlier row.
 pub fn repeats(schema: &[i32], s: usize, proof: &[i32], from: usize, n: usize) -> Finding
     requires { ⌜ n ≤ 1024 ⌝ }
@@ -93,8 +77,7 @@ pub fn repeats(schema: &[i32], s: usize, proof: &[i32], from: usize, n: usize) -
     if n <= from {
         return Finding::Nothing;
     }
-    if n <= 64 {
-        return small_table(schema, s, proof, from, n);
-    }
-    large_table(schema, s, proof, from, n)
+    let mut next = [0u16; 1024];
+    let mut heads = [0u16; 4096];
+    first_repeat(schema, s, proof, from, n, &mut next, &mut heads)
 }

@@ -55,7 +55,7 @@ pub fn under(z: i32) -> usize
 }
 
 // How far a whole number lies above the least of 32 bits.
-fn rank(z: i32) -> usize
+pub fn rank(z: i32) -> usize
     ensures { λ r. ⌜ (r ≡ rankOf z) × (r < 2 ^ 32) ⌝ }
 {
     (z as i64 + 2147483648) as usize

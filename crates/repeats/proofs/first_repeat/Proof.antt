@@ -7,8 +7,9 @@ use Rattle.stab.specs.Basic.{scan}
 use Rattle.stab.specs.Formula.{joined}
 use Rattle.stab.specs.Check.{finding, repeatRefusal}
 use Rattle.stab.proofs.Scans.{scan-more, scan-found}
-use Rattle.repeats.specs.Chain.{Chained}
-use Rattle.repeats.proofs.Chains.{repeat-found, repeat-none, chained-none}
+use Rattle.repeats.specs.Places.{Linked}
+use Rattle.repeats.proofs.Chains.{repeat-found, repeat-none}
+use Rattle.repeats.proofs.Links.{linked-none}
 use Rattle.repeats.proofs.first_repeat.Statement.{statement}
 use Rattle.repeats.proofs.first_repeat.Tie as tie
 
@@ -17,7 +18,7 @@ Inv-loop schema s proof from n next₀ heads₀ r₀ next heads r =
     (r ≤ n)
     × (length next ≡ length next₀)
     × (length heads ≡ length heads₀)
-    × Chained (joined schema s proof) next heads r
+    × Linked (joined schema s proof) next heads r
     × (scan (repeatRefusal (joined schema s proof) from) r ≡ none)
 
 abbrev μ-loop : tie.MeasureT-loop
@@ -27,7 +28,7 @@ loop-holds : tie.Need-loop-holds Inv-loop μ-loop
 unfolding scan
 loop-holds c =
     let b = c .before .before in
-    (omega arith, refl, refl, chained-none _ _ _ (b .pre .1), refl)
+    (omega arith, refl, refl, linked-none _ _ _ (b .pre .1), refl)
 
 step-requires : tie.Need-step-requires Inv-loop μ-loop
 step-requires c κs =

@@ -1,6 +1,7 @@
 use borrow.Author.Needs.{needs}
 use native.Mathlib.Omega.{arith}
 use mathlib.Core.Path.{sym}
+use lib.ListN.{getD-replicate}
 use Rattle.stab.specs.Check.{finding}
 use Rattle.stab.proofs.Scans.{scan-none}
 use Rattle.repeats.proofs.Chains.{repeat-before}
@@ -11,18 +12,25 @@ returns : tie.Need-returns
 unfolding finding
 returns c = sym (scan-none _ _ (λ r l. repeat-before _ _ r (omega arith)))
 
-small-table-requires : tie.Need-small-table-requires
-small-table-requires c κs = search needs
+slice-aggregate-first-repeat : tie.Need-slice-aggregate-first-repeat
+slice-aggregate-first-repeat c = search needs
+
+slice-aggregate-first-repeat-2 : tie.Need-slice-aggregate-first-repeat-2
+slice-aggregate-first-repeat-2 c = search needs
+
+first-repeat-requires : tie.Need-first-repeat-requires
+first-repeat-requires c κs =
+    ((omega arith, omega arith, omega arith), λ h l. getD-replicate 4096 h 0 0 l)
 
 returns-2 : tie.Need-returns-2
 returns-2 c = search needs
 
-large-table-requires : tie.Need-large-table-requires
-large-table-requires c κs = search needs
-
-returns-3 : tie.Need-returns-3
-returns-3 c = search needs
-
 pub repeats-spec : {M : Type 1} → statement M
 repeats-spec =
-    tie.close (tie.spec returns small-table-requires returns-2 large-table-requires returns-3)
+    tie.close
+    (tie.spec
+    returns
+    slice-aggregate-first-repeat
+    slice-aggregate-first-repeat-2
+    first-repeat-requires
+    returns-2)

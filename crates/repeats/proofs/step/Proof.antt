@@ -1,6 +1,6 @@
 use native.Mathlib.Omega.{arith}
 use Prim.Native.Nat.{ℕ, _<_}
-use mathlib.Core.Path.{sym, _∙_}
+use mathlib.Core.Path.{_≡_, sym, _∙_, ap}
 use mathlib.Core.Logic.{⊎-elim}
 use mathlib.Core.Bool.{true≢false}
 use lib.ListN.{length}
@@ -9,30 +9,37 @@ use borrow.Author.Tests.{le-leb, lt-leb}
 use Rattle.stab.specs.Formula.{Row, joined}
 use Rattle.stab.proofs.Bools.{and-both, and-first-false, and-second-false}
 use Rattle.repeats.specs.Chain.{repeated}
-use Rattle.repeats.proofs.Chains.{slot-small, chained-more}
+use Rattle.repeats.specs.Places.{placeOf}
+use Rattle.repeats.proofs.Links.{place-small, linked-more}
 use Rattle.repeats.proofs.step.Statement.{statement}
 use Rattle.repeats.proofs.step.Tie as tie
 
--- where the slot is known
-abbrev start : tie.After-slot → tie.Start
-start c = c .before .before .before
+-- where the place is known
+abbrev start : tie.After-place → tie.Start
+start c = c .before .before .before .before
 
 abbrev rows : tie.Start → ℕ → Row
 rows b = let a = b .args in joined (a .schema .now) (a .s) (a .proof .now)
 
-slot-within : (c : tie.After-slot) → c .slot .result < length (start c .args .heads .now)
-slot-within c =
-    let b = start c in
-    omega (arith, c .slot .ensures, slot-small (rows b (b .args .r)), b .pre .0 .2)
+is-place : (c : tie.After-place) → c .place .result ≡ placeOf (rows (start c) (start c .args .r))
+is-place c = c .place .ensures ∙ ap placeOf (c .before .of-row .ensures)
 
-slot-requires : tie.Need-slot-requires
-slot-requires c κs = search needs
+place-within : (c : tie.After-place) → c .place .result < length (start c .args .heads .now)
+place-within c =
+    let b = start c in
+    omega (arith, is-place c, place-small (rows b (b .args .r)), b .pre .0 .2)
+
+of-row-requires : tie.Need-of-row-requires
+of-row-requires c κs = search needs
+
+place-requires : tie.Need-place-requires
+place-requires c κs = search needs
 
 stands-requires : tie.Need-stands-requires
 stands-requires c κs =
     let d = c .before .before .before in
     let b = start d in
-    (b .pre .0 .0, (b .pre .1, d .slot .ensures))
+    (b .pre .0 .0, (b .pre .1, is-place d))
 
 same-length : tie.Need-same-length
 same-length c = search needs
@@ -50,7 +57,7 @@ keep-requires : tie.Need-keep-requires
 keep-requires c κs =
     let d = c .before .before .before in
     let b = start d in
-    (omega (arith, b .pre .0 .0), b .pre .0 .1, slot-within d)
+    (b .pre .0 .0, b .pre .0 .1, place-within d)
 
 same-length-3 : tie.Need-same-length-3
 same-length-3 c = search needs
@@ -70,9 +77,9 @@ returns-2 c =
           (λ w. sym (and-first-false _ _ (lt-leb _ _ (w .left))))
           (j .if1 .came),
       λ _.
-          chained-more (rows b) _ _ (b .args .r) _ (b .pre .1) (b .pre .0 .1)
-          (slot-within d)
-          (d .slot .ensures)
+          linked-more (rows b) _ _ (b .args .r) _ (b .pre .1) (b .pre .0 .1)
+          (place-within d)
+          (is-place d)
           (k .keep .ensures .0)
           (k .keep .ensures .1),
     )
@@ -81,7 +88,8 @@ pub step-spec : {M : Type 1} → statement M
 step-spec =
     tie.close
     (tie.spec
-    slot-requires
+    of-row-requires
+    place-requires
     stands-requires
     same-length
     same-length-2

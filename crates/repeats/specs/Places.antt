@@ -1,0 +1,23 @@
+-- Links between rows of one place, each to the one before it.
+use Prim.Native.Nat.{ℕ, _+_, _*_, _-_, _%_, _<_, _≤_}
+use mathlib.Core.Path.{_≡_}
+use mathlib.Core.List.{List}
+use lib.ListN.{getD}
+use Rattle.stab.specs.Formula.{Row}
+use Rattle.stab.specs.Check.{standsBefore}
+use Rattle.signed.specs.Numbers.{rankOf}
+
+-- where rows with the columns of w are looked for: 4,096 places, so that few of 1,024 rows share one
+unfoldable pub placeOf : Row → ℕ
+placeOf w = ((5 * rankOf (w .kind) + 128 * rankOf (w .a)) + (7 * rankOf (w .b) + 3 * rankOf (w .c))) % 4096
+
+-- a row with the columns of w stands below m just if one stands below v, and the last row below v has the place of w
+pub record Leads (rows : ℕ → Row) (w : Row) (m v : ℕ) : Type 0 where
+  pub within : v ≤ m
+  pub of-place : 0 < v → placeOf (rows (v - 1)) ≡ placeOf w
+  pub same : standsBefore rows m w ≡ standsBefore rows v w
+
+-- the tables after n rows: a place leads to its last row, and a row to the one before it of its place
+pub record Linked (rows : ℕ → Row) (next heads : List ℕ) (n : ℕ) : Type 0 where
+  pub first : (w : Row) → Leads rows w n (getD heads (placeOf w) 0)
+  pub onward : (q : ℕ) → q < n → (w : Row) → placeOf (rows q) ≡ placeOf w → Leads rows w q (getD next q 0)
