@@ -1,4 +1,3 @@
 pub mod Answers
 pub mod FieldLaws
 pub mod FieldParts
-pub mod RuleLaws
