@@ -9,22 +9,22 @@ use stab::Refusal;
 ghost use mathlib.Core.Path.{_≡_};
 ghost use Prim.Native.Nat.{_+_, _*_, _<_, _≤_, _^_};
 ghost use lib.IntN.{pos};
-ghost use lib.ListN.{getD, length, take, drop};
+ghost use lib.ListN.{length, take, drop};
 ghost use Rattle.stab.specs.Basic.{scan};
 ghost use Rattle.stab.specs.Node.{setStart};
 ghost use Rattle.stab.specs.Check.{finding};
 ghost use Rattle.branch.specs.Sets.{outerBy, memberFits, listFits, placeFits, setRight};
 ghost use Rattle.sets.specs.Faults.{setFault};
 
-// The member at `at` is the number of an outer row.
-fn is_outer(facts: &[u32], n: usize, members: &[i32], at: usize) -> bool
+// z is the number of an outer row.
+fn is_outer(facts: &[u32], n: usize, z: i32) -> bool
     requires { ⌜ 4 * n ≤ length (now facts) ⌝ }
-    ensures { λ r. ⌜ r ≡ outerBy (now (facts .entry)) n (getD (now (members .entry)) at (pos 0)) ⌝ }
+    ensures { λ r. ⌜ r ≡ outerBy (now (facts .entry)) n z ⌝ }
 {
-    if 0 < signed::under_at(members, at) {
+    if 0 < signed::under(z) {
         return false;
     }
-    let r = signed::natural_at(members, at);
+    let r = signed::natural(z);
     if n <= r {
         return false;
     }
@@ -37,13 +37,14 @@ fn member_fits(facts: &[u32], n: usize, members: &[i32], start: usize, len: usiz
     ensures { λ r. ⌜ r ≡ memberFits (now (facts .entry)) n (take len (drop start (now (members .entry)))) i ⌝ }
 {
     let at = start + i;
-    if !is_outer(facts, n, members, at) {
+    let z = members[at];
+    if !is_outer(facts, n, z) {
         return false;
     }
     if i == 0 {
         return true;
     }
-    signed::less(signed::at(members, at - 1), signed::at(members, at))
+    signed::less(members[at - 1], z)
 }
 
 // The list holds outer rows in ascending order.
