@@ -43,25 +43,26 @@ fn has_key(
     kept_at(sides, 2 * q + 1) == high
 }
 
-// The class of row r, whose numbers are f and whose hash is h: that of an earlier row with its key, else its own number.
+// The class of row r, whose kind is given, whose numbers are f and whose hash is h: that of an earlier row with its key, else its
+// own number.
 pub fn class_of(
     schema: &[i32],
     s: usize,
     proof: &[i32],
     r: usize,
+    kind: usize,
     f: Form,
     h: usize,
     forms: &[u32],
     sides: &[u32],
     heads: &[u32],
 ) -> usize
-    requires { ⌜ r < 1024 ⌝ }
+    requires { ⌜ (r < 1024) × (kind ≡ nat (joined (now schema) s (now proof) r .kind)) ⌝ }
     requires { ⌜ AllFormed (joined (now schema) s (now proof)) (r + 1) ⌝ }
     requires { ⌜ Done (joined (now schema) s (now proof)) (now forms) (now sides) (now heads) r ⌝ }
     requires { ⌜ (f ≡ formOf (joined (now schema) s (now proof)) r) × (h ≡ hashAt (joined (now schema) s (now proof)) r) ⌝ }
     ensures { λ v. ⌜ v ≡ classOf (joined (now (schema .entry)) s (now (proof .entry))) r ⌝ }
 {
-    let kind = natural_in(schema, s, proof, r, KIND);
     let mut next = kept_at(heads, h);
     while 0 < next {
         let q = next - 1;

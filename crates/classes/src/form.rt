@@ -2,7 +2,6 @@
 use formula::A;
 use formula::B;
 use formula::C;
-use formula::KIND;
 use formula::kept::kept_at;
 use formula::natural_in;
 use formula::under_in;
@@ -12,6 +11,7 @@ ghost use mathlib.Core.Option.{some};
 ghost use Prim.Native.Nat.{_+_, _*_, _<_, _≤_, _^_};
 ghost use lib.IntN.{negℤ};
 ghost use lib.ListN.{getD};
+ghost use Rattle.stab.specs.Basic.{nat};
 ghost use Rattle.stab.specs.Formula.{Op, joined, kindOf, literal, junction, iteration, offset};
 ghost use Rattle.formula.specs.Column.{column};
 ghost use Rattle.formula.specs.Facts.{AllFormed};
@@ -141,13 +141,13 @@ fn iteration(schema: &[i32], s: usize, proof: &[i32], r: usize, forms: &[u32]) -
     }
 }
 
-pub fn of_row(schema: &[i32], s: usize, proof: &[i32], r: usize, forms: &[u32]) -> Form
-    requires { ⌜ r < 1024 ⌝ }
+// Those of row r, whose kind is given.
+pub fn of_row(schema: &[i32], s: usize, proof: &[i32], r: usize, kind: usize, forms: &[u32]) -> Form
+    requires { ⌜ (r < 1024) × (kind ≡ nat (joined (now schema) s (now proof) r .kind)) ⌝ }
     requires { ⌜ AllFormed (joined (now schema) s (now proof)) (r + 1) ⌝ }
     requires { ⌜ AllWorked (joined (now schema) s (now proof)) (now forms) r ⌝ }
     ensures { λ v. ⌜ v ≡ formOf (joined (now (schema .entry)) s (now (proof .entry))) r ⌝ }
 {
-    let kind = natural_in(schema, s, proof, r, KIND);
     if kind < 2 {
         return Form {
             shift: 0,

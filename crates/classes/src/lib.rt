@@ -28,9 +28,10 @@ fn step(
     requires { ⌜ Done (joined (now schema) s (now proof)) (now forms) (now sides) (now heads) r ⌝ }
     ensures { λ _. ⌜ Done (joined (now (schema .entry)) s (now (proof .entry))) (now (forms .exit)) (now (sides .exit)) (now (heads .exit)) (r + 1) ⌝ }
 {
-    let f = form::of_row(schema, s, proof, r, forms);
-    let h = chain::hash(natural_in(schema, s, proof, r, KIND), f.low, f.high);
-    let class = chain::class_of(schema, s, proof, r, f, h, forms, sides, heads);
+    let kind = natural_in(schema, s, proof, r, KIND);
+    let f = form::of_row(schema, s, proof, r, kind, forms);
+    let h = chain::hash(kind, f.low, f.high);
+    let class = chain::class_of(schema, s, proof, r, kind, f, h, forms, sides, heads);
     chain::keep(r, h, class, f, forms, sides, heads);
 }
 
