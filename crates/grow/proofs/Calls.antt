@@ -11,7 +11,7 @@ use lib.IntN.{ℤ, pos}
 use lib.ListN.{length, take, length-append}
 use lib.Seq.{sets, length-sets}
 use borrow.Author.Tests.{le-ltb, lt-ltb}
-use Rattle.stab.specs.Basic.{_and_, count, nat, _otherwise_}
+use Rattle.stab.specs.Basic.{if_then_else_, _and_, count, nat, _otherwise_}
 use Rattle.stab.specs.Node.{Tableau, nodeAt, node}
 use Rattle.stab.specs.Check.{wholeUnless, isLink, parentRefusal, linkCount}
 use Rattle.stab.specs.Text.{padded}
@@ -36,9 +36,17 @@ use Rattle.growing.specs.declared.Growth.{Growth}
 use Rattle.growing.specs.declared.Growth.the-variants.{Held, Refused as GrowthRefused}
 use Rattle.growing.proofs.States.{Holds, held-clears}
 use Rattle.growing.proofs.Held.{fits, held-step}
-use Rattle.growing.proofs.Grown.{add-holds, passed, refused-leaves, closed-is}
+use Rattle.growing.proofs.Grown.{added-holds, add-holds, passed, refused-leaves, closed-is}
 use Rattle.grow.specs.State.{state, grown, nodesOnly, Countable}
-use Rattle.grow.proofs.Counted.{complete-alone}
+use Rattle.grow.proofs.Counted.{complete-alone, complete-same, links-same}
+use Rattle.grow.proofs.Laying.{agrees}
+
+-- ---- a call whose rows are kept or not
+
+pub either : (keep : Bool) (S T : Tableau) → S ≡ T → T ≡ (if keep then S else T)
+unfolding if_then_else_
+either true S T e = sym e
+either false S T e = refl
 
 -- ---- refused calls
 
@@ -117,6 +125,12 @@ module _ (T : Tableau) (w : NodeRow) (room : roomFor T w ≡ true) where
       ap (λ (k : ℕ). padded (pos 0) k (take (m + length (w .members)) (sets (T .members) m (w .members)))) (length-sets (T .members) m (w .members))
       ∙ ap (padded (pos 0) (length (T .members))) (sets-more (T .members) (w .members) m (fits T w room .3))
 
+  pub tried-countable : Holds (grown T w) → (ns : List ℤ) → ns ≡ grown T w .nodes → Countable ns (T .nodeRows + 1) (T .least)
+  unfolding grown
+  tried-countable H ns e =
+      subst (λ (k : List ℤ). Countable k (T .nodeRows + 1) (T .least)) (sym e)
+      (subst (λ (k : ℕ). Countable (grown T w .nodes) k (T .least)) (sym (add-one (T .nodeRows))) (countable (grown T w) H))
+
   -- the row is accepted
   module _ (ok : addRefusal T w ≡ none) where
     pub laid-countable : (ns : List ℤ) → ns ≡ grown T w .nodes → Countable (padded (pos 0) (length ns) (take (9 * (T .nodeRows + 1)) ns)) (T .nodeRows + 1) (T .least)
@@ -130,6 +144,16 @@ module _ (T : Tableau) (w : NodeRow) (room : roomFor T w ≡ true) where
     unfolding callRefusal changed added holding
     laid-answer ns e =
         (λ i. Held (add-one (T .nodeRows) i) (count (isLink (e i)) (add-one (T .nodeRows) i)) (complete (nodesOnly (e i) (add-one (T .nodeRows) i))))
+        ∙ sym (accepted-answer T (add w) ok)
+
+    -- the row is not kept: what is shown of the rows with it
+    pub tried-answer : (ns : List ℤ) → ns ≡ grown T w .nodes → Held (T .nodeRows + 1) (count (isLink ns) (T .nodeRows + 1)) (complete (nodesOnly ns (T .nodeRows + 1))) ≡ answered T (add w)
+    unfolding callRefusal changed added holding grown linkCount
+    tried-answer ns e =
+        let G = agrees T w room (added-holds T w ok) in
+        let n = T .nodeRows in
+        (λ i. Held (add-one n i) (count (isLink (e i)) (add-one n i)) (complete (nodesOnly (e i) (add-one n i))))
+        ∙ ap₂ (Held (suc n)) (links-same G) (complete-alone (grown T w) ∙ complete-same G ∙ sym (complete-alone (added T w)))
         ∙ sym (accepted-answer T (add w) ok)
 
     pub laid-left : (ns ms : List ℤ) → ns ≡ added T w .nodes → ms ≡ added T w .members → tableau (T .schema) (T .schemaRows) (T .proof) (T .proofRows) (T .root) (T .least) ns (T .nodeRows + 1) ms (T .memberCount + length (w .members)) ≡ after T (add w)

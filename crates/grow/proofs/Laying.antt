@@ -108,9 +108,12 @@ module _ (T : Tableau) (w : NodeRow) (room : roomFor T w ≡ true) where
         omega (arith, e, f))
         (below-suc j n h)
 
+    pub agrees : Agree (added T w) (grown T w)
+    agrees = agrees-added within-held
+
     -- what is found with the row is what is found of it
     found-new : moved n (heldRefusal (grown T w)) ≡ addedRefusal (added T w) n
-    found-new = ap (moved n) (held-same (agrees-added within-held)) ∙ judged-last T H w room
+    found-new = ap (moved n) (held-same agrees) ∙ judged-last T H w room
 
   -- ---- the rows that pass with the row
 

@@ -40,3 +40,7 @@ module _ (t vs : List ℤ) (at : ℕ) (h : at + length vs ≤ length t) where
       ∙ ap₂ (λ (r q : List ℤ). r ++ old ++ q) (sets-front t vs at h) past-same
       ∙ ap (λ (r : List ℤ). r ++ drop (at + length vs) t) (sym (take-add at (length vs) t))
       ∙ take-append-drop (at + length vs) t
+
+-- what was kept is put back
+pub restored : (t vs laid kept out : List ℤ) (at : ℕ) → at + length vs ≤ length t → laid ≡ sets t at vs → kept ≡ take (length vs) (drop at t) → out ≡ sets laid at kept → out ≡ t
+restored t vs laid kept out at h e f g = g ∙ ap₂ (λ (l k : List ℤ). sets l at k) e f ∙ put-back-same t vs at h

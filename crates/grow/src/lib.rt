@@ -16,7 +16,7 @@ ghost use Prim.Native.Nat.{_+_, _*_, _<_, _≤_, suc};
 ghost use lib.Dec.{leb, ltb};
 ghost use lib.IntN.{pos};
 ghost use lib.ListN.{length, take};
-ghost use Rattle.stab.specs.Basic.{_and_, count, _otherwise_};
+ghost use Rattle.stab.specs.Basic.{if_then_else_, _and_, count, _otherwise_};
 ghost use Rattle.stab.specs.Node.{Tableau};
 ghost use Rattle.stab.specs.Check.{isLink};
 ghost use Rattle.stab.specs.Text.{padded};
@@ -60,7 +60,7 @@ fn place_of(why: Refusal, place: Place, n: usize) -> Place
 }
 
 // The rows held are refused, or else the call.
-fn turn_away(
+pub fn turn_away(
     schema: &[i32],
     schema_rows: usize,
     proof: &[i32],
@@ -161,9 +161,10 @@ pub fn begin(
     }
 }
 
-// A node row is added at the end. It is laid behind the rows held and checked with them, so that an accepted call costs one check of
-// the rows held; a refused one takes it out again and puts them under the check alone.
-pub fn add(
+// A node row is tried at the end, and kept there or not. It is laid behind the rows held and checked with them, so that an accepted call
+// costs one check of the rows held; a refused one takes it out again and puts them under the check alone.
+pub fn try_row(
+    keep: bool,
     schema: &[i32],
     schema_rows: usize,
     proof: &[i32],
@@ -177,7 +178,7 @@ pub fn add(
     set: &[i32],
 ) -> Growth
     ensures answer { λ r. ⌜ r ≡ answered (state (now (schema .entry)) «schema_rows» (now (proof .entry)) «proof_rows» root least (now (nodes .entry)) (now (members .entry)) (now (held .entry))) (addRow (rowFrom (now (row .entry)) (now (set .entry)))) ⌝ }
-    ensures left { λ r. ⌜ state (now (schema .entry)) «schema_rows» (now (proof .entry)) «proof_rows» root least (now (nodes .exit)) (now (members .exit)) (now (held .exit)) ≡ after (state (now (schema .entry)) «schema_rows» (now (proof .entry)) «proof_rows» root least (now (nodes .entry)) (now (members .entry)) (now (held .entry))) (addRow (rowFrom (now (row .entry)) (now (set .entry)))) ⌝ }
+    ensures left { λ r. ⌜ state (now (schema .entry)) «schema_rows» (now (proof .entry)) «proof_rows» root least (now (nodes .exit)) (now (members .exit)) (now (held .exit)) ≡ (if keep then after (state (now (schema .entry)) «schema_rows» (now (proof .entry)) «proof_rows» root least (now (nodes .entry)) (now (members .entry)) (now (held .entry))) (addRow (rowFrom (now (row .entry)) (now (set .entry)))) else state (now (schema .entry)) «schema_rows» (now (proof .entry)) «proof_rows» root least (now (nodes .entry)) (now (members .entry)) (now (held .entry))) ⌝ }
 {
     let n = held[0];
     let m = held[1];
@@ -221,7 +222,15 @@ pub fn add(
         members,
         m + set.len(),
     ) {
-        Finding::Nothing => settle(nodes, n + 1, members, m + set.len(), held, least),
+        Finding::Nothing => {
+            if keep {
+                return settle(nodes, n + 1, members, m + set.len(), held, least);
+            }
+            let r = show(nodes, n + 1, least);
+            let size = set.len();
+            row::put_back(nodes, n, members, m, size, &saved_node, &saved_set);
+            r
+        }
         Finding::Found { why, place } => {
             row::put_back(nodes, n, members, m, set.len(), &saved_node, &saved_set);
             turn_away(
@@ -240,6 +249,39 @@ pub fn add(
             )
         }
     }
+}
+
+// A node row is added at the end.
+pub fn add(
+    schema: &[i32],
+    schema_rows: usize,
+    proof: &[i32],
+    proof_rows: usize,
+    root: i32,
+    least: i32,
+    nodes: &mut [i32],
+    members: &mut [i32],
+    held: &mut [usize; 2],
+    row: &[i32],
+    set: &[i32],
+) -> Growth
+    ensures answer { λ r. ⌜ r ≡ answered (state (now (schema .entry)) «schema_rows» (now (proof .entry)) «proof_rows» root least (now (nodes .entry)) (now (members .entry)) (now (held .entry))) (addRow (rowFrom (now (row .entry)) (now (set .entry)))) ⌝ }
+    ensures left { λ r. ⌜ state (now (schema .entry)) «schema_rows» (now (proof .entry)) «proof_rows» root least (now (nodes .exit)) (now (members .exit)) (now (held .exit)) ≡ after (state (now (schema .entry)) «schema_rows» (now (proof .entry)) «proof_rows» root least (now (nodes .entry)) (now (members .entry)) (now (held .entry))) (addRow (rowFrom (now (row .entry)) (now (set .entry)))) ⌝ }
+{
+    try_row(
+        true,
+        schema,
+        schema_rows,
+        proof,
+        proof_rows,
+        root,
+        least,
+        nodes,
+        members,
+        held,
+        row,
+        set,
+    )
 }
 
 // The last row is taken back. Its set stands at the end of the members.

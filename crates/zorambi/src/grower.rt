@@ -8,8 +8,10 @@ ghost use lib.IntN.{pos};
 ghost use Rattle.stab.specs.Basic.{if_then_else_};
 ghost use Rattle.stab.specs.Answer.{Packs};
 ghost use Rattle.growing.specs.Growing.{begun, beginAnswer, add, takeBack, answered, after, growthPacked, shownNumber};
+ghost use Rattle.growing.specs.Enquiry.{edited, grow};
 ghost use Rattle.grow.specs.State.{state, rowFrom};
 ghost use Rattle.grow.specs.Packed.{asVerdict};
+ghost use Rattle.enquire.specs.Editing.{editor};
 
 // 1 for closed.
 fn shown_of(closed: bool) -> i32
@@ -19,7 +21,7 @@ fn shown_of(closed: bool) -> i32
 }
 
 // What a call answers, as the one number, and whether the tableau is closed.
-fn told(r: Growth, shown: &mut [i32; 1]) -> u64
+pub fn told(r: Growth, shown: &mut [i32; 1]) -> u64
     requires { ⌜ Packs (asVerdict r) ⌝ }
     ensures { λ v. ⌜ v ≡ growthPacked r ⌝ }
     ensures { λ v. ⌜ now (shown .exit) ≡ pos (shownNumber r) ∷ [] ⌝ }
@@ -72,7 +74,8 @@ pub extern "C" fn zorambi_begin(
     told(r, shown)
 }
 
-// A node row is added at the end of the rows held: seven numbers, and its set. A refused call leaves all as it stood.
+// A node row is added at the end of the rows held: seven numbers, and its set. After it nothing waits. A refused call leaves all as it
+// stood.
 #[no_mangle]
 pub extern "C" fn zorambi_add(
     schema: &[i32],
@@ -87,12 +90,14 @@ pub extern "C" fn zorambi_add(
     shown: &mut [i32; 1],
     row: &[i32; 7],
     set: &[i32],
+    waiting: &mut [i32; 1033],
 ) -> u64
     ensures answer { λ r. ⌜ r ≡ growthPacked (answered (state (now (schema .entry)) «schema_rows» (now (proof .entry)) «proof_rows» root least (now (nodes .entry)) (now (members .entry)) (now (held .entry))) (add (rowFrom (now (row .entry)) (now (set .entry))))) ⌝ }
     ensures shown { λ r. ⌜ now (shown .exit) ≡ pos (shownNumber (answered (state (now (schema .entry)) «schema_rows» (now (proof .entry)) «proof_rows» root least (now (nodes .entry)) (now (members .entry)) (now (held .entry))) (add (rowFrom (now (row .entry)) (now (set .entry)))))) ∷ [] ⌝ }
     ensures left { λ r. ⌜ state (now (schema .entry)) «schema_rows» (now (proof .entry)) «proof_rows» root least (now (nodes .exit)) (now (members .exit)) (now (held .exit)) ≡ after (state (now (schema .entry)) «schema_rows» (now (proof .entry)) «proof_rows» root least (now (nodes .entry)) (now (members .entry)) (now (held .entry))) (add (rowFrom (now (row .entry)) (now (set .entry)))) ⌝ }
+    ensures waiting { λ r. ⌜ now (waiting .exit) ≡ edited (editor (now (schema .entry)) «schema_rows» (now (proof .entry)) «proof_rows» root least (now (nodes .entry)) (now (members .entry)) (now (held .entry)) (now (waiting .entry))) (grow (add (rowFrom (now (row .entry)) (now (set .entry))))) .waiting ⌝ }
 {
-    let r = grow::add(
+    let r = enquire::add(
         schema,
         schema_rows,
         proof,
@@ -104,11 +109,12 @@ pub extern "C" fn zorambi_add(
         held,
         row,
         set,
+        waiting,
     );
     told(r, shown)
 }
 
-// The last row is taken back. A refused call leaves all as it stood.
+// The last row is taken back. After it nothing waits. A refused call leaves all as it stood.
 #[no_mangle]
 pub extern "C" fn zorambi_take_back(
     schema: &[i32],
@@ -121,12 +127,14 @@ pub extern "C" fn zorambi_take_back(
     members: &mut [i32],
     held: &mut [usize; 2],
     shown: &mut [i32; 1],
+    waiting: &mut [i32; 1033],
 ) -> u64
     ensures answer { λ r. ⌜ r ≡ growthPacked (answered (state (now (schema .entry)) «schema_rows» (now (proof .entry)) «proof_rows» root least (now (nodes .entry)) (now (members .entry)) (now (held .entry))) takeBack) ⌝ }
     ensures shown { λ r. ⌜ now (shown .exit) ≡ pos (shownNumber (answered (state (now (schema .entry)) «schema_rows» (now (proof .entry)) «proof_rows» root least (now (nodes .entry)) (now (members .entry)) (now (held .entry))) takeBack)) ∷ [] ⌝ }
     ensures left { λ r. ⌜ state (now (schema .entry)) «schema_rows» (now (proof .entry)) «proof_rows» root least (now (nodes .exit)) (now (members .exit)) (now (held .exit)) ≡ after (state (now (schema .entry)) «schema_rows» (now (proof .entry)) «proof_rows» root least (now (nodes .entry)) (now (members .entry)) (now (held .entry))) takeBack ⌝ }
+    ensures waiting { λ r. ⌜ now (waiting .exit) ≡ edited (editor (now (schema .entry)) «schema_rows» (now (proof .entry)) «proof_rows» root least (now (nodes .entry)) (now (members .entry)) (now (held .entry)) (now (waiting .entry))) (grow takeBack) .waiting ⌝ }
 {
-    let r = grow::take_back(
+    let r = enquire::take_back(
         schema,
         schema_rows,
         proof,
@@ -136,6 +144,7 @@ pub extern "C" fn zorambi_take_back(
         nodes,
         members,
         held,
+        waiting,
     );
     told(r, shown)
 }

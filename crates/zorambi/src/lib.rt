@@ -1,5 +1,6 @@
 // The entries that provers call, from Rust and C: numbers and slices in, one number back.
 pub mod again;
+pub mod enquirer;
 pub mod failing;
 pub mod fault;
 pub mod grower;

@@ -6,11 +6,14 @@ use mir.Facts.{toZ-ofZ}
 use denote.Ref.{now}
 use Rattle.stab.specs.Node.{Tableau}
 use Rattle.stab.specs.Answer.{Packs}
-use Rattle.growing.specs.Growing.{takeBack, answered, after, growthPacked, shownNumber}
+use Rattle.growing.specs.Growing.{takeBack, answered, growthPacked, shownNumber}
 use Rattle.growing.specs.declared.Growth.{Growth}
 use Rattle.grow.specs.State.{state}
+use Rattle.growing.specs.Enquiry.{Editor, editorAnswer, edited, grow}
 use Rattle.grow.specs.Packed.{asVerdict}
 use Rattle.grow.proofs.Packs.{call-packs}
+use Rattle.enquire.specs.Editing.{editor}
+use Rattle.enquire.proofs.Edits.{call-answer, held-is}
 use Rattle.zorambi.proofs.grower.zorambi_take_back.Statement.{statement}
 use Rattle.zorambi.proofs.grower.zorambi_take_back.Tie as tie
 
@@ -26,22 +29,30 @@ here c = lentAt c (c .args .root) (c .args .least)
 take-back-requires : tie.Need-take-back-requires
 take-back-requires c κs = search needs
 
+abbrev editorAt : tie.Start → ℤ → ℤ → Editor
+editorAt c root least =
+    let a = c .args in
+    editor (now (a .schema)) (a .schema-rows) (now (a .proof)) (a .proof-rows) root least (now (a .nodes)) (now (a .members)) (now (a .held)) (now (a .waiting))
+
 -- a signed number is kept as bits, and read back from them
-answer-is : (c : tie.After-take-back) → let b = c .before .before .before .before in c .take-back .result ≡ answered (here b) takeBack
+answer-is : (c : tie.After-take-back) → let b = c .before .before .before .before .before in c .take-back .result ≡ answered (here b) takeBack
+unfolding editor
 answer-is c =
-    let b = c .before .before .before .before in
-    c .take-back .ensures .0 ∙ ap₂ (λ (r l : ℤ). answered (lentAt b r l) takeBack) (toZ-ofZ (b .fits .root)) (toZ-ofZ (b .fits .least))
+    let b = c .before .before .before .before .before in
+    c .take-back .ensures .0
+    ∙ ap₂ (λ (r l : ℤ). editorAnswer (editorAt b r l) (grow takeBack)) (toZ-ofZ (b .fits .root)) (toZ-ofZ (b .fits .least))
+    ∙ sym (call-answer (editorAt b (b .args .root) (b .args .least)) takeBack)
 
 left-is : (c : tie.After-take-back) →
-    let b = c .before .before .before .before in
+    let b = c .before .before .before .before .before in
     let a = b .args in
-    state (now (a .schema)) (a .schema-rows) (now (a .proof)) (a .proof-rows) (a .root) (a .least) (c .take-back .last .1 .1 .1 .1 .1 .1 .0) (c .take-back .last .1 .1 .1 .1 .1 .1 .1 .0) (c .take-back .last .1 .1 .1 .1 .1 .1 .1 .1 .0) ≡ after (here b) takeBack
+    editor (now (a .schema)) (a .schema-rows) (now (a .proof)) (a .proof-rows) (a .root) (a .least) (c .take-back .last .1 .1 .1 .1 .1 .1 .0) (c .take-back .last .1 .1 .1 .1 .1 .1 .1 .0) (c .take-back .last .1 .1 .1 .1 .1 .1 .1 .1 .0) (c .take-back .last .1 .1 .1 .1 .1 .1 .1 .1 .1 .0) ≡ edited (editorAt b (a .root) (a .least)) (grow takeBack)
 left-is c =
-    let b = c .before .before .before .before in
+    let b = c .before .before .before .before .before in
     let a = b .args in
-    sym (ap₂ (λ (r l : ℤ). state (now (a .schema)) (a .schema-rows) (now (a .proof)) (a .proof-rows) r l (c .take-back .last .1 .1 .1 .1 .1 .1 .0) (c .take-back .last .1 .1 .1 .1 .1 .1 .1 .0) (c .take-back .last .1 .1 .1 .1 .1 .1 .1 .1 .0)) (toZ-ofZ (b .fits .root)) (toZ-ofZ (b .fits .least)))
+    sym (ap₂ (λ (r l : ℤ). editor (now (a .schema)) (a .schema-rows) (now (a .proof)) (a .proof-rows) r l (c .take-back .last .1 .1 .1 .1 .1 .1 .0) (c .take-back .last .1 .1 .1 .1 .1 .1 .1 .0) (c .take-back .last .1 .1 .1 .1 .1 .1 .1 .1 .0) (c .take-back .last .1 .1 .1 .1 .1 .1 .1 .1 .1 .0)) (toZ-ofZ (b .fits .root)) (toZ-ofZ (b .fits .least)))
     ∙ c .take-back .ensures .1
-    ∙ ap₂ (λ (r l : ℤ). after (lentAt b r l) takeBack) (toZ-ofZ (b .fits .root)) (toZ-ofZ (b .fits .least))
+    ∙ ap₂ (λ (r l : ℤ). edited (editorAt b r l) (grow takeBack)) (toZ-ofZ (b .fits .root)) (toZ-ofZ (b .fits .least))
 
 told-requires : tie.Need-told-requires
 told-requires c κs =
@@ -55,9 +66,14 @@ same-length-2 : tie.Need-same-length-2
 same-length-2 c = search needs
 
 returns : tie.Need-returns
+unfolding editor
 returns c =
     let k = c .before .before .before .before in
-    (c .told .ensures .0 ∙ ap growthPacked (answer-is k), (c .told .ensures .1 ∙ ap (λ (r : Growth). pos (shownNumber r) ∷ []) (answer-is k), left-is k))
+    let b = k .before .before .before .before .before in
+    let E = editorAt b (b .args .root) (b .args .least) in (
+      c .told .ensures .0 ∙ ap growthPacked (answer-is k),
+      (c .told .ensures .1 ∙ ap (λ (r : Growth). pos (shownNumber r) ∷ []) (answer-is k), (ap (λ (F : Editor). F .held) (left-is k) ∙ held-is E takeBack, ap (λ (F : Editor). F .waiting) (left-is k))),
+    )
 
 pub zorambi-take-back-spec : {M : Type 1} → statement M
 zorambi-take-back-spec = tie.close (tie.spec take-back-requires told-requires same-length same-length-2 returns)

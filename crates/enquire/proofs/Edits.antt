@@ -1,0 +1,195 @@
+-- What a call answers and leaves, from what is found.
+use Prim.Native.Nat.{ℕ, _+_, _*_, _≤_}
+use native.Mathlib.Omega.{arith}
+use mathlib.Core.Path.{_≡_, refl, sym, _∙_, ap, ap₂}
+use mathlib.Core.Bool.{Bool, true, false}
+use mathlib.Core.List.{List, [], _∷_, _++_}
+use mathlib.Core.Option.{Option, none, some}
+use lib.IntN.{ℤ, pos}
+use lib.ListN.{length, getD, take, drop}
+use lib.Seq.{sets, getD-take, getD-drop, length-sets}
+use Rattle.stab.specs.Basic.{nat, _otherwise_}
+use Rattle.stab.specs.Node.{Tableau}
+use Rattle.stab.specs.Check.{wholeUnless}
+use Rattle.stab.specs.Text.{padded}
+use Rattle.stab.specs.declared.Place.{Place}
+use Rattle.stab.specs.declared.Place.the-variants.{Whole}
+use Rattle.stab.specs.declared.Refusal.{Refusal}
+use Rattle.stab.specs.declared.Refusal.the-variants.{Waiting}
+use Rattle.stab.specs.declared.Verdict.{Verdict}
+use Rattle.stab.specs.declared.Verdict.the-variants.{Accepted, Refused}
+use Rattle.stab.proofs.Bools.{some-unless, otherwise-some, otherwise-same}
+use Rattle.folds.proofs.Fronts.{sets-more}
+use Rattle.signed.specs.Numbers.{cleared}
+use Rattle.signed.proofs.Tables.{cleared-padded}
+use Rattle.growing.specs.Growing.{heldRefusal, NodeRow, added, addRefusal, takeBackRefusal, growthBy, leftBy, Call, add, takeBack, callRefusal, changed, answered, after}
+use Rattle.growing.specs.Enquiry.{stored, nothingWaits, waits, waitingRow, Editor, EditorCall, enquire, commit, grow, commitRefusal, editorRefusal, spokenOf, editorAnswer, heldAfter, waitingAfter, waitingRefused, waitingBy, edited}
+use Rattle.growing.specs.declared.Growth.{Growth}
+use Rattle.growing.specs.declared.Growth.the-variants.{Held, Refused as GrowthRefused}
+use Rattle.growing.proofs.Grown.{refused-leaves}
+use Rattle.growing.proofs.Enquiries.{commit-judged}
+use Rattle.grow.specs.State.{rowFrom}
+use Rattle.grow.proofs.Calls.{accepted-left}
+
+-- ---- what an answer says
+
+held-means : (x : Option Verdict) (T : Tableau) (n l : ℕ) (shown : Bool) → growthBy x T ≡ Held n l shown → x ≡ none
+unfolding growthBy
+held-means none T n l shown e = refl
+held-means (some (Refused why p)) T n l shown e = let z : _≡_ {A = ℕ} 0 1 = cc in absurd (omega arith)
+held-means (some (Accepted a b)) T n l shown e = let z : _≡_ {A = ℕ} 0 1 = cc in absurd (omega arith)
+
+refused-means : (x : Option Verdict) (T : Tableau) (why : Refusal) (p : Place) → growthBy x T ≡ GrowthRefused why p → (v : Verdict) × (x ≡ some v)
+unfolding growthBy
+refused-means none T why p e = let z : _≡_ {A = ℕ} 0 1 = cc in absurd (omega arith)
+refused-means (some v) T why p e = (v, refl)
+
+pub call-held : (T : Tableau) (call : Call) (n l : ℕ) (shown : Bool) → answered T call ≡ Held n l shown → callRefusal T call ≡ none
+unfolding answered
+call-held T call n l shown e = held-means (callRefusal T call) (changed T call) n l shown e
+
+pub call-refused : (T : Tableau) (call : Call) (why : Refusal) (p : Place) → answered T call ≡ GrowthRefused why p → (v : Verdict) × (callRefusal T call ≡ some v)
+unfolding answered
+call-refused T call why p e = refused-means (callRefusal T call) (changed T call) why p e
+
+-- ---- enquiry
+
+pub enquiry-answer : (E : Editor) (w : NodeRow) → answered (E .held) (add w) ≡ editorAnswer E (enquire w)
+unfolding answered callRefusal changed editorAnswer editorRefusal spokenOf
+enquiry-answer E w = refl
+
+pub enquired-yes : (E : Editor) (w : NodeRow) → callRefusal (E .held) (add w) ≡ none → edited E (enquire w) ≡ (record { held = E .held; waiting = stored w })
+unfolding callRefusal edited editorRefusal heldAfter leftBy waitingBy waitingAfter
+enquired-yes E w e i = record {
+  held = ap (λ (x : Option Verdict). leftBy x (E .held) (E .held)) e i;
+  waiting = ap (λ (x : Option Verdict). waitingBy x (E .waiting) (enquire w)) e i;
+}
+
+pub enquired-no : (E : Editor) (w : NodeRow) (v : Verdict) → callRefusal (E .held) (add w) ≡ some v → edited E (enquire w) ≡ (record { held = E .held; waiting = nothingWaits })
+unfolding callRefusal edited editorRefusal heldAfter leftBy waitingBy waitingRefused
+enquired-no E w v e i = record {
+  held = ap (λ (x : Option Verdict). leftBy x (E .held) (E .held)) e i;
+  waiting = ap (λ (x : Option Verdict). waitingBy x (E .waiting) (enquire w)) e i;
+}
+
+-- ---- adding and taking back
+
+same-refusal : (E : Editor) (call : Call) → editorRefusal E (grow call) ≡ callRefusal (E .held) call
+unfolding callRefusal editorRefusal
+same-refusal E (add w) = refl
+same-refusal E takeBack = refl
+
+same-rows : (E : Editor) (call : Call) → heldAfter E (grow call) ≡ changed (E .held) call
+unfolding heldAfter changed
+same-rows E (add w) = refl
+same-rows E takeBack = refl
+
+same-spoken : (E : Editor) (call : Call) → spokenOf E (grow call) ≡ changed (E .held) call
+unfolding spokenOf changed
+same-spoken E (add w) = refl
+same-spoken E takeBack = refl
+
+pub call-answer : (E : Editor) (call : Call) → answered (E .held) call ≡ editorAnswer E (grow call)
+unfolding answered editorAnswer
+call-answer E call = sym (ap₂ growthBy (same-refusal E call) (same-spoken E call))
+
+pub held-is : (E : Editor) (call : Call) → edited E (grow call) .held ≡ after (E .held) call
+unfolding edited after
+held-is E call = ap₂ (λ (x : Option Verdict) (U : Tableau). leftBy x (E .held) U) (same-refusal E call) (same-rows E call)
+
+pub called-yes : (E : Editor) (call : Call) → callRefusal (E .held) call ≡ none → edited E (grow call) ≡ (record { held = after (E .held) call; waiting = nothingWaits })
+unfolding edited waitingBy waitingAfter
+called-yes E call e i = record {
+  held = held-is E call i;
+  waiting = ap (λ (x : Option Verdict). waitingBy x (E .waiting) (grow call)) (same-refusal E call ∙ e) i;
+}
+
+pub called-no : (E : Editor) (call : Call) (v : Verdict) → callRefusal (E .held) call ≡ some v → edited E (grow call) ≡ (record { held = after (E .held) call; waiting = E .waiting })
+unfolding edited waitingBy waitingRefused
+called-no E call v e i = record {
+  held = held-is E call i;
+  waiting = ap (λ (x : Option Verdict). waitingBy x (E .waiting) (grow call)) (same-refusal E call ∙ e) i;
+}
+
+-- ---- commit
+
+module _ (E : Editor) (h : waits (E .waiting) ≡ true) where
+  abbrev w : NodeRow
+  w = waitingRow (E .waiting)
+
+  judged : commitRefusal E ≡ callRefusal (E .held) (add w)
+  unfolding callRefusal
+  judged = commit-judged E h
+
+  pub commit-answer : answered (E .held) (add w) ≡ editorAnswer E commit
+  unfolding answered changed editorAnswer editorRefusal spokenOf
+  commit-answer = sym (ap (λ (x : Option Verdict). growthBy x (added (E .held) w)) judged)
+
+  held-as : edited E commit .held ≡ after (E .held) (add w)
+  unfolding edited after editorRefusal heldAfter changed
+  held-as = ap (λ (x : Option Verdict). leftBy x (E .held) (added (E .held) w)) judged
+
+  pub committed-yes : callRefusal (E .held) (add w) ≡ none → edited E commit ≡ (record { held = after (E .held) (add w); waiting = nothingWaits })
+  unfolding edited editorRefusal waitingBy waitingAfter
+  committed-yes e i = record {
+    held = held-as i;
+    waiting = ap (λ (x : Option Verdict). waitingBy x (E .waiting) commit) (judged ∙ e) i;
+  }
+
+  pub committed-no : (v : Verdict) → callRefusal (E .held) (add w) ≡ some v → edited E commit ≡ (record { held = after (E .held) (add w); waiting = E .waiting })
+  unfolding edited editorRefusal waitingBy waitingRefused
+  committed-no v e i = record {
+    held = held-as i;
+    waiting = ap (λ (x : Option Verdict). waitingBy x (E .waiting) commit) (judged ∙ e) i;
+  }
+
+module _ (E : Editor) (h : waits (E .waiting) ≡ false) where
+  pub nothing-waits : commitRefusal E ≡ (heldRefusal (E .held) otherwise some (Refused Waiting Whole))
+  unfolding commitRefusal wholeUnless
+  nothing-waits = otherwise-same (heldRefusal (E .held)) _ _ (λ e. otherwise-some _ _ _ (some-unless (waits (E .waiting)) _ h))
+
+  pub no-commit-answer : (r : Growth) → ((U : Tableau) → r ≡ growthBy (heldRefusal (E .held) otherwise some (Refused Waiting Whole)) U) → r ≡ editorAnswer E commit
+  unfolding editorAnswer editorRefusal
+  no-commit-answer r f = f (spokenOf E commit) ∙ ap (λ (x : Option Verdict). growthBy x (spokenOf E commit)) (sym nothing-waits)
+
+  pub no-commit : edited E commit ≡ E
+  unfolding edited editorRefusal leftBy waitingBy waitingRefused _otherwise_
+  no-commit = go (heldRefusal (E .held)) nothing-waits
+    where
+      go : (x : Option Verdict) → commitRefusal E ≡ (x otherwise some (Refused Waiting Whole)) → (record { held = leftBy (commitRefusal E) (E .held) (heldAfter E commit); waiting = waitingBy (commitRefusal E) (E .waiting) commit }) ≡ E
+      go none e = λ i. record { held = ap (λ (x : Option Verdict). leftBy x (E .held) (heldAfter E commit)) e i; waiting = ap (λ (x : Option Verdict). waitingBy x (E .waiting) commit) e i }
+      go (some v) e = λ i. record { held = ap (λ (x : Option Verdict). leftBy x (E .held) (heldAfter E commit)) e i; waiting = ap (λ (x : Option Verdict). waitingBy x (E .waiting) commit) e i }
+
+-- ---- the waiting row in its memory
+
+-- its parts are the row
+pub parts : (W : List ℤ) → rowFrom (take 7 (drop 2 W)) (take (nat (getD W 1 (pos 0))) (drop 9 W)) ≡ waitingRow W
+unfolding rowFrom waitingRow
+parts W i = record {
+  up = (getD-take 7 (drop 2 W) 0 (pos 0) (omega arith) ∙ getD-drop 2 W 0 (pos 0)) i;
+  rule = (getD-take 7 (drop 2 W) 1 (pos 0) (omega arith) ∙ getD-drop 2 W 1 (pos 0)) i;
+  on = (getD-take 7 (drop 2 W) 2 (pos 0) (omega arith) ∙ getD-drop 2 W 2 (pos 0)) i;
+  with = (getD-take 7 (drop 2 W) 3 (pos 0) (omega arith) ∙ getD-drop 2 W 3 (pos 0)) i;
+  other = (getD-take 7 (drop 2 W) 4 (pos 0) (omega arith) ∙ getD-drop 2 W 4 (pos 0)) i;
+  to = (getD-take 7 (drop 2 W) 5 (pos 0) (omega arith) ∙ getD-drop 2 W 5 (pos 0)) i;
+  by = (getD-take 7 (drop 2 W) 6 (pos 0) (omega arith) ∙ getD-drop 2 W 6 (pos 0)) i;
+  members = take (nat (getD W 1 (pos 0))) (drop 9 W);
+}
+
+-- nine numbers and a set, stored one after another, the rest 0
+pub stored-so : (W front set : List ℤ) → length W ≡ 1033 → length front ≡ 9 → length set ≤ 1024 → cleared (sets (sets W 0 front) 9 set) (9 + length set) ≡ padded (pos 0) 1033 (front ++ set)
+stored-so W front set e f g =
+    cleared-padded (sets (sets W 0 front) 9 set) (9 + length set) 1033 (omega (arith, a, b)) (b ∙ a ∙ e)
+    ∙ ap (padded (pos 0) 1033) (sets-more (sets W 0 front) set 9 (omega (arith, a)) ∙ ap (λ (l : List ℤ). l ++ set) first)
+  where
+    a : length (sets W 0 front) ≡ length W
+    a = length-sets W 0 front
+
+    b : length (sets (sets W 0 front) 9 set) ≡ length (sets W 0 front)
+    b = length-sets (sets W 0 front) 9 set
+
+    nine : 9 ≡ 0 + length front
+    nine = omega (arith, f)
+
+    first : take 9 (sets W 0 front) ≡ front
+    first = ap (λ (n : ℕ). take n (sets W 0 front)) nine ∙ sets-more W front 0 (omega (arith, f))
