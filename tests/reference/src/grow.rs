@@ -1,4 +1,4 @@
-//! A tableau that grows row by row: document 02, No. 7.
+//! A tableau that grows row by row: document 02, No. 7; enquiries about a row, and commits: No. 8.
 
 use crate::formula::{judge_rows, Twice};
 use crate::tableau::{self, judge_tables, Kept, Missing};
@@ -15,14 +15,18 @@ pub struct Given<'a> {
     pub proof_count: usize,
 }
 
+/// The numbers of a row that waits: 1, its set's length, its seven numbers, its set, and 0 past it.
+pub const WAITING: usize = 2 + 7 + MAX_ROWS;
+
 /// The memory in which the rows held stand: the tables, how many nodes and members they hold, and 1 where "closed" is
-/// shown.
+/// shown. And the row last enquired about, if it waits for a commit; all 0 if none does.
 #[derive(Clone, Debug, PartialEq, Eq)]
 pub struct Memory {
     pub nodes: Vec<i32>,
     pub members: Vec<i32>,
     pub held: [usize; 2],
     pub shown: i32,
+    pub waiting: [i32; WAITING],
 }
 
 impl Memory {
@@ -61,6 +65,21 @@ impl Memory {
         self.held = [nodes, members];
         self.nodes[nodes * NODE_WIDTH..].fill(0);
         self.members[members..].fill(0);
+    }
+
+    /// The row that waits, whoever wrote it.
+    fn waiting(&self) -> Option<([i32; 7], Vec<i32>)> {
+        let [flag, length, row @ ..] = &self.waiting;
+        let length = usize::try_from(*length).ok().filter(|length| *length <= MAX_ROWS && *flag == 1)?;
+        let (row, set) = row.split_at(7);
+        Some((std::array::from_fn(|field| row[field]), set[..length].to_vec()))
+    }
+
+    fn wait(&mut self, row: &[i32; 7], set: &[i32]) {
+        self.waiting.fill(0);
+        self.waiting[..2].copy_from_slice(&[1, set.len() as i32]);
+        self.waiting[2..9].copy_from_slice(row);
+        self.waiting[9..][..set.len()].copy_from_slice(set);
     }
 
     /// Adds a row for which there is room.
@@ -106,22 +125,46 @@ fn with_row(given: &Given, memory: &Memory, row: &[i32; 7], set: &[i32]) -> Resu
     Ok(Verdict::accepted(kept.nodes(), kept.links()))
 }
 
-/// Adds a node row at the end. A refused call changes no row.
+/// Adds a node row at the end, and no row waits. A refused call changes no row.
 pub fn add(given: &Given, memory: &mut Memory, row: &[i32; 7], set: &[i32]) -> Verdict {
     let judged = with_row(given, memory, row, set);
     if judged.is_ok() {
         memory.push(row, set);
+        memory.waiting.fill(0);
     }
     show(given, memory, judged)
 }
 
-/// Takes the last node row back.
+/// Answers as adding would, and changes no row: a row that would be added waits, otherwise none does.
+pub fn enquire(given: &Given, memory: &mut Memory, row: &[i32; 7], set: &[i32]) -> Verdict {
+    let mut with_it = memory.clone();
+    let verdict = add(given, &mut with_it, row, set);
+    memory.shown = with_it.shown;
+    memory.waiting.fill(0);
+    if verdict.answer == 0 {
+        memory.wait(row, set);
+    }
+    verdict
+}
+
+/// Adds the row that waits.
+pub fn commit(given: &Given, memory: &mut Memory) -> Verdict {
+    let judged = memory.judge(given).map(|_| memory.waiting());
+    match judged {
+        Err(refusal) => show(given, memory, Err(refusal)),
+        Ok(None) => show(given, memory, refuse(26, -1)),
+        Ok(Some((row, set))) => add(given, memory, &row, &set),
+    }
+}
+
+/// Takes the last node row back, and no row waits.
 pub fn take_back(given: &Given, memory: &mut Memory) -> Verdict {
     let judged = without_last(given, memory);
     if judged.is_ok() {
         let nodes = memory.held[0] - 1;
         let length = memory.nodes[nodes * NODE_WIDTH + 8] as usize;
         memory.hold(nodes, memory.held[1] - length);
+        memory.waiting.fill(0);
     }
     show(given, memory, judged)
 }
@@ -161,7 +204,7 @@ mod tests {
 
     /// Memory with rubbish in it, of these lengths.
     fn rubbish(nodes: usize, members: usize) -> Memory {
-        Memory { nodes: vec![-7; nodes], members: vec![7; members], held: [3, 5], shown: 7 }
+        Memory { nodes: vec![-7; nodes], members: vec![7; members], held: [3, 5], shown: 7, waiting: [0; WAITING] }
     }
 
     fn accepted(nodes: usize, links: usize) -> Verdict {
@@ -318,7 +361,8 @@ mod tests {
         let away = |expected: (u8, i32), given: Given| {
             let mut memory = rubbish(20, 3);
             assert_eq!(begin(&given, &mut memory), refused(expected.0, expected.1));
-            assert_eq!(memory, Memory { nodes: vec![0; 20], members: vec![0; 3], held: [0, 0], shown: 0 });
+            let waiting = memory.waiting;
+            assert_eq!(memory, Memory { nodes: vec![0; 20], members: vec![0; 3], held: [0, 0], shown: 0, waiting });
         };
         away((2, -1), Given { schema_count: 6, ..GIVEN });
         away((2, -1), Given { proof_count: usize::MAX, ..GIVEN });
@@ -336,5 +380,87 @@ mod tests {
         let mut memory = grown(7);
         memory.shown = 7;
         assert_eq!(take_back(&Given { least: 2, ..GIVEN }, &mut memory), refused(14, 2));
+    }
+
+    /// The call is accepted.
+    fn says_yes(memory: &mut Memory, nodes: usize, links: usize, call: impl FnOnce(&mut Memory) -> Verdict) {
+        assert_eq!(call(memory), accepted(nodes, links));
+    }
+
+    #[test]
+    fn enquiries_and_commits() {
+        let mut memory = grown(5);
+        leaves(&memory, (26, -1), |memory| commit(&GIVEN, memory));
+        memory.nodes[100] = 5;
+        let before = memory.clone();
+        let ((row, set), (other, other_set)) = (ROWS[5], ROWS[6]);
+        says_yes(&mut memory, 6, 1, |memory| enquire(&GIVEN, memory, &row, set));
+        let mut waiting = [0; WAITING];
+        waiting[..11].copy_from_slice(&[1, 2, 4, 8, -1, -1, -1, 1, 1, 5, 7]);
+        // No row is changed, and what is past the rows held is as it was.
+        assert_eq!(memory, Memory { waiting, ..before.clone() });
+        // One that says no leaves nothing to commit.
+        assert_eq!(enquire(&GIVEN, &mut memory, &row, &[7, 5]), refused(9, 5));
+        assert_eq!(memory, before);
+        leaves(&memory, (26, -1), |memory| commit(&GIVEN, memory));
+        // The last one counts; a refused addition or take-back leaves it waiting.
+        says_yes(&mut memory, 6, 0, |memory| enquire(&GIVEN, memory, &[4, 2, -1, -1, -1, -1, 0], &[2, 5, 7]));
+        says_yes(&mut memory, 6, 1, |memory| enquire(&GIVEN, memory, &row, set));
+        leaves(&memory, (9, 5), |memory| add(&GIVEN, memory, &row, &[7, 5]));
+        leaves(&memory, (6, -1), |memory| take_back(&Given { root: 0, ..GIVEN }, memory));
+        says_yes(&mut memory, 6, 1, |memory| commit(&GIVEN, memory));
+        assert_eq!(memory, Memory { shown: 0, ..grown(6) });
+        leaves(&memory, (26, -1), |memory| commit(&GIVEN, memory));
+        // Closed is shown as if the row were there, then because it is.
+        says_yes(&mut memory, 7, 1, |memory| enquire(&GIVEN, memory, &other, other_set));
+        assert_eq!((memory.shown, memory.held), (1, [6, 12]));
+        says_yes(&mut memory, 7, 1, |memory| commit(&GIVEN, memory));
+        assert_eq!(memory, grown(7));
+    }
+
+    #[test]
+    fn calls_that_leave_nothing_to_commit() {
+        let (row, set) = ROWS[5];
+        let mut memory = grown(5);
+        says_yes(&mut memory, 6, 1, |memory| enquire(&GIVEN, memory, &row, set));
+        says_yes(&mut memory, 4, 0, |memory| take_back(&GIVEN, memory));
+        leaves(&memory, (26, -1), |memory| commit(&GIVEN, memory));
+        let mut memory = grown(5);
+        says_yes(&mut memory, 6, 1, |memory| enquire(&GIVEN, memory, &row, set));
+        says_yes(&mut memory, 6, 1, |memory| add(&GIVEN, memory, &row, set));
+        leaves(&memory, (26, -1), |memory| commit(&GIVEN, memory));
+        assert_eq!(memory, grown(6));
+    }
+
+    #[test]
+    fn rows_altered_while_they_wait() {
+        let (row, set) = ROWS[5];
+        let mut memory = grown(5);
+        says_yes(&mut memory, 6, 1, |memory| enquire(&GIVEN, memory, &row, set));
+        let altered = |expected: (u8, i32), alter: &dyn Fn(&mut Memory)| {
+            let mut memory = memory.clone();
+            alter(&mut memory);
+            leaves(&memory, expected, |memory| commit(&GIVEN, memory));
+        };
+        for (at, number) in [(0, 0), (0, 2), (0, -1), (1, -1), (1, 1025), (1, i32::MIN), (1, i32::MAX)] {
+            altered((26, -1), &|memory| memory.waiting[at] = number);
+        }
+        altered((9, 5), &|memory| memory.waiting[1] = 1024);
+        altered((16, 5), &|memory| memory.waiting[1] = 1);
+        altered((10, 5), &|memory| memory.waiting[2] = 5);
+        altered((17, 5), &|memory| memory.waiting[2] = 0);
+        altered((12, 5), &|memory| memory.waiting[3] = 9);
+        altered((13, 5), &|memory| memory.waiting[7] = 5);
+        altered((14, 5), &|memory| memory.waiting[8] = 2);
+        altered((9, 5), &|memory| memory.waiting[10] = 5);
+        altered((11, 5), &|memory| memory.waiting[10] = 6);
+        altered((24, -1), &|memory| memory.nodes.truncate(53));
+        altered((24, -1), &|memory| memory.members.truncate(11));
+        // The rows held come first.
+        altered((12, 2), &|memory| (memory.nodes[19], memory.waiting[0]) = (9, 0));
+        // What stands past its set is not looked at.
+        memory.waiting[11] = 9;
+        says_yes(&mut memory, 6, 1, |memory| commit(&GIVEN, memory));
+        assert_eq!(memory, grown(6));
     }
 }

@@ -12,7 +12,7 @@
 //! * [`again`]: a text read and written again, rows written and read again
 //! * [`tidy`]: older records without rows written twice (No. 10, "Tidying older records")
 //! * [`join`]: one record for two (No. 11, "One record for either fault")
-//! * [`grow`]: a tableau that grows row by row (No. 7, "A tableau that grows on screen")
+//! * [`grow`]: a tableau that grows row by row (No. 7, "A tableau that grows on screen", and No. 8, "Enquiry and commit")
 //! * [`packed`]: the one number that provers get
 //! * [`program`]: the check program, from texts to the four numbers
 //! * [`small`]: small schemata one after another (No. 14, "All small schemata")
