@@ -191,9 +191,19 @@ uint64_t zorambi_join(const int32_t *schema_1, size_t schema_1_len, size_t schem
  *
  * zorambi_take_back takes the last row back; ZORAMBI_NO_ROW (place -1) if none is held.
  *
- * After an accepted call held is the new number of nodes and members, the tables are 0 past these, shown is 1 exactly when
- * zorambi_check accepts the rows held, and the number has the nodes and links held. A refused zorambi_add or zorambi_take_back
- * leaves the tables and held as they are, past the rows held too, but shown is 0. */
+ * zorambi_enquire asks about a row. It answers and shows what zorambi_add would, and leaves the tables and held as they are, past
+ * the rows held too. A row about which it says yes waits in a further piece of lent memory, waiting: 1, its set's length, its
+ * seven numbers, its set, and 0 past it; if it says no, nothing waits and waiting is all 0. waiting has to be all 0 at first, and
+ * again after zorambi_begin, which is not lent it.
+ *
+ * zorambi_commit adds the row that waits. After the rows held it looks whether a row waits at all, which is so if the first number
+ * of waiting is 1 and the length is 0 to 1024; if not, ZORAMBI_WAITING (place -1). The row is then judged as by
+ * zorambi_add, so that what something else wrote there gets its refusal.
+ *
+ * After an accepted zorambi_add, zorambi_take_back or zorambi_commit held is the new number of nodes and members, the tables are
+ * 0 past these, shown is 1 exactly when zorambi_check accepts the rows held, the number has the nodes and links held, and nothing
+ * waits: waiting is all 0. A refused one leaves the tables, held and waiting as they are, past the rows held too, but shown is
+ * 0. */
 uint64_t zorambi_begin(const int32_t *schema, size_t schema_len, size_t schema_rows,
                        const int32_t *proof, size_t proof_len, size_t proof_rows,
                        int32_t root, int32_t least,
@@ -204,12 +214,23 @@ uint64_t zorambi_add(const int32_t *schema, size_t schema_len, size_t schema_row
                      int32_t root, int32_t least,
                      int32_t *nodes, size_t nodes_len, int32_t *members, size_t members_len,
                      size_t held[2], int32_t shown[1],
-                     const int32_t row[7], const int32_t *set, size_t set_len);
+                     const int32_t row[7], const int32_t *set, size_t set_len, int32_t waiting[1033]);
 uint64_t zorambi_take_back(const int32_t *schema, size_t schema_len, size_t schema_rows,
                            const int32_t *proof, size_t proof_len, size_t proof_rows,
                            int32_t root, int32_t least,
                            int32_t *nodes, size_t nodes_len, int32_t *members, size_t members_len,
-                           size_t held[2], int32_t shown[1]);
+                           size_t held[2], int32_t shown[1], int32_t waiting[1033]);
+uint64_t zorambi_enquire(const int32_t *schema, size_t schema_len, size_t schema_rows,
+                         const int32_t *proof, size_t proof_len, size_t proof_rows,
+                         int32_t root, int32_t least,
+                         int32_t *nodes, size_t nodes_len, int32_t *members, size_t members_len,
+                         size_t held[2], int32_t shown[1],
+                         const int32_t row[7], const int32_t *set, size_t set_len, int32_t waiting[1033]);
+uint64_t zorambi_commit(const int32_t *schema, size_t schema_len, size_t schema_rows,
+                        const int32_t *proof, size_t proof_len, size_t proof_rows,
+                        int32_t root, int32_t least,
+                        int32_t *nodes, size_t nodes_len, int32_t *members, size_t members_len,
+                        size_t held[2], int32_t shown[1], int32_t waiting[1033]);
 
 /* The one number that comes back from the others: ((answer * 8192 + place + 1) * 8192 + nodes) * 8192 + links. In reading and
  * writing both counts are 0, but that a text that was written has its bytes in their place. */
@@ -249,6 +270,7 @@ enum zorambi_answer_number {
   ZORAMBI_ROOM = 24,            /* 1024 nodes are held, or the row's members or a lent table have no room for it; place: -1 */
   ZORAMBI_NO_ROW = 25,          /* no row to take back; place: -1 */
   /* enquiring */
+  ZORAMBI_WAITING = 26,         /* no row waits for a commit; place: -1 */
   /* checking */
   ZORAMBI_REPEATED = 27,        /* a proof row equals an earlier schema or proof row, not in the older check; place: the row */
   /* joining */
@@ -457,20 +479,40 @@ static inline uint64_t zorambi_c_begin(const int32_t *schema, size_t schema_len,
 static inline uint64_t zorambi_c_add(const int32_t *schema, size_t schema_len, size_t schema_rows, const int32_t *proof,
                                      size_t proof_len, size_t proof_rows, int32_t root, int32_t least, int32_t *nodes,
                                      size_t nodes_len, int32_t *members, size_t members_len, size_t held[2],
-                                     int32_t shown[1], const int32_t row[7], const int32_t *set, size_t set_len) {
+                                     int32_t shown[1], const int32_t row[7], const int32_t *set, size_t set_len,
+                                     int32_t waiting[1033]) {
   return zorambi_add(zorambi_numbers_of(schema, schema_len), schema_len, schema_rows, zorambi_numbers_of(proof, proof_len),
                      proof_len, proof_rows, root, least, zorambi_lent_numbers(nodes, nodes_len), nodes_len,
                      zorambi_lent_numbers(members, members_len), members_len, held, shown, row,
-                     zorambi_numbers_of(set, set_len), set_len);
+                     zorambi_numbers_of(set, set_len), set_len, waiting);
 }
 static inline uint64_t zorambi_c_take_back(const int32_t *schema, size_t schema_len, size_t schema_rows, const int32_t *proof,
                                            size_t proof_len, size_t proof_rows, int32_t root, int32_t least, int32_t *nodes,
                                            size_t nodes_len, int32_t *members, size_t members_len, size_t held[2],
-                                           int32_t shown[1]) {
+                                           int32_t shown[1], int32_t waiting[1033]) {
   return zorambi_take_back(zorambi_numbers_of(schema, schema_len), schema_len, schema_rows,
                            zorambi_numbers_of(proof, proof_len), proof_len, proof_rows, root, least,
                            zorambi_lent_numbers(nodes, nodes_len), nodes_len, zorambi_lent_numbers(members, members_len),
-                           members_len, held, shown);
+                           members_len, held, shown, waiting);
+}
+static inline uint64_t zorambi_c_enquire(const int32_t *schema, size_t schema_len, size_t schema_rows, const int32_t *proof,
+                                         size_t proof_len, size_t proof_rows, int32_t root, int32_t least, int32_t *nodes,
+                                         size_t nodes_len, int32_t *members, size_t members_len, size_t held[2],
+                                         int32_t shown[1], const int32_t row[7], const int32_t *set, size_t set_len,
+                                         int32_t waiting[1033]) {
+  return zorambi_enquire(zorambi_numbers_of(schema, schema_len), schema_len, schema_rows, zorambi_numbers_of(proof, proof_len),
+                         proof_len, proof_rows, root, least, zorambi_lent_numbers(nodes, nodes_len), nodes_len,
+                         zorambi_lent_numbers(members, members_len), members_len, held, shown, row,
+                         zorambi_numbers_of(set, set_len), set_len, waiting);
+}
+static inline uint64_t zorambi_c_commit(const int32_t *schema, size_t schema_len, size_t schema_rows, const int32_t *proof,
+                                        size_t proof_len, size_t proof_rows, int32_t root, int32_t least, int32_t *nodes,
+                                        size_t nodes_len, int32_t *members, size_t members_len, size_t held[2],
+                                        int32_t shown[1], int32_t waiting[1033]) {
+  return zorambi_commit(zorambi_numbers_of(schema, schema_len), schema_len, schema_rows,
+                        zorambi_numbers_of(proof, proof_len), proof_len, proof_rows, root, least,
+                        zorambi_lent_numbers(nodes, nodes_len), nodes_len, zorambi_lent_numbers(members, members_len),
+                        members_len, held, shown, waiting);
 }
 
 #define zorambi_check zorambi_c_check
@@ -506,6 +548,8 @@ static inline uint64_t zorambi_c_take_back(const int32_t *schema, size_t schema_
 #define zorambi_begin zorambi_c_begin
 #define zorambi_add zorambi_c_add
 #define zorambi_take_back zorambi_c_take_back
+#define zorambi_enquire zorambi_c_enquire
+#define zorambi_commit zorambi_c_commit
 
 #ifdef __cplusplus
 }

@@ -1,5 +1,5 @@
 /* The paper's record built row by row through the proved library: a row that is wrong is refused and changes nothing, one is taken
- * back, and the last one closes the tableau. */
+ * back, and the last one, asked about first, closes the tableau. */
 #include <stdio.h>
 
 #include "zorambi.h"
@@ -23,7 +23,7 @@ static const int32_t proof[] = {
 };
 
 /* What is lent to every call: here with room for the seven nodes and fourteen members that will be held. */
-static int32_t nodes[7 * 9], members[14], shown[1];
+static int32_t nodes[7 * 9], members[14], shown[1], waiting[1033];
 static size_t held[2];
 
 #define FORMULAS schema, COUNT(schema), COUNT(schema) / 4, proof, COUNT(proof), COUNT(proof) / 4, 4, 1
@@ -41,7 +41,15 @@ static void print(const char *what, uint64_t packed) {
 static void add(int32_t up, int32_t rule, int32_t on, int32_t with, int32_t other, int32_t to, int32_t by, size_t count,
                 const int32_t *set) {
   const int32_t row[7] = {up, rule, on, with, other, to, by};
-  print("add", zorambi_add(FORMULAS, TABLEAU, row, set, count));
+  print("add", zorambi_add(FORMULAS, TABLEAU, row, set, count, waiting));
+}
+
+/* The row that would close the tableau: asked about, then added as it waits. */
+static void ask_and_commit(void) {
+  const int32_t row[7] = {4, 6, 6, 8, -1, -1, 0}, set[2] = {6, 8};
+  print("with it", zorambi_enquire(FORMULAS, TABLEAU, row, set, 2, waiting));
+  print("commit", zorambi_commit(FORMULAS, TABLEAU, waiting));
+  print("commit", zorambi_commit(FORMULAS, TABLEAU, waiting)); /* nothing waits */
 }
 
 int main(void) {
@@ -53,9 +61,9 @@ int main(void) {
   add(3, 4, 2, 5, 6, -1, 0, 3, (const int32_t[]){2, 7, 8});
   add(4, 8, -1, -1, -1, 1, 2, 2, (const int32_t[]){5, 7}); /* by 2: a bound */
   add(4, 8, -1, -1, -1, 1, 1, 2, (const int32_t[]){5, 7});
-  print("back", zorambi_take_back(FORMULAS, TABLEAU));
+  print("back", zorambi_take_back(FORMULAS, TABLEAU, waiting));
   add(4, 8, -1, -1, -1, 1, 1, 2, (const int32_t[]){5, 7});
-  add(4, 6, 6, 8, -1, -1, 0, 2, (const int32_t[]){6, 8});
+  ask_and_commit();
   add(4, 6, 6, 8, -1, -1, 0, 2, (const int32_t[]){6, 8}); /* no room */
   return 0;
 }

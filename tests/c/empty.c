@@ -337,16 +337,24 @@ static const int32_t clash_rows[] = {2, 0, 1, 0, 3, 0, 1, 0, 4, 0, 1, 0};
 static const int32_t clash_and[7] = {-1, 0, 2, -1, -1, -1, 0};
 static const int32_t clash[7] = {0, 6, 0, 1, -1, -1, 0};
 static size_t held[2];
-static int32_t shown[1];
+static int32_t shown[1], waiting[1033];
 
 static uint64_t begin_clash(size_t rows) {
   return zorambi_begin(clash_rows, 12, rows, NULL, 0, 0, 2, 0, nodes, 9216, members, 8192, held, shown);
 }
 static uint64_t add_clash(const int32_t row[7], const int32_t *set, size_t set_len) {
-  return zorambi_add(clash_rows, 12, 3, NULL, 0, 0, 2, 0, nodes, 9216, members, 8192, held, shown, row, set, set_len);
+  return zorambi_add(clash_rows, 12, 3, NULL, 0, 0, 2, 0, nodes, 9216, members, 8192, held, shown, row, set, set_len,
+                     waiting);
 }
 static uint64_t take_back_clash(void) {
-  return zorambi_take_back(clash_rows, 12, 3, NULL, 0, 0, 2, 0, nodes, 9216, members, 8192, held, shown);
+  return zorambi_take_back(clash_rows, 12, 3, NULL, 0, 0, 2, 0, nodes, 9216, members, 8192, held, shown, waiting);
+}
+static uint64_t enquire_clash(const int32_t row[7], const int32_t *set, size_t set_len) {
+  return zorambi_enquire(clash_rows, 12, 3, NULL, 0, 0, 2, 0, nodes, 9216, members, 8192, held, shown, row, set, set_len,
+                         waiting);
+}
+static uint64_t commit_clash(void) {
+  return zorambi_commit(clash_rows, 12, 3, NULL, 0, 0, 2, 0, nodes, 9216, members, 8192, held, shown, waiting);
 }
 static void holds(const char *name, size_t node_count, size_t member_count, int32_t closed) {
   test(name, held[0] == node_count && held[1] == member_count && shown[0] == closed);
@@ -389,11 +397,53 @@ static void grow(void) {
 
   answers("nothing to grow from", zorambi_begin(NULL, 0, 0, NULL, 0, 0, 0, 0, NULL, 0, NULL, 0, held, shown), ZORAMBI_ROOT, -1);
   answers("no tables to grow in", zorambi_begin(clash_rows, 12, 3, NULL, 0, 0, 2, 0, NULL, 0, NULL, 0, held, shown), ZORAMBI_ACCEPTED, 0);
-  answers("no room", zorambi_add(clash_rows, 12, 3, NULL, 0, 0, 2, 0, NULL, 0, NULL, 0, held, shown, clash_and, of_root, 1), ZORAMBI_ROOM, -1);
-  answers("no rows and no tables", zorambi_take_back(NULL, 0, 0, NULL, 0, 0, 0, 0, NULL, 0, NULL, 0, held, shown), ZORAMBI_ROOT, -1);
+  answers("no room", zorambi_add(clash_rows, 12, 3, NULL, 0, 0, 2, 0, NULL, 0, NULL, 0, held, shown, clash_and, of_root, 1, waiting),
+          ZORAMBI_ROOM, -1);
+  answers("no rows and no tables", zorambi_take_back(NULL, 0, 0, NULL, 0, 0, 0, 0, NULL, 0, NULL, 0, held, shown, waiting),
+          ZORAMBI_ROOT, -1);
   held[0] = 1;
-  answers("rows held, and no tables", zorambi_take_back(clash_rows, 12, 3, NULL, 0, 0, 2, 0, NULL, 0, NULL, 0, held, shown),
+  answers("rows held, and no tables",
+          zorambi_take_back(clash_rows, 12, 3, NULL, 0, 0, 2, 0, NULL, 0, NULL, 0, held, shown, waiting), ZORAMBI_TABLE_TOO_SHORT, -1);
+}
+
+/* Enquiry and commit. */
+static void enquire(void) {
+  static const int32_t of_root[] = {2}, of_clash[] = {0, 1};
+  begin_clash(3);
+  answers("nothing waits", commit_clash(), ZORAMBI_WAITING, -1);
+  nodes[5] = 5;
+  uint64_t packed = enquire_clash(clash_and, of_root, 1);
+  answers("an enquiry", packed, ZORAMBI_ACCEPTED, 0);
+  test("an enquiry, counts", zorambi_nodes(packed) == 1 && zorambi_links(packed) == 0);
+  holds("an enquiry, held", 0, 0, 0);
+  static const int32_t waits[] = {1, 1, -1, 0, 2, -1, -1, -1, 0, 2};
+  test("an enquiry, waiting", memcmp(waiting, waits, sizeof waits) == 0 && all_zero(waiting + 10, 1023));
+  test("an enquiry, memory", nodes[5] == 5 && nodes[0] == 0 && all_zero(members, 8192));
+  answers("an enquiry that says no", enquire_clash(clash_and, NULL, 0), ZORAMBI_PARENT, 0);
+  test("an enquiry that says no, waiting", all_zero(waiting, 1033));
+  answers("nothing waits after it", commit_clash(), ZORAMBI_WAITING, -1);
+  enquire_clash(clash_and, of_root, 1);
+  waiting[1] = 1025;
+  answers("a length out of range", commit_clash(), ZORAMBI_WAITING, -1);
+  waiting[1] = 1, waiting[3] = 9;
+  answers("a waiting row altered", commit_clash(), ZORAMBI_FIELDS, 0);
+  waiting[3] = 0;
+  answers("a commit", commit_clash(), ZORAMBI_ACCEPTED, 0);
+  holds("a commit, held", 1, 1, 0);
+  test("a commit, memory", nodes[0] == -1 && nodes[2] == 2 && nodes[8] == 1 && members[0] == 2 && all_zero(waiting, 1033));
+  answers("an enquiry that closes", enquire_clash(clash, of_clash, 2), ZORAMBI_ACCEPTED, 0);
+  holds("an enquiry that closes, held", 1, 1, 1);
+  answers("taken back while a row waits", take_back_clash(), ZORAMBI_ACCEPTED, 0);
+  test("taken back while a row waits, waiting", all_zero(waiting, 1033));
+  add_clash(clash_and, of_root, 1);
+  enquire_clash(clash, of_clash, 2);
+  answers("added while a row waits", add_clash(clash, of_clash, 2), ZORAMBI_ACCEPTED, 0);
+  test("added while a row waits, waiting", all_zero(waiting, 1033));
+  holds("added while a row waits, held", 2, 3, 1);
+  answers("no tables, and nothing waits", zorambi_commit(NULL, 0, 0, NULL, 0, 0, 0, 0, NULL, 0, NULL, 0, held, shown, waiting),
           ZORAMBI_TABLE_TOO_SHORT, -1);
+  answers("an enquiry without tables",
+          zorambi_enquire(NULL, 0, 0, NULL, 0, 0, 0, 0, NULL, 0, NULL, 0, held, shown, clash, NULL, 0, waiting), ZORAMBI_TABLE_TOO_SHORT, -1);
 }
 
 int main(void) {
@@ -421,6 +471,7 @@ int main(void) {
   join();
   /* a tableau that grows */
   grow();
+  enquire();
   printf("%d passed, %d failed\n", passed, failed);
   return failed > 0;
 }

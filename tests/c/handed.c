@@ -121,14 +121,24 @@ int main(void) {
         AT(a), 11, 12, AT(b), 13, 14, 15, 16, AT(c), 17, AT(d), 18, AT(held), AT(e));
   HANDS(zorambi_begin(NULL, 0, 12, NULL, 0, 14, 15, 16, NULL, 0, NULL, 0, held, e), 24,
         SOME, 0, 12, SOME, 0, 14, 15, 16, SOME, 0, SOME, 0, AT(held), AT(e));
-  HANDS(zorambi_add(a, 11, 12, b, 13, 14, 15, 16, c, 17, d, 18, held, e, f, g, 19), 25,
-        AT(a), 11, 12, AT(b), 13, 14, 15, 16, AT(c), 17, AT(d), 18, AT(held), AT(e), AT(f), AT(g), 19);
-  HANDS(zorambi_add(NULL, 0, 12, NULL, 0, 14, 15, 16, NULL, 0, NULL, 0, held, e, f, NULL, 0), 25,
-        SOME, 0, 12, SOME, 0, 14, 15, 16, SOME, 0, SOME, 0, AT(held), AT(e), AT(f), SOME, 0);
-  HANDS(zorambi_take_back(a, 11, 12, b, 13, 14, 15, 16, c, 17, d, 18, held, e), 26,
-        AT(a), 11, 12, AT(b), 13, 14, 15, 16, AT(c), 17, AT(d), 18, AT(held), AT(e));
-  HANDS(zorambi_take_back(NULL, 0, 12, NULL, 0, 14, 15, 16, NULL, 0, NULL, 0, held, e), 26,
-        SOME, 0, 12, SOME, 0, 14, 15, 16, SOME, 0, SOME, 0, AT(held), AT(e));
+  HANDS(zorambi_add(a, 11, 12, b, 13, 14, 15, 16, c, 17, d, 18, held, e, f, g, 19, w), 25,
+        AT(a), 11, 12, AT(b), 13, 14, 15, 16, AT(c), 17, AT(d), 18, AT(held), AT(e), AT(f), AT(g), 19, AT(w));
+  HANDS(zorambi_add(NULL, 0, 12, NULL, 0, 14, 15, 16, NULL, 0, NULL, 0, held, e, f, NULL, 0, w), 25,
+        SOME, 0, 12, SOME, 0, 14, 15, 16, SOME, 0, SOME, 0, AT(held), AT(e), AT(f), SOME, 0, AT(w));
+  HANDS(zorambi_take_back(a, 11, 12, b, 13, 14, 15, 16, c, 17, d, 18, held, e, w), 26,
+        AT(a), 11, 12, AT(b), 13, 14, 15, 16, AT(c), 17, AT(d), 18, AT(held), AT(e), AT(w));
+  HANDS(zorambi_take_back(NULL, 0, 12, NULL, 0, 14, 15, 16, NULL, 0, NULL, 0, held, e, w), 26,
+        SOME, 0, 12, SOME, 0, 14, 15, 16, SOME, 0, SOME, 0, AT(held), AT(e), AT(w));
+
+  /* Enquiry and commit. */
+  HANDS(zorambi_enquire(a, 11, 12, b, 13, 14, 15, 16, c, 17, d, 18, held, e, f, g, 19, w), 27,
+        AT(a), 11, 12, AT(b), 13, 14, 15, 16, AT(c), 17, AT(d), 18, AT(held), AT(e), AT(f), AT(g), 19, AT(w));
+  HANDS(zorambi_enquire(NULL, 0, 12, NULL, 0, 14, 15, 16, NULL, 0, NULL, 0, held, e, f, NULL, 0, w), 27,
+        SOME, 0, 12, SOME, 0, 14, 15, 16, SOME, 0, SOME, 0, AT(held), AT(e), AT(f), SOME, 0, AT(w));
+  HANDS(zorambi_commit(a, 11, 12, b, 13, 14, 15, 16, c, 17, d, 18, held, e, w), 28,
+        AT(a), 11, 12, AT(b), 13, 14, 15, 16, AT(c), 17, AT(d), 18, AT(held), AT(e), AT(w));
+  HANDS(zorambi_commit(NULL, 0, 12, NULL, 0, 14, 15, 16, NULL, 0, NULL, 0, held, e, w), 28,
+        SOME, 0, 12, SOME, 0, 14, 15, 16, SOME, 0, SOME, 0, AT(held), AT(e), AT(w));
 
   printf("%d passed, %d failed\n", passed, failed);
   return failed > 0;

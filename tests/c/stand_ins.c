@@ -208,9 +208,9 @@ uint64_t zorambi_add(const int32_t *schema, size_t schema_len, size_t schema_row
                      int32_t root, int32_t least,
                      int32_t *nodes, size_t nodes_len, int32_t *members, size_t members_len,
                      size_t held[2], int32_t shown[1],
-                     const int32_t row[7], const int32_t *set, size_t set_len) {
+                     const int32_t row[7], const int32_t *set, size_t set_len, int32_t waiting[1033]) {
   NOTE(AT(schema), schema_len, schema_rows, AT(proof), proof_len, proof_rows, NUMBER(root), NUMBER(least),
-       AT(nodes), nodes_len, AT(members), members_len, AT(held), AT(shown), AT(row), AT(set), set_len);
+       AT(nodes), nodes_len, AT(members), members_len, AT(held), AT(shown), AT(row), AT(set), set_len, AT(waiting));
   return 25;
 }
 
@@ -218,8 +218,30 @@ uint64_t zorambi_take_back(const int32_t *schema, size_t schema_len, size_t sche
                            const int32_t *proof, size_t proof_len, size_t proof_rows,
                            int32_t root, int32_t least,
                            int32_t *nodes, size_t nodes_len, int32_t *members, size_t members_len,
-                           size_t held[2], int32_t shown[1]) {
+                           size_t held[2], int32_t shown[1], int32_t waiting[1033]) {
   NOTE(AT(schema), schema_len, schema_rows, AT(proof), proof_len, proof_rows, NUMBER(root), NUMBER(least),
-       AT(nodes), nodes_len, AT(members), members_len, AT(held), AT(shown));
+       AT(nodes), nodes_len, AT(members), members_len, AT(held), AT(shown), AT(waiting));
   return 26;
+}
+
+/* Enquiry and commit. */
+uint64_t zorambi_enquire(const int32_t *schema, size_t schema_len, size_t schema_rows,
+                         const int32_t *proof, size_t proof_len, size_t proof_rows,
+                         int32_t root, int32_t least,
+                         int32_t *nodes, size_t nodes_len, int32_t *members, size_t members_len,
+                         size_t held[2], int32_t shown[1],
+                         const int32_t row[7], const int32_t *set, size_t set_len, int32_t waiting[1033]) {
+  NOTE(AT(schema), schema_len, schema_rows, AT(proof), proof_len, proof_rows, NUMBER(root), NUMBER(least),
+       AT(nodes), nodes_len, AT(members), members_len, AT(held), AT(shown), AT(row), AT(set), set_len, AT(waiting));
+  return 27;
+}
+
+uint64_t zorambi_commit(const int32_t *schema, size_t schema_len, size_t schema_rows,
+                        const int32_t *proof, size_t proof_len, size_t proof_rows,
+                        int32_t root, int32_t least,
+                        int32_t *nodes, size_t nodes_len, int32_t *members, size_t members_len,
+                        size_t held[2], int32_t shown[1], int32_t waiting[1033]) {
+  NOTE(AT(schema), schema_len, schema_rows, AT(proof), proof_len, proof_rows, NUMBER(root), NUMBER(least),
+       AT(nodes), nodes_len, AT(members), members_len, AT(held), AT(shown), AT(waiting));
+  return 28;
 }

@@ -135,6 +135,82 @@ back
 0 0 1 0 open
 ' "$work/g"
 
+# ---- enquiries and commits
+
+# Every accepted record by enquiries and commits: each row is answered twice alike.
+for r in records/accepted/*; do
+  without_nodes "$r"
+  expected=$(nodes_of "$r" | awk -v last="$(nodes_of "$r" | wc -l)" '
+    BEGIN { print "0 0 0 0 open" }
+    { if ($2 == 8) links++; for (k = 0; k < 2; k++) print "0 0", NR, links + 0, NR == last ? "closed" : "open" }')
+  answers "grow $r by commits" "$(nodes_of "$r" | sed 's/^/? /; s/$/\ncommit/')"$'\n' "$expected"$'\n' "$work/g"
+done
+without_nodes "$work/p"
+waits="26 -1 0 0 open refused: no row waits (26)"
+answers "enquiries" "commit
+$first"'? 4 8 -1 -1 -1 1 1 5 7
+? 4 8 -1 -1 -1 1 2 5 7
+commit
+?4 8 -1 -1 -1 1 1 5 7
+4 8 -1 -1 -1 1 2 5 7
+x
+commit
+commit
+? 4 6 6 8 -1 -1 0 6 8
+back
+commit
+? 4 8 -1 -1 -1 1 1 5 7
+4 8 -1 -1 -1 1 1 5 7
+commit
+? 4 6 6 8 -1 -1 0 6 8
+commit
+? 4 6 6 8 -1 -1 0 6 8
+commit
+' "0 0 0 0 open
+$waits
+${five#*$'\n'}0 0 6 1 open
+14 5 0 0 open refused: a link's bounds: n - by may lie outside its target's (14) at node 5
+$waits
+0 0 6 1 open
+14 5 0 0 open refused: a link's bounds: n - by may lie outside its target's (14) at node 5
+4 12 0 0 open refused: a line's form (4) at line 12
+0 0 6 1 open
+$waits
+0 0 7 1 closed
+0 0 5 0 open
+$waits
+0 0 6 1 open
+0 0 6 1 open
+$waits
+0 0 7 1 closed
+0 0 7 1 closed
+17 7 0 0 closed refused: a child more than its parent's rule has (17) at node 7
+${waits/open/closed}
+" "$work/g"
+# An enquiry about what is no row is a line that cannot be read: the row that waits is still there.
+answers "enquiries about no row" '? -1 0 4 -1 -1 -1 0 4
+?
+? 
+?  -1 0 4 -1 -1 -1 0 4
+? ? -1 0 4 -1 -1 -1 0 4
+? back
+? commit
+commit 
+Commit
+commit
+' "0 0 0 0 open
+0 0 1 0 open
+$(for n in $(seq 2 9); do echo "4 $n 0 0 open refused: a line's form (4) at line $n"; done)
+0 0 1 0 open
+" "$work/g"
+# What only waits is not saved.
+answers "an enquiry, and save" "$first? ${last%%$'\n'*}
+save $work/g/five
+" "${five}0 0 6 1 open
+saved $work/g/five
+" "$work/g"
+alike "what only waits is not saved" "$(head -n 11 "$work/p/proof.txt")" "$(cat "$work/g/five")"
+
 # ---- lines that cannot be read change nothing, and are told by their number
 
 form="refused: a line's form (4) at line"

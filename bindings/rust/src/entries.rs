@@ -335,7 +335,7 @@ entry! {
 }
 
 entry! {
-    /// Adds a node row and its set. A refused call leaves the rows held as they are.
+    /// Adds a node row and its set; nothing waits after it. A refused call leaves the rows held as they are.
     add = zorambi_add(
         schema: &[i32],
         schema_rows: usize,
@@ -349,11 +349,12 @@ entry! {
         shown: &mut [i32; 1],
         row: &[i32; 7],
         set: &[i32],
+        waiting: &mut [i32; 1033],
     )
 }
 
 entry! {
-    /// Takes the last node row back.
+    /// Takes the last node row back; nothing waits after it.
     take_back = zorambi_take_back(
         schema: &[i32],
         schema_rows: usize,
@@ -365,5 +366,45 @@ entry! {
         members: &mut [i32],
         held: &mut [usize; 2],
         shown: &mut [i32; 1],
+        waiting: &mut [i32; 1033],
+    )
+}
+
+// Enquiry and commit.
+
+entry! {
+    /// Answers as adding would, and changes no row. Waiting: 1, the set's length, the row, the set; all 0 where nothing
+    /// waits.
+    enquire = zorambi_enquire(
+        schema: &[i32],
+        schema_rows: usize,
+        proof: &[i32],
+        proof_rows: usize,
+        root: i32,
+        least: i32,
+        nodes: &mut [i32],
+        members: &mut [i32],
+        held: &mut [usize; 2],
+        shown: &mut [i32; 1],
+        row: &[i32; 7],
+        set: &[i32],
+        waiting: &mut [i32; 1033],
+    )
+}
+
+entry! {
+    /// Adds the row that waits; nothing waits after it.
+    commit = zorambi_commit(
+        schema: &[i32],
+        schema_rows: usize,
+        proof: &[i32],
+        proof_rows: usize,
+        root: i32,
+        least: i32,
+        nodes: &mut [i32],
+        members: &mut [i32],
+        held: &mut [usize; 2],
+        shown: &mut [i32; 1],
+        waiting: &mut [i32; 1033],
     )
 }

@@ -37,6 +37,12 @@ pub struct Standing {
 ///
 /// growing.take_back()?;
 /// assert!(!growing.standing().closed);
+///
+/// // What adding a row would come to, before it is added.
+/// let standing = growing.enquire([0, 6, 0, 1, -1, -1, 0], &[0, 1])?;
+/// assert!(standing.closed && !growing.standing().closed);
+/// assert_eq!(growing.commit()?, standing);
+/// assert_eq!(growing.commit().unwrap_err().refusal, Refusal::Waiting);
 /// # Ok::<(), zorambi::Refused>(())
 /// ```
 #[derive(Clone, Debug)]
@@ -46,24 +52,24 @@ pub struct Growing {
     nodes: Vec<i32>,
     members: Vec<i32>,
     held: [usize; 2],
+    waiting: [i32; 1033],
     standing: Standing,
 }
 
-/// The entries of a call, with what is given for all of them.
+/// A call of an entry, with what all of them are given.
 macro_rules! call {
     ($entry:ident, $growing:ident $(, $more:expr)*) => {{
-        let Growing { schema, rows, nodes, members, held, .. } = $growing;
         let mut shown = [0];
         let packed = entries::$entry(
-            schema.rows.as_flattened(),
-            schema.rows.len(),
-            rows.as_flattened(),
-            rows.len(),
-            schema.root,
-            schema.least,
-            nodes,
-            members,
-            held,
+            $growing.schema.rows.as_flattened(),
+            $growing.schema.rows.len(),
+            $growing.rows.as_flattened(),
+            $growing.rows.len(),
+            $growing.schema.root,
+            $growing.schema.least,
+            &mut $growing.nodes,
+            &mut $growing.members,
+            &mut $growing.held,
             &mut shown,
             $($more,)*
         );
@@ -76,22 +82,34 @@ impl Growing {
     /// They are judged as by [`check`](crate::check).
     pub fn begin(schema: Schema, rows: Vec<Row>) -> Result<Growing, Refused> {
         let (nodes, members) = (vec![0; MAX_NODES * 9], vec![0; MAX_MEMBERS]);
-        let mut begun = Growing { schema, rows, nodes, members, held: [0; 2], standing: Standing::default() };
-        let growing = &mut begun;
+        let (held, waiting, standing) = ([0; 2], [0; 1033], Standing::default());
+        let mut growing = Growing { schema, rows, nodes, members, held, waiting, standing };
         call!(begin, growing)?;
-        Ok(begun)
+        Ok(growing)
     }
 
     /// Adds a node row (up rule on with other to by) with its set at the end. It is judged as by
     /// [`check`](crate::check), but that its children may come later and that it may not be a child too many.
     pub fn add(&mut self, row: [i32; 7], set: &[i32]) -> Result<Standing, Refused> {
-        self.standing = call!(add, self, &row, set)?;
+        self.standing = call!(add, self, &row, set, &mut self.waiting)?;
         Ok(self.standing)
     }
 
     /// Takes the last node row back.
     pub fn take_back(&mut self) -> Result<Standing, Refused> {
-        self.standing = call!(take_back, self)?;
+        self.standing = call!(take_back, self, &mut self.waiting)?;
+        Ok(self.standing)
+    }
+
+    /// Answers as [`add`](Growing::add) would, and changes no row: what would be there with the row. One that would be
+    /// added waits for [`commit`](Growing::commit), otherwise none does.
+    pub fn enquire(&mut self, row: [i32; 7], set: &[i32]) -> Result<Standing, Refused> {
+        call!(enquire, self, &row, set, &mut self.waiting)
+    }
+
+    /// Adds the row last enquired about, if the enquiry said yes and no commit, addition or take-back succeeded since.
+    pub fn commit(&mut self) -> Result<Standing, Refused> {
+        self.standing = call!(commit, self, &mut self.waiting)?;
         Ok(self.standing)
     }
 

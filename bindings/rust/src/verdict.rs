@@ -58,6 +58,7 @@ refusals! {
     Room = 24, "no room for the row: 1,024 nodes, 8,192 members, or a lent table that is too short";
     NoRow = 25, "no row to take back";
     // Enquiry and commit.
+    Waiting = 26, "no row waits for a commit";
     // Proof rows written twice.
     Repeated = 27, "a proof row written twice";
     // One record for either fault.

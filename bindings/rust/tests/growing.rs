@@ -116,3 +116,44 @@ fn no_room() {
     assert_eq!(place(growing.add([1022, 0, 1, -1, -1, -1, 0], &[1; 8192]).unwrap_err()), (Refusal::Room, None));
     assert_eq!(place(growing.add([1022, 0, 1, -1, -1, -1, 0], &[1; 7169]).unwrap_err()), (Refusal::Set, Some(1023)));
 }
+
+#[test]
+fn enquiries_and_commits() {
+    for folder in records("accepted") {
+        let record = record(&folder);
+        let rows = node_rows(&record.proof);
+        let mut growing = Growing::begin(record.schema.clone(), record.proof.rows.clone()).unwrap();
+        for (number, (row, set)) in rows.iter().enumerate() {
+            assert_eq!(place(growing.commit().unwrap_err()), (Refusal::Waiting, None));
+            let before = (growing.standing(), growing.record());
+            let standing = growing.enquire(*row, set).unwrap();
+            assert_eq!((standing.nodes, standing.closed), (number + 1, number + 1 == rows.len()));
+            assert_eq!((growing.standing(), growing.record()), before);
+
+            // An enquiry that says no leaves nothing to commit.
+            let mut wrong = *row;
+            wrong[0] = number as i32;
+            assert_eq!(place(growing.enquire(wrong, set).unwrap_err()), (Refusal::Parent, Some(number)));
+            assert_eq!(place(growing.commit().unwrap_err()), (Refusal::Waiting, None));
+
+            // A refused addition leaves the row waiting.
+            assert_eq!(growing.enquire(*row, set), Ok(standing));
+            assert_eq!(place(growing.add(wrong, set).unwrap_err()), (Refusal::Parent, Some(number)));
+            assert_eq!(growing.commit(), Ok(standing));
+            assert_eq!(growing.standing(), standing);
+        }
+        assert_eq!(growing.record(), record);
+
+        // A take-back or an addition leaves nothing to commit.
+        let (last, set) = rows[rows.len() - 1];
+        growing.take_back().unwrap();
+        growing.enquire(last, set).unwrap();
+        growing.add(last, set).unwrap();
+        assert_eq!(place(growing.commit().unwrap_err()), (Refusal::Waiting, None));
+        growing.take_back().unwrap();
+        growing.enquire(last, set).unwrap();
+        growing.take_back().unwrap();
+        assert_eq!(place(growing.commit().unwrap_err()), (Refusal::Waiting, None));
+        assert_eq!(growing.standing().nodes, rows.len() - 2);
+    }
+}

@@ -1,5 +1,5 @@
 //! `grow DIR`: a tableau for the schema in DIR that grows by what is said on standard input, line by line: a node row
-//! as a proof text has it, `back`, or `save FILE`. Each line is answered at once.
+//! as a proof text has it, `?` and a row to ask about it, `commit`, `back`, or `save FILE`. Each line is answered at once.
 
 use crate::texts::{shown, Text};
 use crate::Stop;
@@ -40,8 +40,8 @@ fn row_of<'a>(node: &zorambi::Node, members: &'a [i32]) -> ([i32; 7], &'a [i32])
     ([up, rule, on, with, other, to, by], &members[start as usize..][..length as usize])
 }
 
-/// Answers each line: `answer place nodes links`, then `closed` or `open` for the rows held, then the row if one was
-/// refused. The place of a line that cannot be read is its number, from 1.
+/// Answers each line: `answer place nodes links`, then `closed` or `open` for the rows held, or for those that there would
+/// be, then the row if one was refused. The place of a line that cannot be read is its number, from 1.
 fn follow(growing: &mut Growing, input: &mut impl BufRead, output: &mut impl Write) -> io::Result<()> {
     writeln!(output, "answer place nodes links\n{}", standing(growing.standing()))?;
     output.flush()?;
@@ -68,8 +68,12 @@ fn next_line(input: &mut impl BufRead, line: &mut Vec<u8>) -> io::Result<bool> {
 fn answer(growing: &mut Growing, line: &[u8], number: usize) -> String {
     match line.strip_suffix(b"\n") {
         Some(b"back") => told(growing.take_back(), growing, ""),
+        Some(b"commit") => told(growing.commit(), growing, ""),
         Some([b's', b'a', b'v', b'e', b' ', file @ ..]) if !file.is_empty() => save(growing, OsStr::from_bytes(file)),
-        _ => with_row(growing, line, number),
+        _ => match line.strip_prefix(b"?") {
+            Some(row) => with_row(growing, Growing::enquire, row.strip_prefix(b" ").unwrap_or(row), number),
+            None => with_row(growing, Growing::add, line, number),
+        },
     }
 }
 
@@ -97,8 +101,11 @@ fn state(now: Standing) -> &'static str {
     }
 }
 
+/// What is done with a row: it is added, or asked about.
+type Call = fn(&mut Growing, [i32; 7], &[i32]) -> Result<Standing, Refused>;
+
 /// A row is read as the one row of a proof text.
-fn with_row(growing: &mut Growing, line: &[u8], number: usize) -> String {
+fn with_row(growing: &mut Growing, call: Call, line: &[u8], number: usize) -> String {
     match read_proof(&[HEADINGS, line].concat()) {
         // Place 0 is the whole text, one too long.
         Err(Refused { refusal, place }) => {
@@ -107,7 +114,7 @@ fn with_row(growing: &mut Growing, line: &[u8], number: usize) -> String {
         }
         Ok(proof) => {
             let (row, set) = row_of(&proof.nodes[0], &proof.members);
-            told(growing.add(row, set), growing, &shown(line.trim_ascii_end()))
+            told(call(growing, row, set), growing, &shown(line.trim_ascii_end()))
         }
     }
 }
