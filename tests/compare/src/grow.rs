@@ -1,4 +1,5 @@
-//! A tableau that grows (document 02, No. 7): lists of calls put to both, with all lent memory compared after each.
+//! A tableau that grows (document 02, No. 7), with enquiries and commits (No. 8): lists of calls put to both, with all
+//! lent memory compared after each.
 
 use crate::calls::{exact, number, Lent};
 use crate::heavy;
@@ -11,7 +12,7 @@ use std::path::Path;
 use zorambi::entries;
 use zorambi_reference::generate::tables::Tables;
 use zorambi_reference::generate::{case, Input, Rng};
-use zorambi_reference::grow::{self, Given, Memory};
+use zorambi_reference::grow::{self, Given, Memory, WAITING};
 use zorambi_reference::packed::pack;
 
 /// A node row: up rule on with other to by, and its set.
@@ -22,6 +23,8 @@ pub enum Call {
     Begin,
     Add(NodeRow),
     TakeBack,
+    Enquire(NodeRow),
+    Commit,
 }
 
 /// The formula rows that are given, and the memory that is lent, to either implementation.
@@ -31,6 +34,7 @@ pub struct Session {
     members: Lent<i32>,
     held: [usize; 2],
     shown: [i32; 1],
+    waiting: Lent<i32>,
     other: Memory,
     /// Something was written next to the lent tables.
     outside: bool,
@@ -47,13 +51,13 @@ impl Session {
     /// Memory of these lengths, all of it garbage.
     pub fn new(t: &Tables, lengths: [usize; 2]) -> Session {
         let [nodes, members] = lengths.map(|length| Lent::new(length, number).lend().to_vec());
-        Session::on(t, Memory { nodes, members, held: [5, usize::MAX], shown: -7 })
+        Session::on(t, Memory { nodes, members, held: [5, usize::MAX], shown: -7, waiting: [0; WAITING] })
     }
 
     pub fn on(t: &Tables, memory: Memory) -> Session {
-        let (nodes, members) = (lent(&memory.nodes), lent(&memory.members));
+        let [nodes, members, waiting] = [&memory.nodes[..], &memory.members, &memory.waiting].map(lent);
         let Memory { held, shown, .. } = memory;
-        Session { given: t.clone(), nodes, members, held, shown: [shown], other: memory, outside: false }
+        Session { given: t.clone(), nodes, members, held, shown: [shown], waiting, other: memory, outside: false }
     }
 
     pub fn memory(&self) -> &Memory {
@@ -66,6 +70,8 @@ impl Session {
         let _ = old.back(number, &mut self.outside);
         let old = std::mem::replace(&mut self.members, lent(&memory.members));
         let _ = old.back(number, &mut self.outside);
+        let old = std::mem::replace(&mut self.waiting, lent(&memory.waiting));
+        let _ = old.back(number, &mut self.outside);
         (self.held, self.shown) = (memory.held, [memory.shown]);
         self.other = memory;
     }
@@ -76,27 +82,20 @@ impl Session {
         let [schema, proof] = [&self.given.schema, &self.given.proof].map(|table| exact(table));
         let (nodes, members) = (self.nodes.lend(), self.members.lend());
         let (held, shown) = (&mut self.held, &mut self.shown);
+        let waiting: &mut [i32; WAITING] = self.waiting.lend().try_into().expect("lent in its length");
+        macro_rules! put {
+            ($entry:ident $(, $more:expr)*) => {
+                entries::$entry(
+                    &schema, schema_count, &proof, proof_count, root, least, nodes, members, held, shown $(, $more)*
+                )
+            };
+        }
         match call {
-            Call::Begin => {
-                entries::begin(&schema, schema_count, &proof, proof_count, root, least, nodes, members, held, shown)
-            }
-            Call::Add((row, set)) => entries::add(
-                &schema,
-                schema_count,
-                &proof,
-                proof_count,
-                root,
-                least,
-                nodes,
-                members,
-                held,
-                shown,
-                row,
-                &exact(set),
-            ),
-            Call::TakeBack => {
-                entries::take_back(&schema, schema_count, &proof, proof_count, root, least, nodes, members, held, shown)
-            }
+            Call::Begin => put!(begin),
+            Call::Add((row, set)) => put!(add, row, &exact(set), waiting),
+            Call::TakeBack => put!(take_back, waiting),
+            Call::Enquire((row, set)) => put!(enquire, row, &exact(set), waiting),
+            Call::Commit => put!(commit, waiting),
         }
     }
 
@@ -108,6 +107,8 @@ impl Session {
             Call::Begin => grow::begin(&given, &mut self.other),
             Call::Add((row, set)) => grow::add(&given, &mut self.other, row, set),
             Call::TakeBack => grow::take_back(&given, &mut self.other),
+            Call::Enquire((row, set)) => grow::enquire(&given, &mut self.other, row, set),
+            Call::Commit => grow::commit(&given, &mut self.other),
         };
         pack(verdict) as u64
     }
@@ -123,16 +124,18 @@ impl Session {
         let (one, other) = (words(ours, self.held, self.shown[0]), words(theirs, self.other.held, self.other.shown));
         let nodes = self.nodes.lend() == self.other.nodes;
         let members = self.members.lend() == self.other.members;
-        if one == other && nodes && members {
+        let waiting = self.waiting.lend() == self.other.waiting;
+        if one == other && nodes && members && waiting {
             return Ok(ours);
         }
-        let memory = format!("nodes {}, members {}", same(nodes), same(members));
+        let memory = format!("nodes {}, members {}, waiting {}", same(nodes), same(members), same(waiting));
         Err(format!("library {one}, other implementation {other}; {memory}"))
     }
 
-    /// What the library's check says of the rows held.
-    fn check(&mut self) -> u64 {
+    /// What the library's check says of these rows.
+    fn check(&self, rows: &[NodeRow]) -> u64 {
         let t = &self.given;
+        let [nodes, members] = tables_of(rows);
         entries::check(
             &t.schema,
             t.schema_count,
@@ -140,10 +143,10 @@ impl Session {
             t.proof_count,
             t.root,
             t.least,
-            self.nodes.lend(),
-            self.held[0],
-            self.members.lend(),
-            self.held[1],
+            &nodes,
+            rows.len(),
+            &members,
+            members.len(),
         )
     }
 
@@ -195,7 +198,8 @@ pub fn rows_of(t: &Tables) -> Vec<NodeRow> {
 
 const FULL: [usize; 2] = [9216, 8192];
 
-const KINDS: [&str; 44] = [
+const KINDS: [&str; 63] = [
+    "formula rows, in memory with rubbish",
     "formula rows, accepted",
     "formula rows, refused",
     "an addition, accepted",
@@ -240,26 +244,59 @@ const KINDS: [&str; 44] = [
     "counts altered, a refused call",
     "formula rows altered, a refused call",
     "members counted without a node",
+    "an enquiry, accepted",
+    "an enquiry, refused",
+    "an enquiry, closed with the row and not without it",
+    "an enquiry, rubbish past the rows held",
+    "a commit, accepted",
+    "a commit, closed",
+    "refused, 26 and nothing was enquired about",
+    "refused, 26 after an enquiry that says no",
+    "refused, 26 after a commit",
+    "refused, 26 after a take-back",
+    "refused, 26 after an addition",
+    "a row still waits after a refused addition or take-back",
+    "a row waits in place of another",
+    "a waiting row's flag altered, 26",
+    "a waiting row's length altered, 26",
+    "a waiting row's length altered, another refusal",
+    "a waiting row's numbers altered, a refusal",
+    "numbers past a waiting row altered, accepted",
 ];
 
+/// What the last accepted call, or the last enquiry, did to the row that waits.
+#[derive(Clone, Copy, PartialEq, Eq)]
+enum Since {
+    Nothing,
+    Enquiry,
+    Refused,
+    Commit,
+    TakeBack,
+    Addition,
+}
+
 /// Where the kinds of refusals 9 to 17 begin, two for each.
-const AT_ROW: usize = 13;
+const AT_ROW: usize = 14;
 
 struct Comparison<'a> {
     tally: &'a mut Tally,
     kinds: Kinds,
 }
 
-/// A list of calls, and the rows that the accepted ones leave where nothing else writes.
+/// A list of calls, the rows that the accepted ones leave where nothing else writes, and the row that waits.
 struct List {
     what: String,
     session: Session,
     rows: Vec<NodeRow>,
+    pending: Option<NodeRow>,
+    since: Since,
+    /// The last call that changed the rows showed "closed".
+    closed: bool,
 }
 
 impl List {
     fn new(what: &str, t: &Tables, lengths: [usize; 2]) -> List {
-        List { what: what.to_string(), session: Session::new(t, lengths), rows: Vec::new() }
+        List::on(what, Session::new(t, lengths), &[])
     }
 
     /// These rows held, as if they had been added.
@@ -268,65 +305,99 @@ impl List {
         let held = [rows.len(), members.len()];
         nodes.resize(lengths[0], 0);
         members.resize(lengths[1], 0);
-        let session = Session::on(t, Memory { nodes, members, held, shown: 0 });
-        List { what: what.to_string(), session, rows: rows.to_vec() }
+        List::on(what, Session::on(t, Memory { nodes, members, held, shown: 0, waiting: [0; WAITING] }), rows)
+    }
+
+    fn on(what: &str, session: Session, rows: &[NodeRow]) -> List {
+        List {
+            what: what.to_string(),
+            session,
+            rows: rows.to_vec(),
+            pending: None,
+            since: Since::Nothing,
+            closed: false,
+        }
+    }
+
+    /// What a call does to the rows and to the row that waits.
+    fn done(&mut self, call: &Call, accepted: bool) {
+        if accepted && !matches!(call, Call::Enquire(_)) {
+            self.closed = self.session.memory().shown == 1;
+        }
+        match (call, accepted) {
+            (Call::Begin, _) => self.rows.clear(),
+            (Call::Enquire(row), true) => (self.pending, self.since) = (Some(row.clone()), Since::Enquiry),
+            (Call::Enquire(_), false) => (self.pending, self.since) = (None, Since::Refused),
+            (_, false) => {}
+            (Call::Add(row), true) => {
+                self.rows.push(row.clone());
+                (self.pending, self.since) = (None, Since::Addition);
+            }
+            (Call::TakeBack, true) => {
+                self.rows.pop();
+                (self.pending, self.since) = (None, Since::TakeBack);
+            }
+            (Call::Commit, true) => {
+                self.rows.extend(self.pending.take());
+                self.since = Since::Commit;
+            }
+        }
     }
 }
 
 impl Comparison<'_> {
     /// One call, with what 02 says of it; gives its number.
     fn put(&mut self, list: &mut List, call: &Call) -> u64 {
-        let before = list.session.memory().held;
-        let rubbish = has_rubbish(list.session.memory());
+        let before = list.session.memory().clone();
         let result = list.session.call(call);
         self.tally.test(&list.what, result.clone().map(|_| ()).map_err(|why| format!("{}: {why}", about(call))));
         let Ok(packed) = result else { return u64::MAX };
         let accepted = answer(packed) == 0;
-        self.count(&list.session, call, packed, before);
-        if !matches!(call, Call::Begin) && rubbish {
-            let kept = "rubbish past the rows held, a refused call";
-            self.kinds.count(if accepted { "rubbish past the rows held, an accepted call" } else { kept });
+        self.count(&list.session, call, packed, &before);
+        self.count_waiting(list, call, packed);
+        if has_rubbish(&before) {
+            self.kinds.count(match call {
+                Call::Begin => "formula rows, in memory with rubbish",
+                Call::Enquire(_) => "an enquiry, rubbish past the rows held",
+                _ if accepted => "rubbish past the rows held, an accepted call",
+                _ => "rubbish past the rows held, a refused call",
+            });
         }
-        match call {
-            Call::Begin => list.rows.clear(),
-            Call::Add(row) if accepted => list.rows.push(row.clone()),
-            Call::TakeBack if accepted => {
-                list.rows.pop();
-            }
-            _ => {}
-        }
-        let result = as_left(list, accepted, packed);
+        list.done(call, accepted);
+        let result = as_left(list, call, accepted, packed);
         self.tally.test(&list.what, result.map_err(|why| format!("{}: {why}", about(call))));
         packed
     }
 
-    fn count(&mut self, session: &Session, call: &Call, packed: u64, [nodes, members]: [usize; 2]) {
+    fn count(&mut self, session: &Session, call: &Call, packed: u64, before: &Memory) {
         let kinds = &mut self.kinds;
-        let answer = answer(packed);
-        kinds.count_if(session.memory().shown == 1, "closed is shown");
+        let ([nodes, members], answer, shown) = (before.held, answer(packed), session.memory().shown == 1);
+        kinds.count_if(shown, "closed is shown");
         match (call, answer) {
             (Call::Begin, 0) => kinds.count("formula rows, accepted"),
             (Call::Begin, _) => kinds.count("formula rows, refused"),
             (Call::Add(_), 0) => kinds.count("an addition, accepted"),
             (Call::TakeBack, 0) => kinds.count("a take-back, accepted"),
+            (Call::Enquire(_), 0) => kinds.count("an enquiry, accepted"),
+            (Call::Enquire(_), _) => kinds.count("an enquiry, refused"),
+            (Call::Commit, 0) => kinds.count("a commit, accepted"),
             _ => {}
         }
+        kinds.count_if(shown && matches!(call, Call::Commit), "a commit, closed");
+        let closes = shown && matches!(call, Call::Enquire(_));
+        kinds.count_if(closes && before.shown == 0, "an enquiry, closed with the row and not without it");
+        let at_row = place(packed) == nodes as i64 && !matches!(call, Call::TakeBack);
         match (answer, call) {
             (2, _) => kinds.count("refused, 2"),
             (5..=8, _) => kinds.count(["refused, 5", "refused, 6", "refused, 7", "refused, 8"][answer as usize - 5]),
-            (9..=17, Call::Add(_)) if place(packed) == nodes as i64 => {
-                kinds.count(KINDS[AT_ROW + 2 * (answer as usize - 9)])
-            }
-            (9..=17, _) => kinds.count(KINDS[AT_ROW + 2 * (answer as usize - 9) + 1]),
-            (24, Call::Add((_, set))) => {
-                let (tables, members) = (session.memory(), members + set.len());
+            (9..=17, _) => kinds.count(KINDS[AT_ROW + 2 * (answer as usize - 9) + usize::from(!at_row)]),
+            (24, Call::Add((_, set)) | Call::Enquire((_, set))) => {
+                let members = members + set.len();
                 kinds.count_if(nodes == 1024, "refused, 24 for 1,024 nodes");
                 let alone = nodes < 1024;
-                kinds.count_if(
-                    alone && members > 8192 && tables.members.len() >= members,
-                    "refused, 24 for 8,192 members",
-                );
-                let short = [tables.nodes.len() < 9 * (nodes + 1), members <= 8192 && tables.members.len() < members];
+                let passes = members > 8192 && before.members.len() >= members;
+                kinds.count_if(alone && passes, "refused, 24 for 8,192 members");
+                let short = [before.nodes.len() < 9 * (nodes + 1), members <= 8192 && before.members.len() < members];
                 kinds.count_if(alone && short == [true, false], "refused, 24 for the node table");
                 kinds.count_if(alone && short == [false, true], "refused, 24 for the member table");
                 let falls = set.windows(2).any(|pair| pair[0] >= pair[1]);
@@ -338,41 +409,57 @@ impl Comparison<'_> {
         }
     }
 
+    /// Counts what comes of the row that waits; the list is as before the call.
+    fn count_waiting(&mut self, list: &List, call: &Call, packed: u64) {
+        let kinds = &mut self.kinds;
+        let waits = list.pending.is_some();
+        match (call, answer(packed)) {
+            (Call::Enquire(_), 0) => kinds.count_if(waits, "a row waits in place of another"),
+            (Call::Add(_) | Call::TakeBack, 1..) => {
+                kinds.count_if(waits, "a row still waits after a refused addition or take-back")
+            }
+            (Call::Commit, 26) => kinds.count(match list.since {
+                Since::Nothing => "refused, 26 and nothing was enquired about",
+                Since::Commit => "refused, 26 after a commit",
+                Since::TakeBack => "refused, 26 after a take-back",
+                Since::Addition => "refused, 26 after an addition",
+                Since::Refused | Since::Enquiry => "refused, 26 after an enquiry that says no",
+            }),
+            _ => {}
+        }
+    }
+
     fn close(&mut self, list: List) {
         let outside = || Err("written outside of what was lent".to_string());
         self.tally.test(&list.what, if list.session.within() { Ok(()) } else { outside() });
     }
 
-    /// A call after the memory or what is given was changed; all is as before after it, unless it is accepted.
-    fn altered(
-        &mut self,
-        list: &mut List,
-        call: &Call,
-        kind: &'static str,
-        alter: impl FnOnce(&mut Memory, &mut Tables),
-    ) {
+    /// A call after the memory or what is given was changed; all is as before after it. Gives its number.
+    fn altered(&mut self, list: &mut List, call: &Call, alter: impl FnOnce(&mut Memory, &mut Tables)) -> u64 {
         let (memory, given) = (list.session.memory().clone(), list.session.given.clone());
         let mut changed = memory.clone();
         alter(&mut changed, &mut list.session.given);
-        list.session.set_memory(changed);
+        list.session.set_memory(changed.clone());
         let what = format!("{}, altered", list.what);
         let result = list.session.call(call);
         self.tally.test(&what, result.clone().map(|_| ()).map_err(|why| format!("{}: {why}", about(call))));
         if let Ok(packed) = result {
-            let held = memory.held;
-            self.count(&list.session, call, packed, held);
-            self.kinds.count_if(answer(packed) != 0, kind);
+            self.count(&list.session, call, packed, &changed);
         }
         list.session.given = given;
         list.session.set_memory(memory);
+        result.unwrap_or(u64::MAX)
     }
 }
 
 /// A call in few words.
 fn about(call: &Call) -> String {
     match call {
-        Call::Add((row, set)) if set.len() > 20 => format!("add {row:?} with {} members", set.len()),
-        Call::Add((row, set)) => format!("add {row:?} {set:?}"),
+        Call::Add((row, set)) | Call::Enquire((row, set)) => {
+            let call = if matches!(call, Call::Add(_)) { "add" } else { "enquire" };
+            let set = if set.len() > 20 { format!("with {} members", set.len()) } else { format!("{set:?}") };
+            format!("{call} {row:?} {set}")
+        }
         call => format!("{call:?}"),
     }
 }
@@ -384,9 +471,20 @@ fn has_rubbish(memory: &Memory) -> bool {
     past(&memory.nodes, nodes.saturating_mul(9)) || past(&memory.members, members)
 }
 
-/// The rows held are those that the accepted calls leave, the counts are theirs, and "closed" is shown where the check
-/// accepts them, but not by a refused call.
-fn as_left(list: &mut List, accepted: bool, packed: u64) -> Result<(), String> {
+/// A row as it waits.
+fn stored(pending: &Option<NodeRow>) -> [i32; WAITING] {
+    let mut waiting = [0; WAITING];
+    if let Some((row, set)) = pending {
+        let numbers = [1, set.len() as i32].into_iter().chain(*row).chain(set.iter().copied());
+        waiting.iter_mut().zip(numbers).for_each(|(place, number)| *place = number);
+    }
+    waiting
+}
+
+/// The rows held are those that the accepted calls leave, and the row waits that should; the counts are those of the rows
+/// held, or of those with the row enquired about, and "closed" is shown where the check accepts these, but not by a
+/// refused call.
+fn as_left(list: &List, call: &Call, accepted: bool, packed: u64) -> Result<(), String> {
     let [nodes, members] = tables_of(&list.rows);
     let memory = list.session.memory();
     let held = memory.held == [list.rows.len(), members.len()]
@@ -395,20 +493,26 @@ fn as_left(list: &mut List, accepted: bool, packed: u64) -> Result<(), String> {
     if !held {
         return Err(format!("{} rows are held, not those of the accepted calls", memory.held[0]));
     }
-    if accepted && has_rubbish(memory) {
+    if memory.waiting != stored(&list.pending) {
+        return Err("not the row that should waits, or one where none should".to_string());
+    }
+    if accepted && has_rubbish(memory) && !matches!(call, Call::Enquire(_)) {
         return Err("an accepted call leaves rubbish past the rows held".to_string());
     }
-    let shown = memory.shown;
-    let links = list.rows.iter().filter(|(row, _)| row[1] == 8).count();
-    let counts = (1_u64 << 26) + ((list.rows.len() as u64) << 13) + links as u64;
-    if accepted && packed != counts {
-        return Err(format!("{packed:#x} is not the counts of the rows held, {counts:#x}"));
+    let mut rows = list.rows.clone();
+    if let Call::Enquire(row) = call {
+        rows.push(row.clone());
     }
-    let closed = accepted && list.session.check() == counts;
-    if shown == i32::from(closed) {
+    let links = rows.iter().filter(|(row, _)| row[1] == 8).count();
+    let counts = (1_u64 << 26) + ((rows.len() as u64) << 13) + links as u64;
+    if accepted && packed != counts {
+        return Err(format!("{packed:#x} is not the counts of the rows spoken of, {counts:#x}"));
+    }
+    let closed = accepted && list.session.check(&rows) == counts;
+    if memory.shown == i32::from(closed) {
         Ok(())
     } else {
-        Err(format!("{shown} is shown, and closed is {closed}"))
+        Err(format!("{} is shown, and closed is {closed}", memory.shown))
     }
 }
 
@@ -482,6 +586,18 @@ fn alteration(rng: &mut Rng) -> (&'static str, impl FnOnce(&mut Memory, &mut Tab
     (kind, alter)
 }
 
+/// Something else in the row that waits: a number's place, another number, and what that is.
+fn waiting_alteration(rng: &mut Rng, set: usize) -> (usize, i32, &'static str) {
+    match rng.below(6) {
+        0 => (0, rng.pick(&[0, 2, -1, 3, i32::MIN, i32::MAX]), "flag"),
+        1 => (1, rng.pick(&[-1, 1025, 1033, i32::MIN, i32::MAX, 1 << 16]), "length"),
+        2 => (1, rng.pick(&[0, 1, set as i32 - 1, set as i32 + 1, 1024]), "length"),
+        3 => (9 + set + rng.below(1024 - set), odd_number(rng, 3), "past"),
+        4 if set > 0 => (9 + rng.below(set), odd_number(rng, 3), "numbers"),
+        _ => (2 + rng.below(7), odd_number(rng, 3), "numbers"),
+    }
+}
+
 /// Rubbish past the rows held.
 fn litter(list: &mut List, rng: &mut Rng) {
     let mut memory = list.session.memory().clone();
@@ -500,29 +616,97 @@ impl Comparison<'_> {
     fn feed(&mut self, list: &mut List, rows: &[NodeRow], from: usize, rng: &mut Rng) -> bool {
         let row_count = list.session.given.schema_count + list.session.given.proof_count;
         for at in from..rows.len() {
+            let row = &rows[at];
             if rng.chance(25) {
-                let row = wrong_row(rng, rows, at, row_count);
-                if answer(self.put(list, &Call::Add(row))) == 0 {
-                    self.put(list, &Call::TakeBack);
-                }
+                let wrong = wrong_row(rng, rows, at, row_count);
+                self.tries(list, wrong, rng);
             }
             if rng.chance(15) {
                 litter(list, rng);
             }
             if rng.chance(15) {
-                let call = if rng.chance(70) { Call::Add(rows[at].clone()) } else { Call::TakeBack };
+                let calls = [Call::Add(row.clone()), Call::TakeBack, Call::Enquire(row.clone()), Call::Commit];
                 let (kind, alter) = alteration(rng);
-                self.altered(list, &call, kind, alter);
+                let packed = self.altered(list, &calls[rng.below(4)], alter);
+                self.kinds.count_if(answer(packed) != 0, kind);
             }
-            if answer(self.put(list, &Call::Add(rows[at].clone()))) != 0 {
+            let packed = match rng.chance(50) {
+                true => self.put(list, &Call::Add(row.clone())),
+                false => self.settles(list, rows, at, rng),
+            };
+            if answer(packed) != 0 {
                 return false;
             }
             if rng.chance(10) {
                 self.put(list, &Call::TakeBack);
-                self.put(list, &Call::Add(rows[at].clone()));
+                self.put(list, &Call::Add(row.clone()));
+            }
+            if rng.chance(5) {
+                self.put(list, &Call::Commit);
             }
         }
         true
+    }
+
+    /// A row that may be wrong, added, or enquired about and perhaps committed; in the end it is not there.
+    fn tries(&mut self, list: &mut List, row: NodeRow, rng: &mut Rng) {
+        let mut last = if rng.chance(50) { Call::Add(row) } else { Call::Enquire(row) };
+        let mut packed = self.put(list, &last);
+        if matches!(last, Call::Enquire(_)) && rng.chance(50) {
+            last = Call::Commit;
+            packed = self.put(list, &last);
+        }
+        if answer(packed) == 0 && !matches!(last, Call::Enquire(_)) {
+            self.put(list, &Call::TakeBack);
+        }
+    }
+
+    /// Row `at` enquired about and committed, with other calls in between.
+    fn settles(&mut self, list: &mut List, rows: &[NodeRow], at: usize, rng: &mut Rng) -> u64 {
+        let enquiry = Call::Enquire(rows[at].clone());
+        let packed = self.put(list, &enquiry);
+        if answer(packed) != 0 {
+            self.put(list, &Call::Commit);
+            return packed;
+        }
+        if rng.chance(30) {
+            let (place, value, what) = waiting_alteration(rng, rows[at].1.len());
+            let packed = self.altered(list, &Call::Commit, |memory, _| memory.waiting[place] = value);
+            match (what, answer(packed)) {
+                (_, u64::MAX) | ("length" | "numbers", 0) => {}
+                ("flag", 26) => self.kinds.count("a waiting row's flag altered, 26"),
+                ("length", 26) => self.kinds.count("a waiting row's length altered, 26"),
+                ("length", _) => self.kinds.count("a waiting row's length altered, another refusal"),
+                ("numbers", _) => self.kinds.count("a waiting row's numbers altered, a refusal"),
+                ("past", 0) => self.kinds.count("numbers past a waiting row altered, accepted"),
+                (what, answer) => {
+                    self.tally.test(&list.what, Err(format!("{what} of a waiting row altered: {answer}")));
+                }
+            }
+        }
+        if rng.chance(15) {
+            let (row, set) = rows[at].clone();
+            self.put(list, &Call::Add((row, [set, vec![-1]].concat())));
+        }
+        if rng.chance(10) {
+            // The row before it, which is the last one that is there, taken back and added again; it waits on if there is none.
+            let before = list.rows.last().cloned();
+            self.put(list, &Call::TakeBack);
+            if let Some(row) = before {
+                self.put(list, &Call::Commit);
+                self.put(list, &Call::Add(row));
+                self.put(list, &Call::Commit);
+                self.put(list, &enquiry);
+            }
+        }
+        if rng.chance(10) {
+            self.put(list, &enquiry);
+        }
+        let packed = self.put(list, &Call::Commit);
+        if rng.chance(20) {
+            self.put(list, &Call::Commit);
+        }
+        packed
     }
 
     /// A record's rows fed to memory of some lengths, then some taken back, perhaps more than there are.
@@ -538,13 +722,12 @@ impl Comparison<'_> {
         let mut list = List::new(what, t, lengths);
         let begun = answer(self.put(&mut list, &Call::Begin)) == 0;
         let whole = self.feed(&mut list, &rows, 0, rng) && begun && !rows.is_empty();
-        let closed = whole && list.session.memory().shown == 1;
+        let closed = whole && list.closed;
         self.kinds.count_if(closed, "a record grown whole, closed");
         if closed {
             self.put(&mut list, &Call::TakeBack);
             self.put(&mut list, &Call::Add(rows[rows.len() - 1].clone()));
-            let again = list.session.memory().shown == 1;
-            self.kinds.count_if(again, "closed before and after a take-back of one row and its addition");
+            self.kinds.count_if(list.closed, "closed before and after a take-back of one row and its addition");
         }
         for _ in 0..rng.pick(&[0, 1, 2, list.rows.len() + 2]).min(40) {
             self.put(&mut list, &Call::TakeBack);
@@ -570,7 +753,7 @@ impl Comparison<'_> {
             list = List::holding(&what, &t, FULL, &rows[..from]);
         }
         let whole = self.feed(&mut list, &rows, from, rng);
-        let closed = whole && list.session.memory().shown == 1;
+        let closed = whole && list.closed;
         let accepted = file("expected").starts_with(b"0 ") && !folder.join("older").is_file();
         let why = || format!("closed is {closed}, the check accepts is {accepted}");
         self.tally.test(&what, if closed == accepted { Ok(()) } else { Err(why()) });
@@ -584,6 +767,8 @@ pub fn test(tally: &mut Tally, run: &Run) {
     comparison.by_hand();
     comparison.rooms();
     comparison.altered_by_hand();
+    comparison.enquiries_by_hand();
+    comparison.waiting_altered_by_hand();
     let rng = &mut Rng::new(run.seed);
     // Every row of each record in the longer runs.
     let last = if run.count < 1000 { 6 } else { usize::MAX };
@@ -726,7 +911,8 @@ impl Comparison<'_> {
             (17, 0, |memory| memory.nodes[36] = 0),
         ];
         for (answer, place, alter) in cases {
-            for call in [Call::Add(rows[6].clone()), Call::TakeBack] {
+            let row = &rows[6];
+            for call in [Call::Add(row.clone()), Call::TakeBack, Call::Enquire(row.clone()), Call::Commit] {
                 let mut list = List::holding("a tableau altered between calls", &t, FULL, &rows[..6]);
                 let mut memory = list.session.memory().clone();
                 alter(&mut memory);
@@ -734,7 +920,8 @@ impl Comparison<'_> {
                 let found = list.session.call(&call);
                 let expected = Ok((answer, place));
                 if let Ok(packed) = found {
-                    self.count(&list.session, &call, packed, [6, 12]);
+                    let before = Memory { held: [6, 12], ..memory.clone() };
+                    self.count(&list.session, &call, packed, &before);
                 }
                 let found = found.map(|packed| (self::answer(packed), self::place(packed)));
                 let why = || format!("{}: {found:?}, expected {expected:?}", about(&call));
@@ -745,7 +932,14 @@ impl Comparison<'_> {
             }
         }
         // Members are counted, and there is no node: the first row's set would not start at 0.
-        for (call, expected) in [(Call::TakeBack, (25, -1)), (Call::Add(rows[0].clone()), (9, 0))] {
+        let row = &rows[0];
+        let calls = [
+            (Call::TakeBack, (25, -1)),
+            (Call::Add(row.clone()), (9, 0)),
+            (Call::Enquire(row.clone()), (9, 0)),
+            (Call::Commit, (26, -1)),
+        ];
+        for (call, expected) in calls {
             let mut list = List::holding("members without a node", &t, FULL, &[]);
             let memory = Memory { held: [0, 1], ..list.session.memory().clone() };
             list.session.set_memory(memory);
@@ -753,6 +947,113 @@ impl Comparison<'_> {
             let why = || format!("{}: {found:?}, expected {expected:?}", about(&call));
             self.tally.test(&list.what, if found == Ok(expected) { Ok(()) } else { Err(why()) });
             self.kinds.count("members counted without a node");
+            self.close(list);
+        }
+    }
+}
+
+impl Comparison<'_> {
+    /// The paper's record by enquiries and commits; the answers worked out by hand.
+    fn enquiries_by_hand(&mut self) {
+        let t = paper();
+        let rows = rows_of(&t);
+        let enquire = |at: usize| Call::Enquire(rows[at].clone());
+        let (row, set) = rows[5].clone();
+        let wrong = (row, vec![7, 5]);
+        let other = ([4, 2, -1, -1, -1, -1, 0], vec![2, 5, 7]);
+        let mut list = List::new("the paper's record, enquired about", &t, FULL);
+        self.expect(&mut list, &Call::Begin, (0, 0));
+        for at in 0..5 {
+            litter(&mut list, &mut Rng::new(at as u64));
+            self.expect(&mut list, &Call::Commit, (26, -1));
+            self.expect(&mut list, &enquire(at), (0, 0));
+            self.expect(&mut list, &Call::Commit, (0, 0));
+        }
+        let calls = [
+            (enquire(5), (0, 0)),
+            (Call::Enquire(wrong.clone()), (9, 5)),
+            (Call::Commit, (26, -1)),
+            (Call::Enquire(other), (0, 0)),
+            (enquire(5), (0, 0)),
+            (Call::Add(wrong), (9, 5)),
+            (Call::Commit, (0, 0)),
+            (Call::Commit, (26, -1)),
+            (enquire(6), (0, 0)),
+            (Call::TakeBack, (0, 0)),
+            (Call::Commit, (26, -1)),
+            (enquire(5), (0, 0)),
+            (Call::Add((row, set)), (0, 0)),
+            (Call::Commit, (26, -1)),
+            (enquire(6), (0, 0)),
+            (Call::Commit, (0, 0)),
+            (enquire(6), (17, 7)),
+            (Call::Commit, (26, -1)),
+        ];
+        for (call, expected) in calls {
+            self.expect(&mut list, &call, expected);
+        }
+        self.close(list);
+        // No room, in tables for the rows held: asked about, and found when a row that waits is committed.
+        let mut list = List::holding("an enquiry without room", &t, [45, 12], &rows[..5]);
+        self.expect(&mut list, &enquire(5), (24, -1));
+        self.close(list);
+        let mut list = List::holding("an enquiry without room", &t, [54, 11], &rows[..5]);
+        self.expect(&mut list, &enquire(5), (24, -1));
+        self.close(list);
+        // Nothing to take back, and a row waits on.
+        let mut list = List::holding("the first row, enquired about", &t, FULL, &[]);
+        self.expect(&mut list, &enquire(0), (0, 0));
+        self.expect(&mut list, &Call::TakeBack, (25, -1));
+        self.expect(&mut list, &Call::Commit, (0, 0));
+        self.close(list);
+    }
+
+    /// The paper's row 5 waits, and something else writes; the answers worked out by hand.
+    fn waiting_altered_by_hand(&mut self) {
+        let t = paper();
+        let rows = rows_of(&t);
+        type Alter = fn(&mut Memory);
+        let cases: [(u64, i64, &str, Alter); 22] = [
+            (26, -1, "flag", |memory| memory.waiting[0] = 0),
+            (26, -1, "flag", |memory| memory.waiting[0] = 2),
+            (26, -1, "flag", |memory| memory.waiting[0] = -1),
+            (26, -1, "length", |memory| memory.waiting[1] = -1),
+            (26, -1, "length", |memory| memory.waiting[1] = 1025),
+            (26, -1, "length", |memory| memory.waiting[1] = i32::MIN),
+            (26, -1, "length", |memory| memory.waiting[1] = i32::MAX),
+            (9, 5, "other length", |memory| memory.waiting[1] = 1024),
+            (16, 5, "other length", |memory| memory.waiting[1] = 1),
+            (16, 5, "other length", |memory| memory.waiting[1] = 0),
+            (10, 5, "numbers", |memory| memory.waiting[2] = 5),
+            (17, 5, "numbers", |memory| memory.waiting[2] = 0),
+            (12, 5, "numbers", |memory| memory.waiting[3] = 9),
+            (13, 5, "numbers", |memory| memory.waiting[7] = 5),
+            (14, 5, "numbers", |memory| memory.waiting[8] = 2),
+            (9, 5, "numbers", |memory| memory.waiting[10] = 5),
+            (11, 5, "numbers", |memory| memory.waiting[10] = 6),
+            (24, -1, "", |memory| memory.nodes.truncate(53)),
+            (24, -1, "", |memory| memory.members.truncate(11)),
+            // The rows held come before 26.
+            (12, 2, "", |memory| (memory.nodes[19], memory.waiting[0]) = (9, 0)),
+            (2, -1, "", |memory| memory.nodes.truncate(44)),
+            (0, 0, "past", |memory| memory.waiting[11] = 9),
+        ];
+        for (answer, place, what, alter) in cases {
+            let mut list = List::holding("a waiting row altered between calls", &t, FULL, &rows[..5]);
+            self.expect(&mut list, &Call::Enquire(rows[5].clone()), (0, 0));
+            let packed = self.altered(&mut list, &Call::Commit, |memory, _| alter(memory));
+            let found = (self::answer(packed), self::place(packed));
+            let why = || format!("{what}: {found:?}, expected {:?}", (answer, place));
+            self.tally.test(&list.what, if found == (answer, place) { Ok(()) } else { Err(why()) });
+            match what {
+                "flag" => self.kinds.count("a waiting row's flag altered, 26"),
+                "length" => self.kinds.count("a waiting row's length altered, 26"),
+                "other length" => self.kinds.count("a waiting row's length altered, another refusal"),
+                "numbers" => self.kinds.count("a waiting row's numbers altered, a refusal"),
+                "past" => self.kinds.count("numbers past a waiting row altered, accepted"),
+                _ => {}
+            }
+            self.expect(&mut list, &Call::Commit, (0, 0));
             self.close(list);
         }
     }
@@ -781,7 +1082,7 @@ fn formula_rows() -> [(u64, i64, AlterRows); 9] {
     ]
 }
 
-/// The last row of the largest and slowest tableaux added, and taken back.
+/// The last row of the largest and slowest tableaux added, taken back, enquired about and committed.
 pub fn heavy(tally: &mut Tally) {
     let mut comparison = Comparison { tally, kinds: Kinds::new("growing", &KINDS) };
     for (name, t) in heavy::tableaux() {
@@ -791,6 +1092,8 @@ pub fn heavy(tally: &mut Tally) {
         let closed = list.session.memory().shown == 1;
         comparison.tally.test(name, if closed { Ok(()) } else { Err("not closed".to_string()) });
         comparison.expect(&mut list, &Call::TakeBack, (0, 0));
+        comparison.expect(&mut list, &Call::Enquire(rows[rows.len() - 1].clone()), (0, 0));
+        comparison.expect(&mut list, &Call::Commit, (0, 0));
         comparison.close(list);
     }
 }

@@ -18,7 +18,7 @@ use zorambi_compare::tidy;
 use zorambi_reference::generate::models::ModelTables;
 use zorambi_reference::generate::tables::Tables;
 use zorambi_reference::generate::Input;
-use zorambi_reference::grow::{Given, Memory};
+use zorambi_reference::grow::{Given, Memory, WAITING};
 use zorambi_reference::{formula, model, tableau, text, Verdict};
 
 /// Seconds that one call takes, the median of some rounds.
@@ -401,8 +401,9 @@ fn add(name: &str, t: &Tables) -> Times {
     let mut rows = grow::rows_of(t);
     let (row, set) = rows.pop().expect("a row to add");
     let before = [rows.len(), t.member_count - set.len()];
-    let mut theirs = Memory { nodes: t.nodes.clone(), members: t.members.clone(), held: before, shown: 0 };
-    let Memory { mut nodes, mut members, mut held, .. } = theirs.clone();
+    let (nodes, members) = (t.nodes.clone(), t.members.clone());
+    let mut theirs = Memory { nodes, members, held: before, shown: 0, waiting: [0; WAITING] };
+    let Memory { mut nodes, mut members, mut held, mut waiting, .. } = theirs.clone();
     let mut shown = [0];
     let times = time(
         || {
@@ -420,6 +421,7 @@ fn add(name: &str, t: &Tables) -> Times {
                 &mut shown,
                 &row,
                 &set,
+                &mut waiting,
             ));
         },
         || {
