@@ -203,6 +203,14 @@ commit
 $(for n in $(seq 2 9); do echo "4 $n 0 0 open refused: a line's form (4) at line $n"; done)
 0 0 1 0 open
 " "$work/g"
+# Nor is an enquiry that ends with the input before its row.
+for cut in '?' '? '; do
+  answers "an enquiry '$cut' cut short" "-1 0 4 -1 -1 -1 0 4
+$cut" "0 0 0 0 open
+0 0 1 0 open
+4 2 0 0 open refused: a line's form (4) at line 2
+" "$work/g"
+done
 # What only waits is not saved.
 answers "an enquiry, and save" "$first? ${last%%$'\n'*}
 save $work/g/five

@@ -104,8 +104,9 @@ fn state(now: Standing) -> &'static str {
 /// What is done with a row: it is added, or asked about.
 type Call = fn(&mut Growing, [i32; 7], &[i32]) -> Result<Standing, Refused>;
 
-/// A row is read as the one row of a proof text.
+/// A row is read as the one row of a proof text. No row at all is an empty line.
 fn with_row(growing: &mut Growing, call: Call, line: &[u8], number: usize) -> String {
+    let line = if line.is_empty() { b"\n" } else { line };
     match read_proof(&[HEADINGS, line].concat()) {
         // Place 0 is the whole text, one too long.
         Err(Refused { refusal, place }) => {
