@@ -152,11 +152,12 @@ uint64_t zorambi_tidy(const int32_t *schema, size_t schema_len, size_t schema_ro
 
 /* Two records joined: the schema has the first's rows, the second's, then the or of both roots as its root. The tableau
  * starts with rule 1 on that or, then has the first's nodes and the second's; the proof rows, the first's before the second's, are
- * tidied as by zorambi_tidy. The lent tables need their full sizes, 4096, 4096, 9216 and 8192 numbers; the results of a success
- * are root, least and the numbers of schema rows, proof rows, nodes and members, and the tables are 0 past these. zorambi_check
- * accepts the join; its nodes are one more than those of both, its links the sum of theirs. What zorambi_check refuses
- * is refused alike, the first before the second; then least values that differ; then a join over a limit. Tables and results are
- * then all 0. */
+ * tidied as by zorambi_tidy. The lent tables need their full sizes, 4096, 4096, 9216 and 8192 numbers: if not, that is
+ * ZORAMBI_TABLE_TOO_SHORT at place 0, before all else. The results of a success are root, least and the numbers of schema rows,
+ * proof rows, nodes and members, and the tables are 0 past these; the counts in the number are 0. zorambi_check accepts the join,
+ * with one node more than both have and the sum of their links. What zorambi_check refuses is refused alike, the first before the
+ * second, and the number does not tell which it was: ask zorambi_check. Then come least values that differ, then a join over a
+ * limit. After a refusal tables and results are all 0. */
 uint64_t zorambi_join(const int32_t *schema_1, size_t schema_1_len, size_t schema_1_rows,
                       const int32_t *proof_1, size_t proof_1_len, size_t proof_1_rows,
                       int32_t root_1, int32_t least_1,
