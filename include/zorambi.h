@@ -181,7 +181,8 @@ uint64_t zorambi_join(const int32_t *schema_1, size_t schema_1_len, size_t schem
  * ZORAMBI_CHILDREN at the parent.
  *
  * zorambi_begin takes the formula rows, by themselves, under the check. Whatever it answers and whatever was held, no row is held
- * after it: both tables, held and shown are all 0. So the memory needs no start of its own.
+ * after it: both tables, held and shown are all 0. So these four need no start of their own.
+ * The number's counts are 0, and a refusal is one of the check's on formula rows.
  *
  * zorambi_add adds a node row at the end, with its set, which needs no place of its own: it follows the sets held. Before the row
  * is looked at it needs room: ZORAMBI_ROOM (place -1) if 1024 nodes are held, if there would be more than 8192 members, or if
