@@ -191,7 +191,8 @@ uint64_t zorambi_join(const int32_t *schema_1, size_t schema_1_len, size_t schem
  * ZORAMBI_SET for its set's order or members, ZORAMBI_PARENT, ZORAMBI_CHILDREN if its parent has all the children that its rule
  * has, then ZORAMBI_DRAWN to ZORAMBI_LOWERED.
  *
- * zorambi_take_back takes the last row back; ZORAMBI_NO_ROW (place -1) if none is held.
+ * zorambi_take_back takes the last row back; ZORAMBI_NO_ROW (place -1) if none is held. Both are lent waiting too, of which the
+ * next paragraphs speak: where they succeed nothing waits.
  *
  * zorambi_enquire asks about a row. It answers and shows what zorambi_add would, and leaves the tables and held as they are, past
  * the rows held too. A row about which it says yes waits in a further piece of lent memory, waiting: 1, its set's length, its
