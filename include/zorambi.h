@@ -129,7 +129,8 @@ uint64_t zorambi_convert(const int32_t *wide, size_t wide_len, size_t wide_rows,
 /* The next of all small tables of so many rows, 1 to 3, in ascending order of their numbers: well-formed tables with symbol 0,
  * literal offsets -1 to 1, iterations from 0 with c 0 or 1, and an outer last row, which is the root. The first is all 0.
  * zorambi_nodes is 1 where a next table is given, in the lent table, which needs 4 numbers a row and is 0 past these. It is 0
- * where the given table is the last one; the lent table is then all 0, as after a refusal. */
+ * where the given table is the last one; the lent table is then all 0, as after a refusal. A table shorter than its rows, the
+ * given or the lent one, is ZORAMBI_TABLE_TOO_SHORT at place -1; then comes ZORAMBI_NOT_LISTED. */
 uint64_t zorambi_next_small(const int32_t *table, size_t table_len, size_t rows, int32_t *next, size_t next_len);
 
 /* ---- Older records, tidied. */
