@@ -236,8 +236,9 @@ uint64_t zorambi_commit(const int32_t *schema, size_t schema_len, size_t schema_
                         int32_t *nodes, size_t nodes_len, int32_t *members, size_t members_len,
                         size_t held[2], int32_t shown[1], int32_t waiting[1033]);
 
-/* The one number that comes back from the others: ((answer * 8192 + place + 1) * 8192 + nodes) * 8192 + links. In reading and
- * writing both counts are 0, but that a text that was written has its bytes in their place. */
+/* The one number that comes back from the others: ((answer * 8192 + place + 1) * 8192 + nodes) * 8192 + links. In reading,
+ * writing, converting, tidying and joining both counts are 0, but that a text that was written has its bytes in their place. Arrays
+ * with a fixed number of numbers are read or written whole, and may not be NULL. */
 static inline unsigned zorambi_answer(uint64_t packed) { return (unsigned)(packed >> 39); }
 static inline int zorambi_place(uint64_t packed) { return (int)((packed >> 26) & 8191) - 1; }
 static inline unsigned zorambi_nodes(uint64_t packed) { return (unsigned)((packed >> 13) & 8191); }
