@@ -462,9 +462,9 @@ fn no_two_of_one_class() -> Tables {
     })
 }
 
-/// Literals whose columns give one sum modulo 1021: a table that finds rows by such a sum has them all in one place.
+/// Literals whose columns give one sum modulo 4096: a table that finds rows by such a sum has them all in one place.
 fn one_key() -> Tables {
-    filled(|b| b.rows.extend(rows_of_one_key(0).step_by(5).take(1023)))
+    filled(|b| b.rows.extend(rows_of_one_key(0).step_by(3).take(1023)))
 }
 
 /// Ors of any two of 45 literals.

@@ -444,11 +444,11 @@ fn fill(tree: &mut Tree, rng: &mut Rng, count: usize) {
     }
 }
 
-/// Adds literals, no two equal, whose columns give one sum modulo 1021: a table that finds rows by such a sum has
+/// Adds literals, no two equal, whose columns give one sum modulo 4096: a table that finds rows by such a sum has
 /// them all in one place. Gives the first one's number.
 fn one_key(tree: &mut Tree, rng: &mut Rng) -> usize {
     let from = tree.rows.len();
-    let key = rng.range(0, 1020);
+    let key = rng.range(0, 4095);
     let count = rng.pick(&[2, 3, 10, 60, 100]);
     for row in rows_of_one_key(key).skip(rng.below(500)).step_by(1 + rng.below(30)).take(count) {
         tree.rows.push(row);
@@ -456,15 +456,15 @@ fn one_key(tree: &mut Tree, rng: &mut Rng) -> usize {
     from
 }
 
-/// Literals with kind + 13 a + 421 b + 601 c = key modulo 1021, all of them different.
+/// Literals with 5 kind + 128 a + 7 b + 3 c = key modulo 4096, all of them different.
 pub fn rows_of_one_key(key: i32) -> impl Iterator<Item = Row> {
     let literals = (0..=MAX_SYMBOL).flat_map(|a| [PLAIN, ON_N, ON_I].map(|b| [a, b]));
     literals.flat_map(move |[a, b]| {
         let kind = LITERAL + (a + b) % 2;
-        let rest = key - kind - 13 * a - 421 * b;
-        // 1021 is a prime, so that one c of 1021 fits.
-        let c = (0..1021).find(|c| (601 * c - rest) % 1021 == 0).unwrap_or_default();
-        [0, 1021, -1021, 2042, -2042, 8168, -9189].map(|more| [kind, a, b, c + more])
+        let rest = key - 5 * kind - 128 * a - 7 * b;
+        // 3 is odd, so that one c of 4096 fits.
+        let c = (0..4096).find(|c| (3 * c - rest) % 4096 == 0).unwrap_or_default();
+        [0, 4096, -4096, -8192].map(|more| [kind, a, b, c + more])
     })
 }
 
