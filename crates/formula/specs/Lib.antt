@@ -3,3 +3,4 @@ pub mod Column
 pub mod Facts
 pub mod Kept
 pub mod Rows
+pub mod Spread

@@ -2,6 +2,7 @@
 pub mod cells;
 pub mod kept;
 pub mod rows;
+pub mod spread;
 
 ghost use mathlib.Core.Path.{_≡_};
 ghost use Prim.Native.Nat.{_<_, _^_};
