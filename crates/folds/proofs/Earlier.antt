@@ -1,9 +1,9 @@
--- The earliest row with the columns of another, by chains; and rows that agree below a number.
+-- The earliest row with the columns of another, by links; and rows that agree below a number.
 use Prim.Native.Nat.{ℕ, zero, suc, _-_, _<_, _≤_}
 use native.Mathlib.Omega.{arith}
 use mathlib.Core.Path.{_≡_, refl, sym, _∙_, ap, ap₂, subst}
 use mathlib.Core.Logic.{⊎-elim}
-use mathlib.Core.Bool.{Bool, true, false, false≢true}
+use mathlib.Core.Bool.{true, false, false≢true}
 use mathlib.Core.List.{List}
 use mathlib.Core.Option.{Option, none, some}
 use lib.ListN.{getD}
@@ -12,7 +12,7 @@ use Rattle.stab.specs.Formula.{Row}
 use Rattle.stab.specs.Check.{sameRow, standsBefore}
 use Rattle.stab.proofs.Bools.{decide, or-first-false, or-false-left, or-false-right, if-true, if-false, otherwise-none, otherwise-some}
 use Rattle.stab.proofs.Scans.{below-suc, scan-same}
-use Rattle.repeats.specs.Chain.{slotOf, Leads, Chained}
+use Rattle.repeats.specs.Places.{placeOf, Leads, Linked}
 use Rattle.tidied.specs.Tidied.{earliest}
 use Rattle.tidied.proofs.Foldings.{earliest-some}
 use Rattle.folds.specs.Folds.{rowOr}
@@ -61,7 +61,7 @@ module _ (rows : ℕ → Row) (w : Row) where
       (λ t. (n, earliest-more n ∙ otherwise-none _ _ (stands-none n t) ∙ if-true (sameRow (rows n) w) _ _ (sym (or-first-false _ _ t) ∙ h)))
       (decide (standsBefore rows n w))
 
-  -- a chain leads to it
+  -- the links lead to it
   leads-earliest : (m v : ℕ) → Leads rows w m v → earliest rows m w ≡ earliest rows v w
   leads-earliest m v l =
       ⊎-elim
@@ -96,17 +96,17 @@ module _ (rows : ℕ → Row) (w : Row) where
     pub found-small : q ≤ n
     found-small = omega (arith, small n (earliest rows n w) refl)
 
--- ---- going back through the rows of one slot
+-- ---- going back through the rows of one place
 
 -- `best` is the earliest equal of row r from `rest` on, or r
 pub record Walk (rows : ℕ → Row) (r best rest : ℕ) : Type 0 where
   pub within : rest ≤ r
-  pub of-slot : 0 < rest → slotOf (rows (rest - 1)) ≡ slotOf (rows r)
+  pub of-place : 0 < rest → placeOf (rows (rest - 1)) ≡ placeOf (rows r)
   pub finds : rowOr r (earliest rows r (rows r)) ≡ rowOr best (earliest rows rest (rows r))
 
 module _ (rows : ℕ → Row) (r : ℕ) where
   pub walk-start : (v : ℕ) → Leads rows (rows r) r v → Walk rows r r v
-  walk-start v l = record { within = l .within; of-slot = l .of-slot; finds = ap (rowOr r) (leads-earliest rows (rows r) r v l) }
+  walk-start v l = record { within = l .within; of-place = l .of-place; finds = ap (rowOr r) (leads-earliest rows (rows r) r v l) }
 
   pub walk-end : (best rest : ℕ) → rest ≤ 0 → Walk rows r best rest → best ≡ rowOr r (earliest rows r (rows r))
   unfolding rowOr earliest scan
@@ -127,14 +127,14 @@ module _ (rows : ℕ → Row) (r : ℕ) where
     pub walk-found : sameRow (rows (rest - 1)) (rows r) ≡ true → Walk rows r (rest - 1) u
     walk-found h = record {
       within = omega (arith, l .within, k .within);
-      of-slot = l .of-slot;
+      of-place = l .of-place;
       finds = k .finds ∙ ap (rowOr best) (here ∙ ap (λ (o : Option ℕ). earliest rows u (rows r) otherwise o) (if-true (sameRow (rows (rest - 1)) (rows r)) _ _ h)) ∙ or-this (earliest rows u (rows r)) best (rest - 1);
     }
 
     pub walk-on : sameRow (rows (rest - 1)) (rows r) ≡ false → Walk rows r best u
     walk-on h = record {
       within = omega (arith, l .within, k .within);
-      of-slot = l .of-slot;
+      of-place = l .of-place;
       finds = k .finds ∙ ap (rowOr best) (here ∙ ap (λ (o : Option ℕ). earliest rows u (rows r) otherwise o) (if-false (sameRow (rows (rest - 1)) (rows r)) _ _ h) ∙ or-none (earliest rows u (rows r)));
     }
 
@@ -153,12 +153,12 @@ module _ (rows rows′ : ℕ → Row) (n : ℕ) (agree : (q : ℕ) → q < n →
   leads-agree : (w : Row) (m v : ℕ) → m ≤ n → Leads rows w m v → Leads rows′ w m v
   leads-agree w m v h l = record {
     within = l .within;
-    of-slot = λ p. ap slotOf (sym (agree (v - 1) (omega (arith, l .within)))) ∙ l .of-slot p;
+    of-place = λ p. ap placeOf (sym (agree (v - 1) (omega (arith, l .within)))) ∙ l .of-place p;
     same = sym (stands-agree w m h) ∙ l .same ∙ stands-agree w v (omega (arith, l .within));
   }
 
-  pub chained-agree : {next heads : List ℕ} → Chained rows next heads n → Chained rows′ next heads n
-  chained-agree {next} {heads} c = record {
-    first = λ w. leads-agree w n (getD heads (slotOf w) 0) (omega arith) (c .first w);
-    onward = λ q l w e. leads-agree w q (getD next q 0) (omega arith) (c .onward q l w (ap slotOf (agree q l) ∙ e));
+  pub linked-agree : {next heads : List ℕ} → Linked rows next heads n → Linked rows′ next heads n
+  linked-agree {next} {heads} c = record {
+    first = λ w. leads-agree w n (getD heads (placeOf w) 0) (omega arith) (c .first w);
+    onward = λ q l w e. leads-agree w q (getD next q 0) (omega arith) (c .onward q l w (ap placeOf (agree q l) ∙ e));
   }

@@ -14,11 +14,11 @@ use borrow.Author.Tests.{eqb-true, eqb-false}
 use Rattle.stab.specs.Formula.{Row, rowAt, joined}
 use Rattle.stab.specs.Text.{padded}
 use Rattle.stab.proofs.Bools.{decide}
-use Rattle.repeats.specs.Chain.{Chained}
+use Rattle.repeats.specs.Places.{Linked}
 use Rattle.tidied.specs.Tidied.{renumbered, columns, Folding, newNumber, earliest, foldedInto, foldRow, foldNext, folding}
 use Rattle.folds.specs.Folds.{rowOr, AllSmall, Folds}
 use Rattle.folds.proofs.Numbers.{getD-zeros, new-padded, padded-empty, padded-more}
-use Rattle.folds.proofs.Earlier.{was-found, none-found, found-small, earliest-agree, chained-agree}
+use Rattle.folds.proofs.Earlier.{was-found, none-found, found-small, earliest-agree, linked-agree}
 use Rattle.folds.proofs.Fronts.{joined-front, put-front, put-more, put-row}
 
 -- ---- how much k rows come to
@@ -80,12 +80,12 @@ module _ (schema : List ℤ) (s : ℕ) (proof : List ℤ) (k count : ℕ) (out :
     rows-front : (q : ℕ) → q < s + count → joined schema s out₁ q ≡ joined schema s (F .table) q
     rows-front q l = joined-front schema s out₁ (F .table) count front q l
 
-    -- what was chained is
-    pub still-chained : Chained (joined schema s out₁) next heads (s + count)
-    still-chained =
-        chained-agree (joined schema s out) (joined schema s out₁) (s + count)
+    -- what was linked is
+    pub still-linked : Linked (joined schema s out₁) next heads (s + count)
+    still-linked =
+        linked-agree (joined schema s out) (joined schema s out₁) (s + count)
         (λ q l. joined-front schema s out (F .table) count (I .held) q l ∙ sym (rows-front q l))
-        (I .chained)
+        (I .linked)
 
     abbrev equal : Option ℕ
     equal = earliest (joined schema s out₁) (s + count) (joined schema s out₁ (s + count))
@@ -124,10 +124,10 @@ module _ (schema : List ℤ) (s : ℕ) (proof : List ℤ) (k count : ℕ) (out :
       folds-away l =
           subst (λ (G : Folding). Folds schema s G count out₁ numbers₁ next heads)
           (next-folding (was-found (joined schema s out₁) (joined schema s out₁ (s + count)) (s + count) q e l))
-          (record { counted = I .counted; held = front; known = known; small = small; chained = still-chained })
+          (record { counted = I .counted; held = front; known = known; small = small; linked = still-linked })
 
       -- a row that stays
-      pub folds-stays : s + count ≤ q → {next₁ heads₁ : List ℕ} → Chained (joined schema s out₁) next₁ heads₁ (s + count + 1) → Folds schema s (folding schema s proof (k + 1)) (count + 1) out₁ numbers₁ next₁ heads₁
+      pub folds-stays : s + count ≤ q → {next₁ heads₁ : List ℕ} → Linked (joined schema s out₁) next₁ heads₁ (s + count + 1) → Folds schema s (folding schema s proof (k + 1)) (count + 1) out₁ numbers₁ next₁ heads₁
       unfolding foldedInto
       folds-stays l {next₁} {heads₁} c =
           subst (λ (G : Folding). Folds schema s G (count + 1) out₁ numbers₁ next₁ heads₁)
@@ -137,7 +137,7 @@ module _ (schema : List ℤ) (s : ℕ) (proof : List ℤ) (k count : ℕ) (out :
             held = more;
             known = known ∙ ap (λ (x : ℕ). padded 0 (length numbers₁) (F .numbers ++ x ∷ [])) last;
             small = small;
-            chained = subst (Chained (joined schema s out₁) next₁ heads₁) after c;
+            linked = subst (Linked (joined schema s out₁) next₁ heads₁) after c;
           })
         where
           last : q ≡ s + F .count
@@ -148,14 +148,14 @@ module _ (schema : List ℤ) (s : ℕ) (proof : List ℤ) (k count : ℕ) (out :
 
 -- ---- no row yet
 
-pub folds-none : (schema : List ℤ) (s : ℕ) (proof out : List ℤ) (numbers next heads : List ℕ) → numbers ≡ replicate (length numbers) 0 → Chained (joined schema s out) next heads s → Folds schema s (folding schema s proof 0) 0 out numbers next heads
+pub folds-none : (schema : List ℤ) (s : ℕ) (proof out : List ℤ) (numbers next heads : List ℕ) → numbers ≡ replicate (length numbers) 0 → Linked (joined schema s out) next heads s → Folds schema s (folding schema s proof 0) 0 out numbers next heads
 unfolding folding
 folds-none schema s proof out numbers next heads z c = record {
   counted = refl;
   held = refl;
   known = z ∙ padded-empty 0 (length numbers);
   small = λ i. omega (arith, ap (λ (l : List ℕ). getD l i 0) z, getD-zeros (length numbers) i);
-  chained = subst (Chained (joined schema s out) next heads) after c;
+  linked = subst (Linked (joined schema s out) next heads) after c;
 }
   where
     after : s ≡ s + 0

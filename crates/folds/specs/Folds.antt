@@ -7,7 +7,7 @@ use lib.IntN.{ℤ}
 use lib.ListN.{length, getD, take}
 use Rattle.stab.specs.Formula.{joined}
 use Rattle.stab.specs.Text.{padded}
-use Rattle.repeats.specs.Chain.{Chained}
+use Rattle.repeats.specs.Places.{Linked}
 use Rattle.tidied.specs.Tidied.{Folding}
 
 -- the row that was found, or n where none was
@@ -19,10 +19,10 @@ rowOr n (some q) = q
 abbrev pub AllSmall : List ℕ → Type 0
 AllSmall numbers = (i : ℕ) → getD numbers i 0 ≤ 4096
 
--- the tables after some of the proof rows: the rows that stay stand in front of the result table, and all rows that stay are chained
+-- the tables after some of the proof rows: the rows that stay stand in front of the result table, and all rows that stay are linked
 pub record Folds (schema : List ℤ) (s : ℕ) (F : Folding) (count : ℕ) (out : List ℤ) (numbers next heads : List ℕ) : Type 0 where
   pub counted : count ≡ F .count
   pub held : take (4 * count) out ≡ F .table
   pub known : numbers ≡ padded 0 (length numbers) (F .numbers)
   pub small : AllSmall numbers
-  pub chained : Chained (joined schema s out) next heads (s + count)
+  pub linked : Linked (joined schema s out) next heads (s + count)

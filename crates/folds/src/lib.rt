@@ -1,12 +1,12 @@
-// Proof rows folded into their earliest equals, found by chains of rows that may be equal.
-mod chain;
+// Proof rows folded into their earliest equals, found by links between rows that may be equal.
+mod links;
 pub mod number;
 pub mod row;
 
-use repeats::chain::keep;
-use repeats::row::slot;
+use formula::cells;
+use repeats::places;
 ghost use mathlib.Core.Path.{_≡_};
-ghost use Prim.Native.Nat.{ℕ, _+_, _*_, _<_, _≤_};
+ghost use Prim.Native.Nat.{_+_, _*_, _<_, _≤_};
 ghost use lib.IntN.{pos};
 ghost use lib.ListN.{length, replicate};
 ghost use Rattle.stab.specs.Text.{padded};
@@ -23,26 +23,26 @@ fn step(
     count: usize,
     out: &mut [i32],
     numbers: &mut [u32],
-    next: &mut [u32],
-    heads: &mut [u32],
+    next: &mut [u16],
+    heads: &mut [u16],
 ) -> usize
-    requires { ⌜ (s + k < 2049) × (count ≤ k) × (4 * k + 3 < length (now out)) × (k < length (now numbers)) × (2049 ≤ length (now next)) × (1021 ≤ length (now heads)) ⌝ }
+    requires { ⌜ (s + k < 2049) × (count ≤ k) × (4 * k + 3 < length (now out)) × (k < length (now numbers)) × (2049 ≤ length (now next)) × (4096 ≤ length (now heads)) ⌝ }
     requires { ⌜ Folds (now schema) s (folding (now schema) s (now proof) k) count (now out) (now numbers) (now next) (now heads) ⌝ }
     ensures { λ v. ⌜ Folds (now (schema .entry)) s (folding (now (schema .entry)) s (now (proof .entry)) (k + 1)) v (now (out .exit)) (now (numbers .exit)) (now (next .exit)) (now (heads .exit)) ⌝ }
 {
     row::put(proof, k, s, numbers, out, count);
     let r = s + count;
-    let h = slot(schema, s, out, r);
-    let q = chain::first(schema, s, out, r, h, next, heads);
+    let h = places::place(cells::of_row(schema, s, out, r));
+    let q = links::first(schema, s, out, r, h, next, heads);
     numbers[k] = q as u32;
     if q < r {
         return count;
     }
-    keep(r, h, next, heads);
+    places::keep(r, h, next, heads);
     count + 1
 }
 
-// Each of p proof rows, where the schema rows are chained.
+// Each of p proof rows, where the schema rows are linked.
 fn each(
     schema: &[i32],
     s: usize,
@@ -50,10 +50,10 @@ fn each(
     p: usize,
     out: &mut [i32],
     numbers: &mut [u32],
-    next: &mut [u32],
-    heads: &mut [u32],
+    next: &mut [u16],
+    heads: &mut [u16],
 ) -> usize
-    requires { ⌜ (s + p ≤ 2049) × (4 * p ≤ length (now out)) × (p ≤ length (now numbers)) × (2049 ≤ length (now next)) × (1021 ≤ length (now heads)) ⌝ }
+    requires { ⌜ (s + p ≤ 2049) × (4 * p ≤ length (now out)) × (p ≤ length (now numbers)) × (2049 ≤ length (now next)) × (4096 ≤ length (now heads)) ⌝ }
     requires { ⌜ Folds (now schema) s (folding (now schema) s (now proof) 0) 0 (now out) (now numbers) (now next) (now heads) ⌝ }
     ensures { λ v. ⌜ Folds (now (schema .entry)) s (folding (now (schema .entry)) s (now (proof .entry)) p) v (now (out .exit)) (now (numbers .exit)) (now (next .exit)) (now (heads .exit)) ⌝ }
 {
@@ -82,9 +82,9 @@ pub fn fold(
     ensures { λ v. ⌜ now (out .exit) ≡ padded (pos 0) (length (now (out .entry))) (folding (now (schema .entry)) s (now (proof .entry)) p .table) ⌝ }
     ensures { λ v. ⌜ (now (numbers .exit) ≡ padded 0 (length (now (numbers .entry))) (folding (now (schema .entry)) s (now (proof .entry)) p .numbers)) × AllSmall (now (numbers .exit)) ⌝ }
 {
-    let mut next = [0u32; 2049];
-    let mut heads = [0u32; 1021];
-    chain::schema_rows(schema, s, out, &mut next, &mut heads);
+    let mut next = [0u16; 2049];
+    let mut heads = [0u16; 4096];
+    links::schema_rows(schema, s, out, &mut next, &mut heads);
     let count = each(schema, s, proof, p, out, numbers, &mut next, &mut heads);
     signed::clear(out, 4 * count);
     count

@@ -1,7 +1,6 @@
 // A row with its parts under their new numbers.
 use crate::number;
 ghost use mathlib.Core.Path.{_≡_};
-ghost use mathlib.Core.List.{_∷_, []};
 ghost use Prim.Native.Nat.{_+_, _*_, _<_, _^_};
 ghost use lib.ListN.{length};
 ghost use lib.Seq.{sets};

@@ -1,13 +1,12 @@
 -- Going back through the rows of one place, and the tables after one row more.
-use Prim.Native.Nat.{ℕ, zero, suc, _+_, _-_, _*_, _%_, _≤_, _<_}
+use Prim.Native.Nat.{ℕ, zero, suc, _+_, _-_, _/_, _≤_, _<_}
 use native.Mathlib.Omega.{arith}
 use native.Mathlib.Numerals.{add-one}
-use mathlib.Core.Path.{_≡_, refl, sym, _∙_, ap, ap₂, subst}
+use mathlib.Core.Path.{_≡_, refl, sym, _∙_, ap, subst}
 use mathlib.Core.Logic.{⊎-elim}
 use mathlib.Core.Bool.{true, false}
 use mathlib.Core.List.{List}
 use lib.Dec.{eqb}
-use lib.IntN.{ℤ}
 use lib.ListN.{length, getD, set}
 use lib.Seq.{getD-set-same, getD-set-other}
 use borrow.Author.Tests.{eqb-true, eqb-false}
@@ -17,13 +16,15 @@ use Rattle.stab.proofs.Bools.{decide, and-left, and-right, or-right, or-comm, o
 use Rattle.stab.proofs.Scans.{below-suc}
 use Rattle.stab.proofs.Whole.{eqZ-true}
 use Rattle.signed.specs.Numbers.{rankOf}
+use Rattle.formula.specs.Spread.{spreadOf}
+use Rattle.formula.proofs.SpreadLaws.{spread-small}
 use Rattle.repeats.specs.Places.{placeOf, Leads, Linked}
 
 -- ---- places
 
 pub place-small : (w : Row) → placeOf w < 4096
 unfolding placeOf
-place-small w = omega arith
+place-small w = omega (arith, spread-small (rankOf (w .kind)) (rankOf (w .a)) (rankOf (w .b)) (rankOf (w .c)))
 
 -- equal rows have the same place
 same-place : (v w : Row) → sameRow v w ≡ true → placeOf v ≡ placeOf w
@@ -35,7 +36,7 @@ same-place v w h =
     let a = eqZ-true (v .a) (w .a) (and-left _ _ t) in
     let b = eqZ-true (v .b) (w .b) (and-left _ _ u) in
     let c = eqZ-true (v .c) (w .c) (and-right _ _ u) in
-    ap₂ (λ (x y : ℕ). (x + y) % 4096) (ap₂ (λ (x y : ℤ). 5 * rankOf x + 128 * rankOf y) k a) (ap₂ (λ (x y : ℤ). 7 * rankOf x + 3 * rankOf y) b c)
+    λ i. spreadOf (rankOf (k i)) (rankOf (a i)) (rankOf (b i)) (rankOf (c i)) / 262144
 
 -- ---- rows with the columns of w
 

@@ -1,15 +1,16 @@
 -- Links between rows of one place, each to the one before it.
-use Prim.Native.Nat.{ℕ, _+_, _*_, _-_, _%_, _<_, _≤_}
+use Prim.Native.Nat.{ℕ, _-_, _/_, _<_, _≤_}
 use mathlib.Core.Path.{_≡_}
 use mathlib.Core.List.{List}
 use lib.ListN.{getD}
 use Rattle.stab.specs.Formula.{Row}
 use Rattle.stab.specs.Check.{standsBefore}
 use Rattle.signed.specs.Numbers.{rankOf}
+use Rattle.formula.specs.Spread.{spreadOf}
 
 -- where rows with the columns of w are looked for: 4,096 places, so that few of 1,024 rows share one
 unfoldable pub placeOf : Row → ℕ
-placeOf w = ((5 * rankOf (w .kind) + 128 * rankOf (w .a)) + (7 * rankOf (w .b) + 3 * rankOf (w .c))) % 4096
+placeOf w = spreadOf (rankOf (w .kind)) (rankOf (w .a)) (rankOf (w .b)) (rankOf (w .c)) / 262144
 
 -- a row with the columns of w stands below m just if one stands below v, and the last row below v has the place of w
 pub record Leads (rows : ℕ → Row) (w : Row) (m v : ℕ) : Type 0 where

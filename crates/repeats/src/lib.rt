@@ -1,5 +1,4 @@
 // Proof rows written twice, found by links between rows that may be equal.
-pub mod chain;
 pub mod places;
 pub mod row;
 
@@ -14,8 +13,8 @@ ghost use lib.ListN.{length, getD};
 ghost use Rattle.stab.specs.Basic.{scan};
 ghost use Rattle.stab.specs.Formula.{joined};
 ghost use Rattle.stab.specs.Check.{finding, repeatRefusal};
-ghost use Rattle.repeats.specs.Chain.{repeated};
 ghost use Rattle.repeats.specs.Places.{Linked};
+ghost use Rattle.repeats.specs.Repeated.{repeated};
 
 // One row more: it repeats an earlier one, and is no row before `from`.
 fn step(

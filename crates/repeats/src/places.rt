@@ -1,9 +1,10 @@
 // Rows of one place, each with the one before it: among them an equal row is looked for.
 use crate::row;
 use formula::cells::Cells;
+use formula::spread::spread;
 use signed::rank;
 ghost use mathlib.Core.Path.{_≡_};
-ghost use Prim.Native.Nat.{_+_, _<_, _^_};
+ghost use Prim.Native.Nat.{_+_, _<_};
 ghost use lib.ListN.{length, getD, set};
 ghost use Rattle.stab.specs.Formula.{joined};
 ghost use Rattle.stab.specs.Check.{standsBefore};
@@ -14,13 +15,11 @@ ghost use Rattle.repeats.specs.Places.{placeOf, Linked};
 pub fn place(w: Cells) -> usize
     ensures { λ v. ⌜ v ≡ placeOf (rowOf w) ⌝ }
 {
-    let low = 5 * rank(w.kind) + 128 * rank(w.a);
-    let high = 7 * rank(w.b) + 3 * rank(w.c);
-    (low + high) % 4096
+    spread(rank(w.kind), rank(w.a), rank(w.b), rank(w.c)) / 262144
 }
 
 // What is kept at i, and 0 past the end.
-fn number_at(t: &[u16], i: usize) -> usize
+pub fn number_at(t: &[u16], i: usize) -> usize
     ensures { λ r. ⌜ r ≡ getD (now (t .entry)) i 0 ⌝ }
 {
     if i < t.len() {
@@ -57,7 +56,7 @@ pub fn stands(
 
 // Row r is the last of its place.
 pub fn keep(r: usize, h: usize, next: &mut [u16], heads: &mut [u16])
-    requires { ⌜ (r < 1024) × (r < length (now next)) × (h < length (now heads)) ⌝ }
+    requires { ⌜ (r < 65535) × (r < length (now next)) × (h < length (now heads)) ⌝ }
     ensures { λ _. ⌜ now (next .exit) ≡ set (now (next .entry)) r (getD (now (heads .entry)) h 0) ⌝ }
     ensures { λ _. ⌜ now (heads .exit) ≡ set (now (heads .entry)) h (r + 1) ⌝ }
 {

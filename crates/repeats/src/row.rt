@@ -1,34 +1,9 @@
-// Rows by their columns: where equal rows are looked for, and whether two rows are equal.
-use signed::rank_at;
+// Whether two rows are equal, by their columns.
 use signed::same_at;
 ghost use mathlib.Core.Path.{_≡_};
 ghost use Prim.Native.Nat.{_<_, _^_};
 ghost use Rattle.stab.specs.Formula.{rowAt, joined};
 ghost use Rattle.stab.specs.Check.{sameRow};
-ghost use Rattle.repeats.specs.Chain.{slotOf};
-
-// The slot of row p of a table.
-fn slot_at(t: &[i32], p: usize) -> usize
-    requires { ⌜ p < 2 ^ 32 ⌝ }
-    ensures { λ v. ⌜ v ≡ slotOf (rowAt (now (t .entry)) p) ⌝ }
-{
-    let i = 4 * p;
-    let low = rank_at(t, i) + 11 * rank_at(t, i + 1);
-    let high = 136 * rank_at(t, i + 2) + 416 * rank_at(t, i + 3);
-    (low + high) % 1021
-}
-
-// The slot of row r, schema rows first.
-pub fn slot(schema: &[i32], s: usize, proof: &[i32], r: usize) -> usize
-    requires { ⌜ r < 2 ^ 32 ⌝ }
-    ensures { λ v. ⌜ v ≡ slotOf (joined (now (schema .entry)) s (now (proof .entry)) r) ⌝ }
-{
-    if r < s {
-        slot_at(schema, r)
-    } else {
-        slot_at(proof, r - s)
-    }
-}
 
 // Row p of one table has the columns of row q of another.
 fn same_rows(t: &[i32], p: usize, u: &[i32], q: usize) -> bool

@@ -462,7 +462,7 @@ fn no_two_of_one_class() -> Tables {
     })
 }
 
-/// Literals whose columns give one sum modulo 4096: a table that finds rows by such a sum has them all in one place.
+/// Literals that all share one of the 4,096 places at which equal rows are looked for.
 fn one_key() -> Tables {
     filled(|b| b.rows.extend(rows_of_one_key(0).step_by(3).take(1023)))
 }

@@ -1,23 +1,29 @@
 use borrow.Author.Needs.{needs}
 use native.Mathlib.Omega.{arith}
 use Prim.Native.Nat.{ℕ, _+_, _*_, _<_}
-use mathlib.Core.Path.{_≡_}
+use mathlib.Core.Path.{_≡_, _∙_, ap}
 use mathlib.Core.List.{List}
 use lib.IntN.{ℤ}
 use lib.ListN.{length}
 use Rattle.stab.specs.Formula.{Row, joined}
-use Rattle.repeats.specs.Chain.{Chained}
-use Rattle.repeats.proofs.Chains.{slot-small, chained-more}
-use Rattle.folds.proofs.Steps.{still-chained, number-small, folds-away, folds-stays}
+use Rattle.repeats.specs.Places.{placeOf, Linked}
+use Rattle.repeats.proofs.Links.{place-small, linked-more}
+use Rattle.folds.proofs.Steps.{still-linked, number-small, folds-away, folds-stays}
 use Rattle.folds.proofs.step.Statement.{statement}
 use Rattle.folds.proofs.step.Tie as tie
 
--- where the row is put, and where its number is known
+-- where the row is put, where its place is known, and where its number is
 abbrev start : tie.After-put → tie.Start
 start c = c .before .before .before .before .before .before
 
+abbrev put-at : tie.After-place → tie.After-put
+put-at c = c .before .before .before .before
+
+abbrev place-of : tie.After-first → tie.After-place
+place-of c = c .before .before .before .before
+
 abbrev put-of : tie.After-first → tie.After-put
-put-of c = c .before .before .before .before .before .before .before
+put-of c = put-at (place-of c)
 
 abbrev table : tie.After-put → List ℤ
 table c = c .put .last .1 .1 .1 .1 .0
@@ -28,17 +34,20 @@ rows c = let a = start c .args in joined (a .schema .now) (a .s) (table c)
 room : (c : tie.After-put) → let a = start c .args in 4 * a .count + 3 < length (a .out .now)
 room c = let p = start c .pre .0 in omega (arith, p .1, p .2)
 
-chained : (c : tie.After-put) → let a = start c .args in Chained (rows c) (a .next .now) (a .heads .now) (a .s + a .count)
-chained c = still-chained _ _ _ _ _ _ _ _ _ (start c .pre .1) (room c) (table c) (c .put .ensures)
+linked : (c : tie.After-put) → let a = start c .args in Linked (rows c) (a .next .now) (a .heads .now) (a .s + a .count)
+linked c = still-linked _ _ _ _ _ _ _ _ _ (start c .pre .1) (room c) (table c) (c .put .ensures)
 
 row-few : (c : tie.After-put) → let a = start c .args in a .s + a .count < 2049
 row-few c = let p = start c .pre .0 in omega (arith, p .0, p .1)
 
-slot-within : (c : tie.After-first) → c .before .before .before .before .slot .result < length (start (put-of c) .args .heads .now)
-slot-within c =
-    let p = put-of c in
+is-place : (c : tie.After-place) → let a = start (put-at c) .args in c .place .result ≡ placeOf (rows (put-at c) (a .s + a .count))
+is-place c = c .place .ensures ∙ ap placeOf (c .before .of-row .ensures)
+
+place-within : (c : tie.After-place) → c .place .result < length (start (put-at c) .args .heads .now)
+place-within c =
+    let p = put-at c in
     let a = start p .args in
-    omega (arith, c .before .before .before .before .slot .ensures, slot-small (rows p (a .s + a .count)), start p .pre .0 .5)
+    omega (arith, is-place c, place-small (rows p (a .s + a .count)), start p .pre .0 .5)
 
 put-requires : tie.Need-put-requires
 put-requires c κs = search needs
@@ -46,14 +55,17 @@ put-requires c κs = search needs
 add-r : tie.Need-add-r
 add-r c = search needs
 
-slot-requires : tie.Need-slot-requires
-slot-requires c κs = search needs
+of-row-requires : tie.Need-of-row-requires
+of-row-requires c κs = search needs
+
+place-requires : tie.Need-place-requires
+place-requires c κs = search needs
 
 first-requires : tie.Need-first-requires
 first-requires c κs =
     let d = c .before .before .before in
-    let p = d .before .before .before in
-    (row-few p, (chained p, d .slot .ensures))
+    let p = put-at d in
+    (row-few p, (linked p, is-place d))
 
 cast-numbers : tie.Need-cast-numbers
 cast-numbers c =
@@ -92,10 +104,13 @@ keep-requires c κs =
     let f = c .before .before .before in
     let p = put-of f in
     let b = start p in
-    (omega (arith, row-few p), omega (arith, row-few p, b .pre .0 .4), slot-within f)
+    (omega (arith, row-few p), omega (arith, row-few p, b .pre .0 .4), place-within (place-of f))
 
 add-result : tie.Need-add-result
-add-result c = search needs
+add-result c =
+    let k = c .before .before .before .before in
+    let p = put-of (k .before .before .before .before) in
+    omega (arith, row-few p)
 
 same-length-5 : tie.Need-same-length-5
 same-length-5 c = search needs
@@ -118,7 +133,7 @@ returns-2 c =
     let b = start p in
     let a = b .args in
     folds-stays _ _ _ _ _ _ _ _ _ (b .pre .1) (room p) (table p) (p .put .ensures) _ (f .first .ensures) (omega (arith, row-few p)) (b .pre .0 .3) (i .if1 .left)
-    (chained-more (rows p) _ _ (a .s + a .count) _ (chained p) (omega (arith, row-few p, b .pre .0 .4)) (slot-within f) (f .before .before .before .before .slot .ensures) (k .keep .ensures .0) (k .keep .ensures .1))
+    (linked-more (rows p) _ _ (a .s + a .count) _ (linked p) (omega (arith, row-few p, b .pre .0 .4)) (place-within (place-of f)) (is-place (place-of f)) (k .keep .ensures .0) (k .keep .ensures .1))
 
 pub step-spec : {M : Type 1} → statement M
 step-spec =
@@ -126,7 +141,8 @@ step-spec =
     (tie.spec
     put-requires
     add-r
-    slot-requires
+    of-row-requires
+    place-requires
     first-requires
     cast-numbers
     mul-numbers

@@ -8,8 +8,8 @@ use Rattle.stab.specs.Formula.{joined}
 use Rattle.stab.specs.Check.{finding, repeatRefusal}
 use Rattle.stab.proofs.Scans.{scan-more, scan-found}
 use Rattle.repeats.specs.Places.{Linked}
-use Rattle.repeats.proofs.Chains.{repeat-found, repeat-none}
 use Rattle.repeats.proofs.Links.{linked-none}
+use Rattle.repeats.proofs.RepeatedLaws.{repeat-found, repeat-none}
 use Rattle.repeats.proofs.first_repeat.Statement.{statement}
 use Rattle.repeats.proofs.first_repeat.Tie as tie
 

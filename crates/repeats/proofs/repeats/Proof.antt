@@ -4,7 +4,7 @@ use mathlib.Core.Path.{sym}
 use lib.ListN.{getD-replicate}
 use Rattle.stab.specs.Check.{finding}
 use Rattle.stab.proofs.Scans.{scan-none}
-use Rattle.repeats.proofs.Chains.{repeat-before}
+use Rattle.repeats.proofs.RepeatedLaws.{repeat-before}
 use Rattle.repeats.proofs.repeats.Statement.{statement}
 use Rattle.repeats.proofs.repeats.Tie as tie
 

@@ -8,8 +8,8 @@ use borrow.Author.Needs.{needs}
 use borrow.Author.Tests.{le-leb, lt-leb}
 use Rattle.stab.specs.Formula.{Row, joined}
 use Rattle.stab.proofs.Bools.{and-both, and-first-false, and-second-false}
-use Rattle.repeats.specs.Chain.{repeated}
 use Rattle.repeats.specs.Places.{placeOf}
+use Rattle.repeats.specs.Repeated.{repeated}
 use Rattle.repeats.proofs.Links.{place-small, linked-more}
 use Rattle.repeats.proofs.step.Statement.{statement}
 use Rattle.repeats.proofs.step.Tie as tie
@@ -57,7 +57,7 @@ keep-requires : tie.Need-keep-requires
 keep-requires c κs =
     let d = c .before .before .before in
     let b = start d in
-    (b .pre .0 .0, b .pre .0 .1, place-within d)
+    (omega (arith, b .pre .0 .0), b .pre .0 .1, place-within d)
 
 same-length-3 : tie.Need-same-length-3
 same-length-3 c = search needs

@@ -385,7 +385,7 @@ fn but_for(mut tree: Tree, rng: &mut Rng, column: usize) -> Made {
         _ if is_part => rng.below(at) as i32,
         _ => {
             let any = rng.range(-300, 300);
-            changed[column] + rng.pick(&[-1, 1, 1021, -1021, any])
+            changed[column] + rng.pick(&[-1, 1, NEAR[column], -NEAR[column], any])
         }
     };
     if changed == tree.rows[row] {
@@ -444,8 +444,7 @@ fn fill(tree: &mut Tree, rng: &mut Rng, count: usize) {
     }
 }
 
-/// Adds literals, no two equal, whose columns give one sum modulo 4096: a table that finds rows by such a sum has
-/// them all in one place. Gives the first one's number.
+/// Adds literals, no two equal, that share one place. Gives the first one's number.
 fn one_key(tree: &mut Tree, rng: &mut Rng) -> usize {
     let from = tree.rows.len();
     let key = rng.range(0, 4095);
@@ -456,17 +455,24 @@ fn one_key(tree: &mut Tree, rng: &mut Rng) -> usize {
     from
 }
 
-/// Literals with 5 kind + 128 a + 7 b + 3 c = key modulo 4096, all of them different.
+/// Literals whose place is `key`, which is below 4096, all of them different: some 3,700.
 pub fn rows_of_one_key(key: i32) -> impl Iterator<Item = Row> {
-    let literals = (0..=MAX_SYMBOL).flat_map(|a| [PLAIN, ON_N, ON_I].map(|b| [a, b]));
-    literals.flat_map(move |[a, b]| {
-        let kind = LITERAL + (a + b) % 2;
-        let rest = key - 5 * kind - 128 * a - 7 * b;
-        // 3 is odd, so that one c of 4096 fits.
-        let c = (0..4096).find(|c| (3 * c - rest) % 4096 == 0).unwrap_or_default();
-        [0, 4096, -4096, -8192].map(|more| [kind, a, b, c + more])
-    })
+    let literals = (0..=MAX_SYMBOL).flat_map(|a| [PLAIN, ON_N, ON_I].map(|b| [LITERAL + (a + b) % 2, a, b]));
+    let rows = literals.flat_map(|[kind, a, b]| (-MAX_OFFSET..=MAX_OFFSET).map(move |c| [kind, a, b, c]));
+    rows.filter(move |row| place(row) == key)
 }
+
+/// Where the tables of the code look for rows with these columns, so that rows of one place are the slowest. It is
+/// 919847653 kind + 788010381 a + 675068701 b + 578314401 c modulo 2 ^ 30, without its lowest 18 bits. (The code adds
+/// 2 ^ 31 to each column first, which changes nothing modulo 2 ^ 30.)
+fn place(row: &Row) -> i32 {
+    let [kind, a, b, c] = row.map(i64::from);
+    let sum = 919_847_653 * kind + 788_010_381 * a + 675_068_701 * b + 578_314_401 * c;
+    (sum.rem_euclid(1 << 30) >> 18) as i32
+}
+
+/// What may be added to each column so that most rows keep their place.
+const NEAR: [i32; 4] = [1221, 6565, 4013, 2267];
 
 /// Another root, a literal on i.
 fn root_on_i(tree: &mut Tree) {
@@ -518,7 +524,7 @@ pub fn edges() -> Vec<Case> {
         for row in 0..at {
             let mut copies = vec![tree.rows[row]];
             for column in 0..4 {
-                for by in [-1, 1, 2, 256, 1021, -1021, i32::MIN] {
+                for by in [-1, 1, 2, 256, NEAR[column], -NEAR[column], i32::MIN] {
                     let mut copy = tree.rows[row];
                     copy[column] = copy[column].wrapping_add(by);
                     copies.push(copy);

@@ -1,14 +1,14 @@
 use borrow.Author.Needs.{needs}
 use native.Mathlib.Omega.{arith}
 use Prim.Native.Nat.{ℕ, _-_, _<_}
-use mathlib.Core.Path.{_≡_, sym, _∙_, ap, subst}
+use mathlib.Core.Path.{sym, _∙_, ap, subst}
 use mathlib.Core.Logic.{⊎-elim}
 use lib.ListN.{getD}
 use Rattle.stab.specs.Formula.{Row, joined}
-use Rattle.repeats.specs.Chain.{Leads}
+use Rattle.repeats.specs.Places.{Leads}
 use Rattle.folds.proofs.Earlier.{Walk, walk-start, walk-end, walk-found, walk-on}
-use Rattle.folds.proofs.chain.first.Statement.{statement}
-use Rattle.folds.proofs.chain.first.Tie as tie
+use Rattle.folds.proofs.links.first.Statement.{statement}
+use Rattle.folds.proofs.links.first.Tie as tie
 
 abbrev Inv-loop : tie.InvT-loop
 Inv-loop schema s table r h next heads best₀ rest₀ best rest = Walk (joined schema s table) r best rest
@@ -29,14 +29,14 @@ rows b = let a = b .args in joined (a .schema .now) (a .s) (a .table .now)
 row-below : (c : Turn) → c .before .loop .rest - 1 < start c .args .r
 row-below c = omega (arith, c .before .loop .inv .within)
 
-kept-at-requires : tie.Need-kept-at-requires Inv-loop μ-loop
-kept-at-requires c κs = search needs
+number-at-requires : tie.Need-number-at-requires Inv-loop μ-loop
+number-at-requires c κs = search needs
 
 loop-holds : tie.Need-loop-holds Inv-loop μ-loop
 loop-holds c =
     let b = c .before .before .before in
     walk-start (rows b) (b .args .r) _
-    (subst (Leads (rows b) (rows b (b .args .r)) (b .args .r)) (sym (c .kept-at .ensures .0 ∙ ap (λ (x : ℕ). getD (b .args .heads .now) x 0) (b .pre .1 .1)))
+    (subst (Leads (rows b) (rows b (b .args .r)) (b .args .r)) (sym (c .number-at .ensures ∙ ap (λ (x : ℕ). getD (b .args .heads .now) x 0) (b .pre .1 .1)))
     (b .pre .1 .0 .first _))
 
 sub-q : tie.Need-sub-q Inv-loop μ-loop
@@ -45,18 +45,18 @@ sub-q c = omega arith
 same-requires : tie.Need-same-requires Inv-loop μ-loop
 same-requires c κs = (omega (arith, row-below c, start c .pre .0), omega (arith, start c .pre .0))
 
-kept-at-requires-2 : tie.Need-kept-at-requires-2 Inv-loop μ-loop
-kept-at-requires-2 c κs = search needs
+number-at-requires-2 : tie.Need-number-at-requires-2 Inv-loop μ-loop
+number-at-requires-2 c κs = search needs
 
 -- what is kept for the row that was looked at
-onward : (c : tie.After-kept-at2 Inv-loop μ-loop) →
+onward : (c : tie.After-number-at2 Inv-loop μ-loop) →
     let t = c .before .before .before in
-    Leads (rows (start t)) (rows (start t) (start t .args .r)) (t .before .loop .rest - 1) (c .kept-at2 .result)
+    Leads (rows (start t)) (rows (start t) (start t .args .r)) (t .before .loop .rest - 1) (c .number-at2 .result)
 onward c =
     let t = c .before .before .before in
     let b = start t in
-    subst (Leads (rows b) (rows b (b .args .r)) (t .before .loop .rest - 1)) (sym (c .kept-at2 .ensures .0))
-    (b .pre .1 .0 .onward _ (row-below t) _ (t .before .loop .inv .of-slot (t .loop-test .taken)))
+    subst (Leads (rows b) (rows b (b .args .r)) (t .before .loop .rest - 1)) (sym (c .number-at2 .ensures))
+    (b .pre .1 .0 .onward _ (row-below t) _ (t .before .loop .inv .of-place (t .loop-test .taken)))
 
 loop-less : tie.Need-loop-less Inv-loop μ-loop
 loop-less c = let t = c .before .before .before in omega (arith, onward c .within, t .loop-test .taken)
@@ -68,8 +68,8 @@ loop-again c =
     let b = start t in
     let l = t .before .loop in
     ⊎-elim
-    (λ w. subst (λ (n : ℕ). Walk (rows b) (b .args .r) n (c .kept-at2 .result)) (sym (w .1)) (walk-found (rows b) (b .args .r) _ _ (t .loop-test .taken) (l .inv) _ (onward c) (sym (s .same .ensures) ∙ w .0 .taken)))
-    (λ w. subst (λ (n : ℕ). Walk (rows b) (b .args .r) n (c .kept-at2 .result)) (sym (w .1)) (walk-on (rows b) (b .args .r) _ _ (t .loop-test .taken) (l .inv) _ (onward c) (sym (s .same .ensures) ∙ w .0 .left)))
+    (λ w. subst (λ (n : ℕ). Walk (rows b) (b .args .r) n (c .number-at2 .result)) (sym (w .1)) (walk-found (rows b) (b .args .r) _ _ (t .loop-test .taken) (l .inv) _ (onward c) (sym (s .same .ensures) ∙ w .0 .taken)))
+    (λ w. subst (λ (n : ℕ). Walk (rows b) (b .args .r) n (c .number-at2 .result)) (sym (w .1)) (walk-on (rows b) (b .args .r) _ _ (t .loop-test .taken) (l .inv) _ (onward c) (sym (s .same .ensures) ∙ w .0 .left)))
     (c .before .if1 .came)
 
 returns : tie.Need-returns Inv-loop μ-loop
@@ -81,11 +81,11 @@ first-spec =
     (tie.spec
     Inv-loop
     μ-loop
-    kept-at-requires
+    number-at-requires
     loop-holds
     sub-q
     same-requires
-    kept-at-requires-2
+    number-at-requires-2
     loop-less
     loop-again
     returns)
