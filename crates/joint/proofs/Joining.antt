@@ -25,7 +25,7 @@ use Rattle.tidied.specs.Tidied.{through}
 use Rattle.tidied.proofs.Moves.{through-pos, through-below, tree-moved, formed-moved}
 use Rattle.tidied.proofs.Foldings.{schema-or-proof}
 use Rattle.tidied.proofs.Tidying.{KeepsRules}
-use Rattle.tidied.proofs.Carried.{AllCarried, row-through, formula-same, step-carried, given-carried}
+use Rattle.tidied.proofs.Carried.{AllCarried, formula-same, outer-carried, step-carried, drawn-carried}
 use Rattle.joint.specs.Joint.{schemaCount, orRow, ofFirst, ofSecond, theOr, parentOf, movedMembers, jointMembers, untidied}
 use Rattle.joint.proofs.Lists.{movedOf, moved-source, count-add, count-one}
 use Rattle.joint.proofs.Rows.{first-schema, second-schema, first-order, second-order, first-count, or-is, Whose, first, second, theirs, whose, first-moves, second-moves}
@@ -181,9 +181,7 @@ module _ (A B : Tableau) (KA : KeepsRules A) (KB : KeepsRules B) (someA : 0 < A 
   }
     where
       outer : (z : ℤ) → (x : ℤ) × List·Memᴰ x (set A j) × (z ≡ through (ofFirst A B) x) → OuterRow (untidied A B) z
-      outer z (x, m, e) =
-          let o = setsA j h .outerRows x m in
-          rw e (record { isRow = row-through CA x (o .isRow); outer = rw (formula-same CA x (o .isRow)) (o .outer) })
+      outer z (x, m, e) = rw e (outer-carried CA x (setsA j h .outerRows x m))
 
   second-set : (j : ℕ) → j < B .nodeRows → KeepsSet (untidied A B) (suc (A .nodeRows) + j)
   unfolding untidied
@@ -199,9 +197,7 @@ module _ (A B : Tableau) (KA : KeepsRules A) (KB : KeepsRules B) (someA : 0 < A 
   }
     where
       outer : (z : ℤ) → (x : ℤ) × List·Memᴰ x (set B j) × (z ≡ through (ofSecond A B) x) → OuterRow (untidied A B) z
-      outer z (x, m, e) =
-          let o = setsB j h .outerRows x m in
-          rw e (record { isRow = row-through CB x (o .isRow); outer = rw (formula-same CB x (o .isRow)) (o .outer) })
+      outer z (x, m, e) = rw e (outer-carried CB x (setsB j h .outerRows x m))
 
   -- ---- node 0
 
@@ -435,9 +431,7 @@ module _ (A B : Tableau) (KA : KeepsRules A) (KB : KeepsRules B) (someA : 0 < A 
       from : (q : ℕ) → q < A .nodeRows → node A (suc i) .up ≡ pos q → (z : ℤ) → (x : ℤ) × List·Memᴰ x (set A (suc i)) × (z ≡ through (ofFirst A B) x) → DrawnFrom (untidied A B) (1 + q) (rank (A .nodes) (suc i)) z
       from q l e z (x, m, s) =
           rw s
-          (⊎-elim
-          (λ k. inl (CA .each q l .members x k))
-          (λ k. inr (given-carried CA q l (KA .nodes q l .step) (rank (A .nodes) (suc i)) x k))
+          (drawn-carried CA q l (KA .nodes q l .step) (rank (A .nodes) (suc i)) x
           (subst (λ (y : ℤ). DrawnFrom A (nat y) (rank (A .nodes) (suc i)) x) e (KA .nodes (suc i) h .drawn x m)))
 
   secondB-drawn : (j : ℕ) → j < B .nodeRows → KeepsDrawn (untidied A B) (suc (A .nodeRows) + j)
@@ -451,9 +445,7 @@ module _ (A B : Tableau) (KA : KeepsRules A) (KB : KeepsRules B) (someA : 0 < A 
       from : (q : ℕ) → q < B .nodeRows → node B (suc i) .up ≡ pos q → (z : ℤ) → (x : ℤ) × List·Memᴰ x (set B (suc i)) × (z ≡ through (ofSecond A B) x) → DrawnFrom (untidied A B) (suc (A .nodeRows) + q) (rank (B .nodes) (suc i)) z
       from q l e z (x, m, s) =
           rw s
-          (⊎-elim
-          (λ k. inl (CB .each q l .members x k))
-          (λ k. inr (given-carried CB q l (KB .nodes q l .step) (rank (B .nodes) (suc i)) x k))
+          (drawn-carried CB q l (KB .nodes q l .step) (rank (B .nodes) (suc i)) x
           (subst (λ (y : ℤ). DrawnFrom B (nat y) (rank (B .nodes) (suc i)) x) e (KB .nodes (suc i) h .drawn x m)))
 
   -- ---- every node

@@ -8,7 +8,7 @@ use mathlib.Core.List.{List, [], _∷_, _++_, append-assoc, List·Memᴰ}
 use mathlib.Core.Option.{Option, none, some}
 use lib.IntN.{ℤ, pos}
 use lib.ListN.{length, getD, take, length-append}
-use lib.Seq.{take-suc, take-all, getD-take}
+use lib.Seq.{take-suc, take-all}
 use Rattle.stab.specs.Basic.{if_then_else_, eqZ, nat, scan}
 use Rattle.stab.specs.Formula.{Row, rowAt, joined, wellFormed}
 use Rattle.stab.specs.Node.{Tableau, Node, rows, rowCount, node, set}
@@ -25,7 +25,7 @@ use Rattle.stab.proofs.Formed.{formed-tests}
 use Rattle.stab.proofs.Exactness.{older-accepts-exactly}
 use Rattle.tidied.specs.Tidied.{through, renumbered, columns, Folding, newNumber, earliest, foldedInto, foldRow, foldNext, folding, foldingOf, newOf, tidySet, tidyMembers, tidyNode, tidyNodes, tidied}
 use Rattle.tidied.proofs.Moves.{through-below}
-use Rattle.tidied.proofs.Foldings.{joined-below, joined-above, schema-or-proof, new-schema, new-more, new-last, renumbered-agrees, renumbered-itself}
+use Rattle.tidied.proofs.Foldings.{joined-below, joined-above, rowAt-take, schema-or-proof, new-schema, new-more, new-last, renumbered-agrees, renumbered-itself}
 use Rattle.tidied.proofs.Sets.{tidy-same}
 use Rattle.tidied.proofs.Tables.{tidyOf}
 use Rattle.tidied.proofs.Carried.{through-unused}
@@ -61,17 +61,7 @@ counting-same s (suc k) r h =
     (λ e. rw e (new-last s (counting s k) (s + k) k (counting-length s k)))
     (below-suc r (s + k) (omega arith))
 
--- the rows of the first part of a table
-rowAt-take : (t : List ℤ) (n r : ℕ) → 4 * r + 3 < n → rowAt (take n t) r ≡ rowAt t r
-unfolding rowAt
-rowAt-take t n r h i = record {
-  kind = getD-take n t (4 * r) (pos 0) (omega arith) i;
-  a = getD-take n t (4 * r + 1) (pos 0) (omega arith) i;
-  b = getD-take n t (4 * r + 2) (pos 0) (omega arith) i;
-  c = getD-take n t (4 * r + 3) (pos 0) (omega arith) i;
-}
-
--- one number more of it
+-- one number more of a table's first part
 take-one : (t : List ℤ) (m n : ℕ) → n ≡ suc m → m < length t → take n t ≡ take m t ++ getD t m (pos 0) ∷ []
 take-one t m n e h = rw e (take-suc t m (pos 0) h)
 
@@ -103,7 +93,7 @@ module _ (schema : List ℤ) (s : ℕ) (proof : List ℤ) where
         same =
             ap (renumbered (newNumber s (counting s k))) (sym (joined-above schema s proof k))
             ∙ renumbered-agrees (joined schema s proof) (newNumber s (counting s k)) (λ x. x) (s + k) (formed (s + k) (omega arith)) (λ x m. counting-same s k x m)
-            ∙ renumbered-itself (joined schema s proof) (s + k) (formed (s + k) (omega arith))
+            ∙ renumbered-itself (joined schema s proof (s + k))
             ∙ joined-above schema s proof k
 
         -- the rows before it are those of the whole table

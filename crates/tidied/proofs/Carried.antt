@@ -13,7 +13,7 @@ use Rattle.stab.specs.Formula.{Row, Op, conj, disj, Kind, literal, junction, it
 use Rattle.stab.specs.Alike.{lower, instance}
 use Rattle.stab.specs.Node.{Tableau, Node, Bound, rows, rowCount, row, formula, node, set, splitAt, bound, rank, childCount}
 use Rattle.stab.specs.Rule.{unused, entry, ruleTable, ruleOf, rule, ofRule, oneOf, given, indexAt}
-use Rattle.stab.specs.Keeps.{Below, Alike, KeepsKind, Splits, Unfolds, SameIndex, Clashes, Loops, KeepsStep}
+use Rattle.stab.specs.Keeps.{Below, Alike, OuterRow, DrawnFrom, KeepsKind, Splits, Unfolds, SameIndex, Clashes, Loops, KeepsStep}
 use Rattle.stab.specs.declared.Rule.{Rule}
 use Rattle.stab.proofs.Trees.{below-nat, below-pos, below-of, below-more}
 use Rattle.stab.proofs.Tests.{below-tests}
@@ -94,7 +94,7 @@ module _ {T U : Tableau} {new at : ℕ → ℕ} (C : AllCarried T U new at) wher
   through-row z b = through-below new (rowCount T) z (below-tests (rowCount T) z .1 b)
 
   -- the number of a row is put through to the number of a row
-  pub row-through : (z : ℤ) → Below (rowCount T) z → Below (rowCount U) (through new z)
+  row-through : (z : ℤ) → Below (rowCount T) z → Below (rowCount U) (through new z)
   row-through z b =
       subst (λ (y : ℤ). Below (rowCount U) y) (sym (through-row z b))
       (below-tests (rowCount U) (pos (new (nat z))) .0 (below-of (rowCount U) (new (nat z)) (C .fits (nat z) (nat-below z b))))
@@ -115,6 +115,10 @@ module _ {T U : Tableau} {new at : ℕ → ℕ} (C : AllCarried T U new at) wher
   unfolding formula nat
   formula-same z b =
       ap (λ (y : ℤ). tree (rows U) (nat y)) (through-row z b) ∙ tree-moved (C .moves) (C .formed) (nat z) (nat-below z b)
+
+  -- an outer row is put through to an outer row
+  pub outer-carried : (z : ℤ) → OuterRow T z → OuterRow U (through new z)
+  outer-carried z o = record { isRow = row-through z (o .isRow); outer = rw (formula-same z (o .isRow)) (o .outer) }
 
   -- a literal stands as it did
   literal-row : (z : ℤ) → Below (rowCount T) z → (v : Bool) → kindOf (row T z .kind) ≡ literal v → row U (through new z) ≡ row T z
@@ -316,7 +320,7 @@ module _ {T U : Tableau} {new at : ℕ → ℕ} (C : AllCarried T U new at) wher
         parts-carried disj (on-below (pos 1) _ e (entries .1) 5 refl) (kind-5 (on-kind (pos 1) _ e (entries .1) 5 refl))
 
     -- what the rule gives to a child, it gives there, put through
-    pub given-carried : (m : ℕ) (z : ℤ) → List·Memᴰ z (given T (node T j) m) → List·Memᴰ (through new z) (given U (node U (at j)) m)
+    given-carried : (m : ℕ) (z : ℤ) → List·Memᴰ z (given T (node T j) m) → List·Memᴰ (through new z) (given U (node U (at j)) m)
     unfolding given
     given-carried m z g =
         rw (rule-test 0, rule-test 1, rule-test 3, rule-test 4)
@@ -325,3 +329,7 @@ module _ {T U : Tableau} {new at : ℕ → ℕ} (C : AllCarried T U new at) wher
         (λ t. rw (or-parts t .0, or-parts t .1) (one (through new) z _ _ m))
         (rw (C .each j h .with, C .each j h .other) (two (through new) z _ _))
         (rw (C .each j h .with, C .each j h .other) (one (through new) z _ _ m)) g)
+
+    -- what a child's set is drawn from
+    pub drawn-carried : (m : ℕ) (z : ℤ) → DrawnFrom T j m z → DrawnFrom U (at j) m (through new z)
+    drawn-carried m z d = ⊎-elim (λ k. inl (C .each j h .members z k)) (λ k. inr (given-carried m z k)) d

@@ -8,20 +8,20 @@ use mathlib.Core.List.{List, [], _∷_, _++_}
 use mathlib.Core.Option.{Option, none, some, Option·none-ne-some}
 use lib.Dec.{ltb}
 use lib.IntN.{ℤ, pos}
-use lib.ListN.{length, getD, length-append, List·getD-append}
-use lib.Seq.{getD-append-add, getD-at}
+use lib.ListN.{length, getD, take, length-append, List·getD-append}
+use lib.Seq.{getD-append-add, getD-at, getD-take}
 use borrow.Author.Tests.{lt-ltb, ltb-true, ltb-false}
 use Rattle.stab.specs.Basic.{if_then_else_, nat, below, _otherwise_, scan}
 use Rattle.stab.specs.Formula.{Row, rowAt, joined, Op, Kind, constant, literal, junction, iteration, unknown, kindOf, wellFormedAs, wellFormed}
 use Rattle.stab.specs.Check.{sameRow}
 use Rattle.stab.proofs.Bools.{decide, and-left, and-right, if-true, if-false}
-use Rattle.stab.proofs.Trees.{below-nat, below-pos}
+use Rattle.stab.proofs.Trees.{below-nat}
 use Rattle.stab.proofs.Scans.{below-suc, none-scan}
 use Rattle.stab.proofs.Tests.{same-row-tests}
 use Rattle.stab.proofs.Whole.{pos-injective}
 use Rattle.stab.proofs.Decoded.{formed-as}
 use Rattle.tidied.specs.Tidied.{through, renumberedAs, renumbered, columns, Folding, newNumber, earliest, foldedInto, foldRow, foldNext, folding}
-use Rattle.tidied.proofs.Moves.{Moves, PointsAs, Points, through-pos, through-below, renumbered-kind, renumbered-as}
+use Rattle.tidied.proofs.Moves.{Moves, PointsAs, Points, through-pos, through-below, through-itself, renumbered-kind, renumbered-as}
 
 -- ---- the earliest equal row
 
@@ -69,6 +69,16 @@ rowAt-front t u r h i = record {
   a = List·getD-append t u (pos 0) (4 * r + 1) (omega arith) i;
   b = List·getD-append t u (pos 0) (4 * r + 2) (omega arith) i;
   c = List·getD-append t u (pos 0) (4 * r + 3) (omega arith) i;
+}
+
+-- the rows of the first part of a table
+pub rowAt-take : (t : List ℤ) (n r : ℕ) → 4 * r + 3 < n → rowAt (take n t) r ≡ rowAt t r
+unfolding rowAt
+rowAt-take t n r h i = record {
+  kind = getD-take n t (4 * r) (pos 0) (omega arith) i;
+  a = getD-take n t (4 * r + 1) (pos 0) (omega arith) i;
+  b = getD-take n t (4 * r + 2) (pos 0) (omega arith) i;
+  c = getD-take n t (4 * r + 3) (pos 0) (omega arith) i;
 }
 
 pub columns-length : (w : Row) → length (columns w) ≡ 4
@@ -141,24 +151,16 @@ renumbered-agrees rows new new′ r f h = go (kindOf (rows r .kind)) (formed-as 
     go unknown f = refl
 
 -- numbers that stay renumber nothing
-pub renumbered-itself : (rows : ℕ → Row) (r : ℕ) → wellFormed rows r ≡ true → renumbered (λ x. x) (rows r) ≡ rows r
-unfolding renumbered renumberedAs wellFormedAs
-renumbered-itself rows r f = go (kindOf (rows r .kind)) (formed-as rows r (kindOf (rows r .kind)) refl f)
+pub renumbered-itself : (w : Row) → renumbered (λ x. x) w ≡ w
+unfolding renumbered renumberedAs
+renumbered-itself w = go (kindOf (w .kind))
   where
-    same : (z : ℤ) → below r z ≡ true → through (λ x. x) z ≡ z
-    same z b = through-below (λ x. x) r z b ∙ below-pos r z b
-
-    go : (k : Kind) → wellFormedAs rows r (rows r) k ≡ true → renumberedAs (λ x. x) (rows r) k ≡ rows r
-    go (constant v) f = refl
-    go (literal v) f = refl
-    go (junction o) f = λ i. record {
-      kind = rows r .kind;
-      a = same (rows r .a) (and-left (below r (rows r .a)) _ f) i;
-      b = same (rows r .b) (and-left (below r (rows r .b)) _ (and-right (below r (rows r .a)) _ f)) i;
-      c = rows r .c;
-    }
-    go (iteration o) f = λ i. record { kind = rows r .kind; a = same (rows r .a) (and-left (below r (rows r .a)) _ f) i; b = rows r .b; c = rows r .c }
-    go unknown f = refl
+    go : (k : Kind) → renumberedAs (λ x. x) w k ≡ w
+    go (constant v) = refl
+    go (literal v) = refl
+    go (junction o) = λ i. record { kind = w .kind; a = through-itself (w .a) i; b = through-itself (w .b) i; c = w .c }
+    go (iteration o) = λ i. record { kind = w .kind; a = through-itself (w .a) i; b = w .b; c = w .c }
+    go unknown = refl
 
 -- ---- what holds after k proof rows
 
@@ -198,7 +200,7 @@ module _ (schema : List ℤ) (s : ℕ) (proof : List ℤ) where
             ap (joined schema s []) (new-schema s [] r l)
             ∙ joined-below schema s [] r l
             ∙ sym (joined-below schema s proof r l)
-            ∙ sym (renumbered-agrees before (newNumber s []) (λ x. x) r (formed r l) (λ x m. new-schema s [] x (omega arith)) ∙ renumbered-itself before r (formed r l))
+            ∙ sym (renumbered-agrees before (newNumber s []) (λ x. x) r (formed r l) (λ x m. new-schema s [] x (omega arith)) ∙ renumbered-itself (joined schema s proof r))
 
   module _ (k : ℕ) (F : Folding) (I : Folded k F) (formed : (r : ℕ) → r ≤ s + k → wellFormed before r ≡ true) where
     -- the row with its parts put through

@@ -1,4 +1,4 @@
--- 02, No. 10: refusals, and what stands in lent memory after them.
+-- 02, No. 10: what stands in lent memory is accepted; refusals, and what stands there after them.
 use Prim.Native.Nat.{ℕ, _≤_, _<_}
 use native.Mathlib.Omega.{arith}
 use mathlib.Core.Path.{_≡_, refl, sym, _∙_, ap}
@@ -6,10 +6,10 @@ use mathlib.Core.Bool.{Bool, true, false}
 use mathlib.Core.List.{List, []}
 use lib.Dec.{leb}
 use lib.IntN.{ℤ, pos}
-use lib.ListN.{length}
+use lib.ListN.{length, take}
 use Rattle.stab.specs.Basic.{_and_, unless}
 use Rattle.stab.specs.Node.{Tableau, rowCount}
-use Rattle.stab.specs.Check.{atUnless, checkOlder, verdict}
+use Rattle.stab.specs.Check.{atUnless, check, checkOlder, verdict}
 use Rattle.stab.specs.Text.{padded}
 use Rattle.stab.specs.Answer.{Packs}
 use Rattle.stab.specs.declared.Place.{Place}
@@ -22,10 +22,11 @@ use Rattle.stab.specs.declared.ProofRead.the-variants.{Proof, Refused as ProofR
 use Rattle.stab.proofs.Bools.{none-unless, some-unless}
 use Rattle.stab.proofs.Packed.{older-packs}
 use Rattle.stab.proofs.Entries.{ProofFits}
-use Rattle.stab.proofs.Exactness.{older-accepts-exactly}
+use Rattle.stab.proofs.Exactness.{accepts-exactly, older-accepts-exactly}
 use Rattle.tidied.specs.Tidied.{tidied}
-use Rattle.tidied.specs.Tidy.{Rooms, tidyVerdict, tidyAnswer, tidy, tidyTableBy, tidyProof, tidyNodeTable, tidyMemberTable}
-use Rattle.tidied.proofs.Tidying.{tidied-keeps}
+use Rattle.tidied.specs.Tidy.{Rooms, tidyVerdict, tidyAnswer, tidy, tidyTableBy, tidyProof, tidyNodeTable, tidyMemberTable, inTables}
+use Rattle.tidied.proofs.Tidying.{tidied-keeps, tidied-accepted}
+use Rattle.tidied.proofs.Longer.{padded-begins, longer-accepted}
 
 -- the result tables have their full sizes
 abbrev Full : Rooms → Type 0
@@ -44,6 +45,19 @@ older-refused R T why p h e = ap (λ v. tidyAnswer v (tidied T)) (full-verdict R
 pub older-tidied : (R : Rooms) (T : Tableau) (n l : ℕ) → Full R → checkOlder T ≡ Accepted n l → tidy R T ≡ Proof (tidied T .proofRows) (tidied T .nodeRows) (tidied T .memberCount)
 unfolding tidy tidyAnswer
 older-tidied R T n l h e = ap (λ v. tidyAnswer v (tidied T)) (full-verdict R T h ∙ e)
+
+-- what is left in lent memory, with those counts, is accepted by the check
+pub tidied-lent : (R : Rooms) (T : Tableau) (n l : ℕ) → Full R → checkOlder T ≡ Accepted n l → check (inTables (tidied T) (T .schema) (tidyProof R T) (tidyNodeTable R T) (tidyMemberTable R T)) ≡ Accepted n l
+unfolding tidyProof tidyNodeTable tidyMemberTable tidyTableBy tidied
+tidied-lent R T n l h e =
+    let a = tidied-accepted T n l e in
+    let k = accepts-exactly (tidied T) n l .0 a .0 .older .tables in
+    longer-accepted (tidied T) (T .schema) (tidyProof R T) (tidyNodeTable R T) (tidyMemberTable R T) refl
+    (begins (R .rows) (tidied T .proof) (k .proofHeld)) (begins (R .nodes) (tidied T .nodes) (k .nodesHeld)) (begins (R .members) (tidied T .members) (k .membersHeld))
+    n l a
+  where
+    begins : {c : ℕ} (m : ℕ) (xs : List ℤ) → c ≤ length xs → take c (tidyTableBy (tidyVerdict R T) m xs) ≡ take c xs
+    begins {c} m xs held = ap (λ v. take c (tidyTableBy v m xs)) (full-verdict R T h ∙ e) ∙ padded-begins c m xs held
 
 -- a result table that is too short comes first
 pub short-first : (R : Rooms) (T : Tableau) → (leb 4096 (R .rows) and leb 9216 (R .nodes) and leb 8192 (R .members)) ≡ false → tidy R T ≡ ProofRefused TableTooShort (At 0)

@@ -7,6 +7,7 @@ pub mod Tables
 pub mod Agreeing
 pub mod Tidying
 pub mod Again
+pub mod Longer
 pub mod Lent
 -- The definitions computed.
 pub mod Trials

@@ -2,15 +2,15 @@
 use Prim.Native.Nat.{ℕ, zero, suc, _<_}
 use native.Mathlib.Omega.{arith}
 use mathlib.Core.Path.{_≡_, refl, sym, _∙_, ap, ap₂, subst}
-use mathlib.Core.Logic.{_⊎_, inl, inr}
+use mathlib.Core.Logic.{_⊎_, inl, inr, ⊎-elim}
 use mathlib.Core.Bool.{Bool, true, false, false≢true}
 use lib.IntN.{ℤ, pos}
 use lib.Signed.{leZ}
 use Rattle.stab.specs.Basic.{if_then_else_, nat, below}
 use Rattle.stab.specs.Formula.{Row, Op, Kind, constant, literal, junction, iteration, unknown, kindOf, Formula, const, join, iter, part, decode, tree, wellFormedAs, wellFormed}
 use Rattle.stab.specs.Keeps.{FormedAs}
-use Rattle.stab.proofs.Bools.{and-left, and-right, if-true, if-false}
-use Rattle.stab.proofs.Whole.{num, le-of}
+use Rattle.stab.proofs.Bools.{decide, and-left, and-right, if-true, if-false}
+use Rattle.stab.proofs.Whole.{num, le-of, nat-pos}
 use Rattle.stab.proofs.Trees.{below-nat, below-pos, below-of, part-of, tree-is}
 use Rattle.stab.proofs.Tests.{below-tests}
 use Rattle.stab.proofs.Decoded.{formed-as}
@@ -28,6 +28,12 @@ through-below new n z h = ap (through new) (sym (below-pos n z h)) ∙ through-p
 pub through-negative : (new : ℕ → ℕ) (z : ℤ) → leZ (pos 0) z ≡ false → through new z ≡ z
 unfolding through
 through-negative new z h = if-false (leZ (pos 0) z) _ _ h
+
+-- numbers that stay
+pub through-itself : (z : ℤ) → through (λ x. x) z ≡ z
+unfolding through
+through-itself z =
+    ⊎-elim (λ e. if-true (leZ (pos 0) z) _ _ e ∙ nat-pos z e) (λ e. if-false (leZ (pos 0) z) _ _ e) (decide (leZ (pos 0) z))
 
 -- ---- the parts of a row
 

@@ -7,14 +7,16 @@ use mathlib.Core.Logic.{⊎-elim}
 use mathlib.Core.List.{List, [], _∷_, _++_, append-assoc, append-nil}
 use lib.IntN.{ℤ, pos}
 use lib.Signed.{leZ}
-use lib.ListN.{length, getD, take, drop, length-append, length-drop, take-append-drop, List·getD-append}
+use lib.ListN.{length, getD, take, drop, length-append, length-take, length-drop, take-append-drop, List·getD-append}
 use lib.Seq.{getD-append-add, take-at, drop-at, take-append-le, drop-append-le, length-take-le}
 use Rattle.stab.specs.Basic.{nat}
+use Rattle.stab.specs.Formula.{rowAt}
 use Rattle.stab.specs.Node.{Tableau, Node, nodeAt, node, set, setStart, setEnd}
 use Rattle.stab.specs.Keeps.{KeepsSet}
 use Rattle.stab.proofs.Whole.{atom, num, _⊕_, of-le, le-of, leZ-of, nat-pos, plus-nat, nonneg-minus}
 use Rattle.stab.proofs.Scans.{below-suc}
 use Rattle.tidied.specs.Tidied.{through, tidySet, tidyMembers, tidyNode, tidyNodes}
+use Rattle.tidied.proofs.Foldings.{rowAt-take}
 
 -- ---- nine numbers a node
 
@@ -36,6 +38,11 @@ nodeAt-front t u j h i = record {
   start = List·getD-append t u (pos 0) (9 * j + 7) (omega arith) i;
   size = List·getD-append t u (pos 0) (9 * j + 8) (omega arith) i;
 }
+
+-- the nodes of the first part of a table
+nodeAt-take : (t : List ℤ) (n j : ℕ) → 9 * j + 8 < n → n ≤ length t → nodeAt (take n t) j ≡ nodeAt t j
+nodeAt-take t n j h g =
+    sym (nodeAt-front (take n t) (drop n t) j (omega (arith, length-take-le n t g))) ∙ ap (λ (l : List ℤ). nodeAt l j) (take-append-drop n t)
 
 -- the node right after it
 pub nodeAt-next : (t : List ℤ) (j : ℕ) (w : Node) → length t ≡ 9 * j → nodeAt (t ++ numbersOf w) j ≡ w
@@ -66,6 +73,23 @@ slice-front xs ys a c h =
 pub slice-take : (l : List ℤ) (m a c : ℕ) → a + c ≤ m → m ≤ length l → take c (drop a (take m l)) ≡ take c (drop a l)
 slice-take l m a c h g =
     sym (slice-front (take m l) (drop m l) a c (omega (arith, length-take-le m l g))) ∙ ap (λ (k : List ℤ). take c (drop a k)) (take-append-drop m l)
+
+-- tables that begin with the same n numbers
+module _ (t u : List ℤ) (n : ℕ) (same : take n u ≡ take n t) where
+  pub same-rows : (r : ℕ) → 4 * r + 3 < n → rowAt u r ≡ rowAt t r
+  same-rows r h = sym (rowAt-take u n r h) ∙ ap (λ (l : List ℤ). rowAt l r) same ∙ rowAt-take t n r h
+
+  module _ (held : n ≤ length t) where
+    -- the other holds as many
+    pub same-held : n ≤ length u
+    same-held = omega (arith, ap length same, length-take-le n t held, length-take n u)
+
+    pub same-nodes : (j : ℕ) → 9 * j + 8 < n → nodeAt u j ≡ nodeAt t j
+    same-nodes j h = sym (nodeAt-take u n j h same-held) ∙ ap (λ (l : List ℤ). nodeAt l j) same ∙ nodeAt-take t n j h held
+
+    pub same-slice : (a c : ℕ) → a + c ≤ n → take c (drop a u) ≡ take c (drop a t)
+    same-slice a c h =
+        sym (slice-take u n a c h same-held) ∙ ap (λ (l : List ℤ). take c (drop a l)) same ∙ slice-take t n a c h held
 
 -- ---- where a set that keeps the rules stands
 

@@ -2,7 +2,7 @@
 use Prim.Native.Nat.{ℕ, zero, suc, _+_, _*_, _<_, _≤_}
 use native.Mathlib.Omega.{arith}
 use mathlib.Core.Path.{_≡_, refl, sym, _∙_, ap, ap₂, subst}
-use mathlib.Core.Logic.{_⊎_, inl, inr, ⊎-elim, _≢_}
+use mathlib.Core.Logic.{⊎-elim}
 use mathlib.Core.Bool.{Bool, true, false}
 use mathlib.Core.List.{List, [], _∷_, List·Memᴰ}
 use lib.IntN.{ℤ, pos, _+ℤ_}
@@ -27,7 +27,7 @@ use Rattle.tidied.proofs.Foldings.{Folded, folded, folded-moves, new-sc
 use Rattle.tidied.proofs.Sets.{tidy-member, tidy-source, tidy-ascends, tidy-length}
 use Rattle.tidied.proofs.Tables.{tidyOf, nodes-length, node-tidied, set-tidied}
 use Rattle.tidied.proofs.Agreeing.{Agrees, count-same, children-same, rank-same, bound-same}
-use Rattle.tidied.proofs.Carried.{Carries, AllCarried, row-through, formula-same, step-carried, given-carried}
+use Rattle.tidied.proofs.Carried.{Carries, AllCarried, outer-carried, step-carried, drawn-carried}
 
 -- what tidying rests on: the rows keep the rules, whatever their number
 pub record KeepsRules (T : Tableau) : Type 0 where
@@ -148,9 +148,7 @@ module _ (T : Tableau) (K : KeepsRules T) where
   }
     where
       outer : (z : ℤ) → (x : ℤ) × List·Memᴰ x (set T j) × (z ≡ through (newOf T) x) → OuterRow (tidied T) z
-      outer z (x, m, e) =
-          let o = K .nodes j h .set .outerRows x m in
-          rw e (record { isRow = row-through carried x (o .isRow); outer = rw (formula-same carried x (o .isRow)) (o .outer) })
+      outer z (x, m, e) = rw e (outer-carried carried x (K .nodes j h .set .outerRows x m))
 
   -- ---- parents, and what sets are drawn from
 
@@ -184,10 +182,7 @@ module _ (T : Tableau) (K : KeepsRules T) where
           let b : nat (node T (suc i) .up) < suc i = below-nat (suc i) _ (below-tests (suc i) _ .1 p) in
           let l : nat (node T (suc i) .up) < T .nodeRows = omega arith in
           rw (e, up, rank-same (tidied T .nodes) (T .nodes) (T .nodeRows) agree (suc i) h)
-          (⊎-elim
-          (λ k. inl (carries (nat (node T (suc i) .up)) l .members x k))
-          (λ k. inr (given-carried carried (nat (node T (suc i) .up)) l (K .nodes _ l .step) (rank (T .nodes) (suc i)) x k))
-          (d x m))
+          (drawn-carried carried (nat (node T (suc i) .up)) l (K .nodes _ l .step) (rank (T .nodes) (suc i)) x (d x m))
 
   node-kept : (j : ℕ) → j < T .nodeRows → KeepsNode (tidied T) j
   node-kept j h =

@@ -46,3 +46,18 @@ tidyNodeTable R T = tidyTableBy (tidyVerdict R T) (R .nodes) (tidied T .nodes)
 
 unfoldable pub tidyMemberTable : Rooms → Tableau → List ℤ
 tidyMemberTable R T = tidyTableBy (tidyVerdict R T) (R .members) (tidied T .members)
+
+-- the same record in other tables, with its root, least value and counts
+unfoldable pub inTables : Tableau → List ℤ → List ℤ → List ℤ → List ℤ → Tableau
+inTables T schema proof nodes members = record {
+  schema = schema;
+  schemaRows = T .schemaRows;
+  proof = proof;
+  proofRows = T .proofRows;
+  root = T .root;
+  least = T .least;
+  nodes = nodes;
+  nodeRows = T .nodeRows;
+  members = members;
+  memberCount = T .memberCount;
+}
