@@ -7,7 +7,7 @@ use mathlib.Core.List.{List}
 use mathlib.Core.Option.{none}
 use lib.Dec.{leb}
 use lib.IntN.{ℤ, pos}
-use lib.ListN.{length}
+use lib.ListN.{length, take}
 use borrow.Author.Tests.{leb-true}
 use Rattle.stab.specs.Basic.{eqZ, _and_, _or_, nat, count}
 use Rattle.stab.specs.Formula.{Row, rowAt, joined, disj, Formula, join, tree, size, depth, smallEnough}
@@ -25,11 +25,13 @@ use Rattle.stab.proofs.Tests.{below-tests}
 use Rattle.stab.proofs.Scans.{count-false}
 use Rattle.stab.proofs.Exactness.{accepts-exactly}
 use Rattle.tidied.specs.Tidied.{tidied, newOf}
+use Rattle.tidied.specs.Tidy.{inTables}
 use Rattle.tidied.proofs.Foldings.{joined-below}
 use Rattle.tidied.proofs.Agreeing.{count-same}
 use Rattle.tidied.proofs.Tables as Tidy
 use Rattle.tidied.proofs.Tidying.{KeepsRules, rules-of, rules-kept, tidied-fresh, fold, same-links}
-use Rattle.joint.specs.Joint.{schemaCount, orRow, jointSchema, jointProof, untidied, joint, jointFits, Rooms, refusalOf, joinRefusal}
+use Rattle.tidied.proofs.Longer.{padded-begins, longer-accepted}
+use Rattle.joint.specs.Joint.{schemaCount, orRow, jointSchema, jointProof, untidied, joint, jointFits, Rooms, refusalOf, joinRefusal, joinedTable, joinedSchema, joinedProof, joinedNodes, joinedMembers}
 use Rattle.joint.proofs.Lists.{movedOf, count-add}
 use Rattle.joint.proofs.Rows.{schema-length, first-count}
 use Rattle.joint.proofs.Nodes.{node-zero, node-first, node-second}
@@ -191,6 +193,19 @@ module _ (R : Rooms) (A B : Tableau) (nA lA nB lB : ℕ) (first : check A ≡ Ac
         ap₂ (λ (m n : ℕ). suc (m + n)) (a .1) (b .1),
         ap₂ _+_ (a .2) (b .2) ∙ sym (joint-links A B keepsA keepsB same-least made-fits),
       )
+
+  -- and it accepts what is left in lent memory, with those counts
+  pub joint-lent : check (inTables (joint A B) (joinedSchema R A B) (joinedProof R A B) (joinedNodes R A B) (joinedMembers R A B)) ≡ Accepted (suc (nA + nB)) (lA + lB)
+  unfolding joinedSchema joinedProof joinedNodes joinedMembers joinedTable
+  joint-lent =
+      let k = joint-keeps A B keepsA keepsB same-least made-fits .older .tables in
+      longer-accepted (joint A B) (joinedSchema R A B) (joinedProof R A B) (joinedNodes R A B) (joinedMembers R A B)
+      (begins (R .schema) (joint A B .schema) (k .schemaHeld)) (begins (R .proof) (joint A B .proof) (k .proofHeld))
+      (begins (R .nodes) (joint A B .nodes) (k .nodesHeld)) (begins (R .members) (joint A B .members) (k .membersHeld))
+      (suc (nA + nB)) (lA + lB) joint-accepted
+    where
+      begins : {c : ℕ} (m : ℕ) (xs : List ℤ) → c ≤ length xs → take c (joinedTable (joinRefusal R A B) m xs) ≡ take c xs
+      begins {c} m xs held = ap (λ x. take c (joinedTable x m xs)) join-made ∙ padded-begins c m xs held
 
   -- "the first or the second", at every n and assignment
   pub joint-means : (σ : Assignment) (n : ℕ) → truth σ n (tree (rowAt (joint A B .schema)) (nat (joint A B .root))) ≡ (truth σ n (tree (rowAt (A .schema)) (nat (A .root))) or truth σ n (tree (rowAt (B .schema)) (nat (B .root))))
