@@ -34,8 +34,8 @@ use Rattle.joint.specs.declared.Joined.{Joined}
 use Rattle.joint.specs.declared.Joined.the-variants.{Record, Refused as JoinRefused}
 use Rattle.joint.proofs.Accepted.{or-tidied}
 use Rattle.joint.proofs.Joining.{or-tree}
+use Rattle.jointrows.proofs.Rows.{few-stay}
 use Rattle.join.specs.Kept.{tooLarge, afterFirst, Answers}
-use Rattle.join.proofs.Rows.{few-stay}
 
 -- what holds of four numbers holds of their equals
 pub four : (P : ℤ → ℤ → ℤ → ℤ → Type 0) {a b c d a′ b′ c′ d′ : ℤ} → a ≡ a′ → b ≡ b′ → c ≡ c′ → d ≡ d′ → P a b c d → P a′ b′ c′ d′

@@ -27,8 +27,9 @@ use Rattle.joint.specs.Joint.{schemaCount, orRow, ofFirst, ofSecond, theOr, par
 use Rattle.joint.proofs.Lists.{movedOf}
 use Rattle.joint.proofs.Blocks.{up-cases}
 use Rattle.joint.proofs.Nodes.{node-zero, node-first, node-second, set-first, set-second}
-use Rattle.join.specs.Kept.{Gives, plain, setAt, orNode, placedNode, placedSets, placedNodes, bothNodes, bothSets, Readable, AllReadable}
-use Rattle.join.proofs.Moves.{table-number}
+use Rattle.jointrows.specs.Kept.{Gives, plain}
+use Rattle.jointrows.proofs.Moves.{table-number}
+use Rattle.jointnodes.specs.Kept.{setAt, orNode, placedNode, placedSets, placedNodes, bothNodes, bothSets, Readable, AllReadable}
 
 -- ---- nodes can be read
 

@@ -1,10 +1,9 @@
 // One record for either fault: two accepted records joined into one, under the or of their roots.
 mod measure;
-mod node;
-mod number;
-mod row;
 
 use joint::Joined;
+use jointnodes::fill_nodes;
+use jointrows::fill_rows;
 use stab::Place;
 use stab::Refusal;
 use stab::Verdict;
@@ -12,146 +11,20 @@ use tableau::check::check;
 ghost use mathlib.Core.Path.{_≡_};
 ghost use mathlib.Core.Bool.{true};
 ghost use mathlib.Core.List.{[]};
-ghost use Prim.Native.Nat.{_+_, _*_, _<_, _≤_};
+ghost use Prim.Native.Nat.{_+_, _<_, _≤_};
 ghost use lib.Dec.{leb};
 ghost use lib.IntN.{pos};
 ghost use lib.ListN.{length};
-ghost use Rattle.stab.specs.Basic.{_and_, below};
-ghost use Rattle.stab.specs.Formula.{joined, smallEnough};
+ghost use Rattle.stab.specs.Basic.{_and_};
+ghost use Rattle.stab.specs.Formula.{smallEnough};
 ghost use Rattle.stab.specs.Node.{rows};
 ghost use Rattle.stab.specs.Keeps.{Keeps};
 ghost use Rattle.stab.specs.Text.{padded};
-ghost use Rattle.formula.specs.Facts.{AllFormed};
 ghost use Rattle.branch.specs.Work.{tableau};
-ghost use Rattle.tidied.specs.Tidied.{newNumber, foldingOf, newOf};
-ghost use Rattle.folds.specs.Folds.{AllSmall};
-ghost use Rattle.joint.specs.Joint.{ofFirst, ofSecond, orRow, jointSchema, untidied, joint, joinedSchema, joinedProof, joinedNodes, joinedMembers};
+ghost use Rattle.joint.specs.Joint.{orRow, joint, joinedSchema, joinedProof, joinedNodes, joinedMembers};
 ghost use Rattle.joint.specs.Joint.{join as joinOf};
 ghost use Rattle.joint.specs.declared.Joined.the-variants.{Refused as JoinRefused};
-ghost use Rattle.join.specs.Kept.{rooms, Gives, AllReadable, bothNodes, bothSets, plain, tooLarge, afterFirst, Answers};
-
-// The formula rows of both, tidied, and the new number of each. How many proof rows stay. Until they are folded every row has the number
-// of its place, which is below 4,097.
-fn fill_rows(
-    first_schema: &[i32],
-    first_schema_rows: usize,
-    first_proof: &[i32],
-    first_proof_rows: usize,
-    first_root: i32,
-    second_schema: &[i32],
-    second_schema_rows: usize,
-    second_proof: &[i32],
-    second_proof_rows: usize,
-    second_root: i32,
-    first_numbers: &mut [u32],
-    second_numbers: &mut [u32],
-    out_schema: &mut [i32],
-    out_proof: &mut [i32],
-) -> usize
-    requires { ⌜ («first_schema_rows» + «first_proof_rows» ≤ 1024) × («second_schema_rows» + «second_proof_rows» ≤ 1024) × («first_schema_rows» + «second_schema_rows» < 1024) × (length (now «first_numbers») ≡ 1024) × (length (now «second_numbers») ≡ 1024) × (4096 ≤ length (now «out_schema»)) × (4096 ≤ length (now «out_proof»)) ⌝ }
-    requires { ⌜ AllFormed (joined (now «first_schema») «first_schema_rows» (now «first_proof»)) («first_schema_rows» + «first_proof_rows») × (below «first_schema_rows» «first_root» ≡ true) ⌝ }
-    requires { ⌜ AllFormed (joined (now «second_schema») «second_schema_rows» (now «second_proof»)) («second_schema_rows» + «second_proof_rows») × (below «second_schema_rows» «second_root» ≡ true) ⌝ }
-    ensures { λ v. ⌜ v ≡ foldingOf (untidied (plain (now («first_schema» .entry)) «first_schema_rows» (now («first_proof» .entry)) «first_proof_rows» «first_root») (plain (now («second_schema» .entry)) «second_schema_rows» (now («second_proof» .entry)) «second_proof_rows» «second_root»)) .count ⌝ }
-    ensures { λ v. ⌜ now («out_schema» .exit) ≡ padded (pos 0) (length (now («out_schema» .entry))) (jointSchema (plain (now («first_schema» .entry)) «first_schema_rows» (now («first_proof» .entry)) «first_proof_rows» «first_root») (plain (now («second_schema» .entry)) «second_schema_rows» (now («second_proof» .entry)) «second_proof_rows» «second_root»)) ⌝ }
-    ensures { λ v. ⌜ («first_schema_rows» + «second_schema_rows» + 1 + v ≤ 1024 → now («out_proof» .exit) ≡ padded (pos 0) (length (now («out_proof» .entry))) (foldingOf (untidied (plain (now («first_schema» .entry)) «first_schema_rows» (now («first_proof» .entry)) «first_proof_rows» «first_root») (plain (now («second_schema» .entry)) «second_schema_rows» (now («second_proof» .entry)) «second_proof_rows» «second_root»)) .table)) ⌝ }
-    ensures { λ v. ⌜ Gives (now («first_numbers» .exit)) (λ r. newOf (untidied (plain (now («first_schema» .entry)) «first_schema_rows» (now («first_proof» .entry)) «first_proof_rows» «first_root») (plain (now («second_schema» .entry)) «second_schema_rows» (now («second_proof» .entry)) «second_proof_rows» «second_root»)) (ofFirst (plain (now («first_schema» .entry)) «first_schema_rows» (now («first_proof» .entry)) «first_proof_rows» «first_root») (plain (now («second_schema» .entry)) «second_schema_rows» (now («second_proof» .entry)) «second_proof_rows» «second_root») r)) × AllSmall (now («first_numbers» .exit)) ⌝ }
-    ensures { λ v. ⌜ Gives (now («second_numbers» .exit)) (λ r. newOf (untidied (plain (now («first_schema» .entry)) «first_schema_rows» (now («first_proof» .entry)) «first_proof_rows» «first_root») (plain (now («second_schema» .entry)) «second_schema_rows» (now («second_proof» .entry)) «second_proof_rows» «second_root»)) (ofSecond (plain (now («first_schema» .entry)) «first_schema_rows» (now («first_proof» .entry)) «first_proof_rows» «first_root») (plain (now («second_schema» .entry)) «second_schema_rows» (now («second_proof» .entry)) «second_proof_rows» «second_root») r)) × AllSmall (now («second_numbers» .exit)) ⌝ }
-{
-    let s = first_schema_rows + second_schema_rows + 1;
-    let after = s + first_proof_rows;
-    let mut numbers = [0u32; 2049];
-    number::fill(first_schema_rows, 0, s, &numbers, 4097, first_numbers);
-    number::fill(
-        second_schema_rows,
-        first_schema_rows,
-        after,
-        &numbers,
-        4097,
-        second_numbers,
-    );
-    row::put_schema(
-        first_schema,
-        first_schema_rows,
-        first_root,
-        first_numbers,
-        second_schema,
-        second_schema_rows,
-        second_root,
-        second_numbers,
-        out_schema,
-    );
-    let count = row::fold_rows(
-        out_schema,
-        s,
-        first_proof,
-        first_proof_rows,
-        first_numbers,
-        second_proof,
-        second_proof_rows,
-        second_numbers,
-        &mut numbers,
-        out_proof,
-    );
-    number::fill(first_schema_rows, 0, s, &numbers, s, first_numbers);
-    number::fill(
-        second_schema_rows,
-        first_schema_rows,
-        after,
-        &numbers,
-        s,
-        second_numbers,
-    );
-    count
-}
-
-// The or's node, and the nodes of both, with their sets, where there is room for them. How many members there are.
-fn fill_nodes(
-    or_row: usize,
-    first_nodes: &[i32],
-    first_node_rows: usize,
-    first_members: &[i32],
-    first_numbers: &[u32],
-    second_nodes: &[i32],
-    second_node_rows: usize,
-    second_members: &[i32],
-    second_numbers: &[u32],
-    out_nodes: &mut [i32],
-    out_members: &mut [i32],
-) -> usize
-    requires { ⌜ («or_row» < 1024) × («first_node_rows» + «second_node_rows» < 1024) × (9216 ≤ length (now «out_nodes»)) × (8192 ≤ length (now «out_members»)) × AllSmall (now «first_numbers») × AllSmall (now «second_numbers») ⌝ }
-    requires { ⌜ AllReadable (now «first_nodes») (now «first_members») «first_node_rows» × AllReadable (now «second_nodes») (now «second_members») «second_node_rows» ⌝ }
-    ensures { λ v. ⌜ v ≡ length (bothSets «or_row» (now («first_nodes» .entry)) (now («first_members» .entry)) (newNumber 0 (now («first_numbers» .entry))) «first_node_rows» (now («second_nodes» .entry)) (now («second_members» .entry)) (newNumber 0 (now («second_numbers» .entry))) «second_node_rows») ⌝ }
-    ensures { λ v. ⌜ (v ≤ 8192 → now («out_nodes» .exit) ≡ padded (pos 0) (length (now («out_nodes» .entry))) (bothNodes «or_row» (now («first_nodes» .entry)) (now («first_members» .entry)) (newNumber 0 (now («first_numbers» .entry))) «first_node_rows» (now («second_nodes» .entry)) (now («second_members» .entry)) (newNumber 0 (now («second_numbers» .entry))) «second_node_rows»)) ⌝ }
-    ensures { λ v. ⌜ (v ≤ 8192 → now («out_members» .exit) ≡ padded (pos 0) (length (now («out_members» .entry))) (bothSets «or_row» (now («first_nodes» .entry)) (now («first_members» .entry)) (newNumber 0 (now («first_numbers» .entry))) «first_node_rows» (now («second_nodes» .entry)) (now («second_members» .entry)) (newNumber 0 (now («second_numbers» .entry))) «second_node_rows»)) ⌝ }
-{
-    node::put_first(or_row, out_nodes, out_members);
-    let m = node::each_node(
-        first_nodes,
-        first_node_rows,
-        first_members,
-        first_numbers,
-        1,
-        1,
-        out_nodes,
-        out_members,
-    );
-    let d = 1 + first_node_rows;
-    let n = node::each_node(
-        second_nodes,
-        second_node_rows,
-        second_members,
-        second_numbers,
-        d,
-        m,
-        out_nodes,
-        out_members,
-    );
-    if n <= 8192 {
-        signed::clear(out_nodes, 9 * (d + second_node_rows));
-        signed::clear(out_members, n);
-    }
-    n
-}
+ghost use Rattle.join.specs.Kept.{rooms, tooLarge, afterFirst, Answers};
 
 // A refusal, which leaves all 0.
 fn refuse(

@@ -2,7 +2,8 @@ use mir.Syntax.{w32}
 use mir.Val.{toZ, ofZ}
 use Rattle.join.proofs.Answers.{few-rows, all-formed, root-below, few-folded, rows-over, members-over, all-fit, too-large, record-made}
 use Rattle.join.proofs.Placed.{readable, plain-schema, plain-folding, plain-first, plain-second, members-are, nodes-are}
-use Rattle.join.specs.Kept.{rooms, plain, Gives}
+use Rattle.join.specs.Kept.{rooms}
+use Rattle.jointrows.specs.Kept.{plain, Gives}
 use Rattle.joint.specs.declared.Joined.the-variants.{Record}
 use Rattle.joint.specs.Joint.{schemaCount, orRow, ofFirst, ofSecond, jointSchema, untidied, joint}
 use Rattle.tidied.specs.Tidied.{Folding, foldingOf, newOf}

@@ -1,0 +1,3 @@
+mod Numbers
+pub mod Rows
+pub mod Moves

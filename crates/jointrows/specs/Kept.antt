@@ -1,0 +1,37 @@
+-- What the passes over the formula rows of two records put.
+use Prim.Native.Nat.{ℕ, _+_, _-_, _<_}
+use mathlib.Core.Path.{_≡_}
+use mathlib.Core.List.{List, [], _++_}
+use lib.Dec.{ltb}
+use lib.IntN.{ℤ, pos}
+use lib.ListN.{getD}
+use Rattle.stab.specs.Basic.{if_then_else_}
+use Rattle.stab.specs.Formula.{Row}
+use Rattle.stab.specs.Node.{Tableau}
+use Rattle.tidied.specs.Tidied.{through, columns}
+use Rattle.joint.specs.Joint.{movedRows}
+
+-- the formula rows of a record alone
+abbrev pub plain : List ℤ → ℕ → List ℤ → ℕ → ℤ → Tableau
+plain schema s proof p root =
+    record { schema = schema; schemaRows = s; proof = proof; proofRows = p; root = root; least = pos 0; nodes = []; nodeRows = 0; members = []; memberCount = 0 }
+
+-- where row r of one record goes: its t schema rows stand from `base` on, its proof rows from `after` on
+unfoldable pub placed : ℕ → ℕ → ℕ → ℕ → ℕ
+placed t base after r = if ltb r t then base + r else after + (r - t)
+
+-- a table has the number of each row
+abbrev pub Gives : List ℕ → (ℕ → ℕ) → Type 0
+Gives numbers new = (r : ℕ) → r < 1024 → getD numbers r 0 ≡ new r
+
+-- the or of two rows
+unfoldable pub orOf : ℤ → ℤ → Row
+orOf a b = record { kind = pos 5; a = a; b = b; c = pos 0 }
+
+-- two schemata, each under its new numbers, and the or of their roots
+unfoldable pub bothSchemata : (ℕ → ℕ) → List ℤ → ℕ → ℤ → (ℕ → ℕ) → List ℤ → ℕ → ℤ → List ℤ
+bothSchemata f s n a g t m b = movedRows f s n ++ movedRows g t m ++ columns (orOf (through f a) (through g b))
+
+-- the proof rows of two records, each under its new numbers
+unfoldable pub bothProofs : (ℕ → ℕ) → List ℤ → ℕ → (ℕ → ℕ) → List ℤ → ℕ → List ℤ
+bothProofs f s n g t m = movedRows f s n ++ movedRows g t m
