@@ -1,10 +1,5 @@
 // The entries of the ways there and back: a text read and written again, with one number back as from a writer; rows written and
 // read again, with one number back as from a reader and what was read in lent results.
-use crate::packed;
-use stab::ModelRead;
-use stab::ProofRead;
-use stab::SchemaRead;
-use stab::Verdict;
 ghost use mathlib.Core.Path.{_≡_};
 ghost use Prim.Native.Nat.{_*_};
 ghost use lib.Dec.{leb};
@@ -24,7 +19,7 @@ pub extern "C" fn zorambi_schema_again(text: &[u8], table: &mut [i32], out: &mut
     ensures bytes { λ r. ⌜ now (out .exit) ≡ bytesAgain (readSchema (length (now (table .entry))) (now (text .entry))) (length (now (out .entry))) (now (text .entry)) ⌝ }
     ensures rows { λ r. ⌜ now (table .exit) ≡ kept (pos 0) (writtenNumbers (textAgain (readSchema (length (now (table .entry))) (now (text .entry))) (length (now (out .entry))) (now (text .entry))) .answer) (schemaTable (length (now (table .entry))) (readSchema (length (now (table .entry))) (now (text .entry)))) ⌝ }
 {
-    packed(round::schema_again(text, table, out))
+    told::written(round::schema_again(text, table, out))
 }
 
 // A proof text is read into the tables and written again.
@@ -42,7 +37,7 @@ pub extern "C" fn zorambi_proof_again(
     ensures nodes { λ r. ⌜ now (nodes .exit) ≡ kept (pos 0) (writtenNumbers (textAgain (readProof (length (now (table .entry))) (length (now (nodes .entry))) (length (now (members .entry))) (now (text .entry))) (length (now (out .entry))) (now (text .entry))) .answer) (nodeTable (length (now (nodes .entry))) (readProof (length (now (table .entry))) (length (now (nodes .entry))) (length (now (members .entry))) (now (text .entry)))) ⌝ }
     ensures members { λ r. ⌜ now (members .exit) ≡ kept (pos 0) (writtenNumbers (textAgain (readProof (length (now (table .entry))) (length (now (nodes .entry))) (length (now (members .entry))) (now (text .entry))) (length (now (out .entry))) (now (text .entry))) .answer) (memberTable (length (now (members .entry))) (readProof (length (now (table .entry))) (length (now (nodes .entry))) (length (now (members .entry))) (now (text .entry)))) ⌝ }
 {
-    packed(round::proof_again(text, table, nodes, members, out))
+    told::written(round::proof_again(text, table, nodes, members, out))
 }
 
 // A model text is read into the table of pairs and written again.
@@ -52,7 +47,7 @@ pub extern "C" fn zorambi_model_again(text: &[u8], pairs: &mut [i32], out: &mut 
     ensures bytes { λ r. ⌜ now (out .exit) ≡ bytesAgain (readModel (length (now (pairs .entry))) (now (text .entry))) (length (now (out .entry))) (now (text .entry)) ⌝ }
     ensures pairs { λ r. ⌜ now (pairs .exit) ≡ kept (pos 0) (writtenNumbers (textAgain (readModel (length (now (pairs .entry))) (now (text .entry))) (length (now (out .entry))) (now (text .entry))) .answer) (pairTable (length (now (pairs .entry))) (readModel (length (now (pairs .entry))) (now (text .entry)))) ⌝ }
 {
-    packed(round::model_again(text, pairs, out))
+    told::written(round::model_again(text, pairs, out))
 }
 
 // A schema's rows are written and read again; the results are root, least and the number of rows.
@@ -71,20 +66,10 @@ pub extern "C" fn zorambi_schema_rows_again(
     ensures rows { λ r. ⌜ now (back .exit) ≡ tableAgain (writeSchema (now (table .entry)) rows root least (length (now (out .entry)))) (leb 4096 (length (now (back .entry)))) (length (now (back .entry))) (take (4 * rows) (now (table .entry))) ⌝ }
     ensures bytes { λ r. ⌜ now (out .exit) ≡ kept 0 (schemaNumbers (schemaAgain (writeSchema (now (table .entry)) rows root least (length (now (out .entry)))) (leb 4096 (length (now (back .entry)))) root least rows) .answer) (output (length (now (out .entry))) (writeSchema (now (table .entry)) rows root least (length (now (out .entry))))) ⌝ }
 {
-    match round::schema_rows_again(table, rows, root, least, out, back) {
-        SchemaRead::Schema {
-            root: root_back,
-            least: least_back,
-            rows: rows_back,
-        } => {
-            *results = [root_back, least_back, signed::of(rows_back)];
-            answer::pack(Verdict::Accepted { nodes: 0, links: 0 })
-        }
-        SchemaRead::Refused { why, place } => {
-            *results = [0, 0, 0];
-            answer::pack(Verdict::Refused { why, place })
-        }
-    }
+    told::schema(
+        round::schema_rows_again(table, rows, root, least, out, back),
+        results,
+    )
 }
 
 // A proof's rows, nodes and members, likewise; the results are their numbers.
@@ -109,35 +94,21 @@ pub extern "C" fn zorambi_proof_rows_again(
     ensures members { λ r. ⌜ now («back_members» .exit) ≡ tableAgain (writeProof (now (table .entry)) rows (now (nodes .entry)) «node_rows» (now (members .entry)) «member_count» (length (now (out .entry)))) (leb 4096 (length (now («back_table» .entry))) and leb 9216 (length (now («back_nodes» .entry))) and leb 8192 (length (now («back_members» .entry)))) (length (now («back_members» .entry))) (take «member_count» (now (members .entry))) ⌝ }
     ensures bytes { λ r. ⌜ now (out .exit) ≡ kept 0 (proofNumbers (proofAgain (writeProof (now (table .entry)) rows (now (nodes .entry)) «node_rows» (now (members .entry)) «member_count» (length (now (out .entry)))) (leb 4096 (length (now («back_table» .entry))) and leb 9216 (length (now («back_nodes» .entry))) and leb 8192 (length (now («back_members» .entry)))) rows «node_rows» «member_count») .answer) (output (length (now (out .entry))) (writeProof (now (table .entry)) rows (now (nodes .entry)) «node_rows» (now (members .entry)) «member_count» (length (now (out .entry))))) ⌝ }
 {
-    match round::proof_rows_again(
-        table,
-        rows,
-        nodes,
-        node_rows,
-        members,
-        member_count,
-        out,
-        back_table,
-        back_nodes,
-        back_members,
-    ) {
-        ProofRead::Proof {
-            rows: rows_back,
-            nodes: nodes_back,
-            members: members_back,
-        } => {
-            *results = [
-                signed::of(rows_back),
-                signed::of(nodes_back),
-                signed::of(members_back),
-            ];
-            answer::pack(Verdict::Accepted { nodes: 0, links: 0 })
-        }
-        ProofRead::Refused { why, place } => {
-            *results = [0, 0, 0];
-            answer::pack(Verdict::Refused { why, place })
-        }
-    }
+    told::proof(
+        round::proof_rows_again(
+            table,
+            rows,
+            nodes,
+            node_rows,
+            members,
+            member_count,
+            out,
+            back_table,
+            back_nodes,
+            back_members,
+        ),
+        results,
+    )
 }
 
 // A model's pairs, likewise; the results are n and the number of pairs.
@@ -155,17 +126,8 @@ pub extern "C" fn zorambi_model_rows_again(
     ensures pairs { λ r. ⌜ now (back .exit) ≡ tableAgain (writeModel n (now (pairs .entry)) «pair_rows» (length (now (out .entry)))) (leb 8192 (length (now (back .entry)))) (length (now (back .entry))) (take (2 * «pair_rows») (now (pairs .entry))) ⌝ }
     ensures bytes { λ r. ⌜ now (out .exit) ≡ kept 0 (modelNumbers (modelAgain (writeModel n (now (pairs .entry)) «pair_rows» (length (now (out .entry)))) (leb 8192 (length (now (back .entry)))) n «pair_rows») .answer) (output (length (now (out .entry))) (writeModel n (now (pairs .entry)) «pair_rows» (length (now (out .entry))))) ⌝ }
 {
-    match round::model_rows_again(n, pairs, pair_rows, out, back) {
-        ModelRead::Model {
-            n: n_back,
-            pairs: pairs_back,
-        } => {
-            *results = [n_back, signed::of(pairs_back)];
-            answer::pack(Verdict::Accepted { nodes: 0, links: 0 })
-        }
-        ModelRead::Refused { why, place } => {
-            *results = [0, 0];
-            answer::pack(Verdict::Refused { why, place })
-        }
-    }
+    told::model(
+        round::model_rows_again(n, pairs, pair_rows, out, back),
+        results,
+    )
 }

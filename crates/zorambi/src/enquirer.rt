@@ -1,5 +1,4 @@
 // The entries of an editor: a row is enquired about, waits in lent memory, and is committed.
-use crate::grower::told;
 ghost use mathlib.Core.Path.{_≡_};
 ghost use mathlib.Core.List.{[], _∷_};
 ghost use lib.IntN.{pos};
@@ -43,7 +42,7 @@ pub extern "C" fn zorambi_enquire(
         set,
         waiting,
     );
-    told(r, shown)
+    told::growth(r, shown)
 }
 
 // The row that waits is judged again and added.
@@ -77,5 +76,5 @@ pub extern "C" fn zorambi_commit(
         held,
         waiting,
     );
-    told(r, shown)
+    told::growth(r, shown)
 }

@@ -1,6 +1,4 @@
 // The entry that shows a failing width: one number back as from the check, and the model in lent results.
-use found::ModelFound;
-use stab::Verdict;
 ghost use mathlib.Core.Path.{_≡_};
 ghost use lib.ListN.{length};
 ghost use Rattle.found.specs.Find.{find, foundPacked, foundResults, foundTable};
@@ -21,21 +19,8 @@ pub extern "C" fn zorambi_find_model(
     ensures results { λ r. ⌜ now (results .exit) ≡ foundResults (find (record { schema = now (schema .entry); schemaRows = «schema_rows»; root = root; least = least; n = n; room = length (now (pairs .entry)) })) ⌝ }
     ensures pairs { λ r. ⌜ now (pairs .exit) ≡ foundTable (record { schema = now (schema .entry); schemaRows = «schema_rows»; root = root; least = least; n = n; room = length (now (pairs .entry)) }) ⌝ }
 {
-    match find::find_model(schema, schema_rows, root, least, n, pairs) {
-        ModelFound::Model {
-            n: width,
-            pairs: given,
-        } => {
-            *results = [width, signed::of(given)];
-            answer::pack(Verdict::Accepted { nodes: 1, links: 0 })
-        }
-        ModelFound::None => {
-            *results = [0, 0];
-            answer::pack(Verdict::Accepted { nodes: 0, links: 0 })
-        }
-        ModelFound::Refused { why, place } => {
-            *results = [0, 0];
-            answer::pack(Verdict::Refused { why, place })
-        }
-    }
+    told::first_model(
+        find::find_model(schema, schema_rows, root, least, n, pairs),
+        results,
+    )
 }

@@ -1,46 +1,12 @@
 // The entries with which a tableau grows row by row in lent tables: one number back as from the check, with the counts of the rows held,
 // and in a lent result whether the tableau is closed.
-use growing::Growth;
-use stab::Verdict;
 ghost use mathlib.Core.Path.{_≡_};
 ghost use mathlib.Core.List.{[], _∷_};
 ghost use lib.IntN.{pos};
-ghost use Rattle.stab.specs.Basic.{if_then_else_};
-ghost use Rattle.stab.specs.Answer.{Packs};
 ghost use Rattle.growing.specs.Growing.{begun, beginAnswer, add, takeBack, answered, after, growthPacked, shownNumber};
 ghost use Rattle.growing.specs.Enquiry.{edited, grow};
 ghost use Rattle.grow.specs.State.{state, rowFrom};
-ghost use Rattle.grow.specs.Packed.{asVerdict};
 ghost use Rattle.enquire.specs.Editing.{editor};
-
-// 1 for closed.
-fn shown_of(closed: bool) -> i32
-    ensures { λ r. ⌜ r ≡ pos (if closed then 1 else 0) ⌝ }
-{
-    if closed { 1 } else { 0 }
-}
-
-// What a call answers, as the one number, and whether the tableau is closed.
-pub fn told(r: Growth, shown: &mut [i32; 1]) -> u64
-    requires { ⌜ Packs (asVerdict r) ⌝ }
-    ensures { λ v. ⌜ v ≡ growthPacked r ⌝ }
-    ensures { λ v. ⌜ now (shown .exit) ≡ pos (shownNumber r) ∷ [] ⌝ }
-{
-    match r {
-        Growth::Held {
-            nodes,
-            links,
-            closed,
-        } => {
-            *shown = [shown_of(closed)];
-            answer::pack(Verdict::Accepted { nodes, links })
-        }
-        Growth::Refused { why, place } => {
-            *shown = [0];
-            answer::pack(Verdict::Refused { why, place })
-        }
-    }
-}
 
 // Formula rows are given. Then, and also after a refusal, no node is held and the tables are 0.
 #[no_mangle]
@@ -71,7 +37,7 @@ pub extern "C" fn zorambi_begin(
         members,
         held,
     );
-    told(r, shown)
+    told::growth(r, shown)
 }
 
 // A node row is added at the end of the rows held: seven numbers, and its set. After it nothing waits. A refused call leaves all as it
@@ -111,7 +77,7 @@ pub extern "C" fn zorambi_add(
         set,
         waiting,
     );
-    told(r, shown)
+    told::growth(r, shown)
 }
 
 // The last row is taken back. After it nothing waits. A refused call leaves all as it stood.
@@ -146,5 +112,5 @@ pub extern "C" fn zorambi_take_back(
         held,
         waiting,
     );
-    told(r, shown)
+    told::growth(r, shown)
 }

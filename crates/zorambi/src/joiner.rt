@@ -1,7 +1,5 @@
 // The entry that joins two records: one number back as from the check, with both counts 0, and the root, the least value and the numbers of
 // schema rows, proof rows, nodes and members in lent results.
-use joint::Joined;
-use stab::Verdict;
 ghost use mathlib.Core.Path.{_≡_};
 ghost use Rattle.branch.specs.Work.{tableau};
 ghost use Rattle.joint.specs.Joint.{join, joinedSchema, joinedProof, joinedNodes, joinedMembers, joinedPacked, joinedResults};
@@ -43,53 +41,33 @@ pub extern "C" fn zorambi_join(
     ensures nodes { λ r. ⌜ now («out_nodes» .exit) ≡ joinedNodes (rooms (now («out_schema» .entry)) (now («out_proof» .entry)) (now («out_nodes» .entry)) (now («out_members» .entry))) (tableau (now («first_schema» .entry)) «first_schema_rows» (now («first_proof» .entry)) «first_proof_rows» «first_root» «first_least» (now («first_nodes» .entry)) «first_node_rows» (now («first_members» .entry)) «first_member_count») (tableau (now («second_schema» .entry)) «second_schema_rows» (now («second_proof» .entry)) «second_proof_rows» «second_root» «second_least» (now («second_nodes» .entry)) «second_node_rows» (now («second_members» .entry)) «second_member_count») ⌝ }
     ensures members { λ r. ⌜ now («out_members» .exit) ≡ joinedMembers (rooms (now («out_schema» .entry)) (now («out_proof» .entry)) (now («out_nodes» .entry)) (now («out_members» .entry))) (tableau (now («first_schema» .entry)) «first_schema_rows» (now («first_proof» .entry)) «first_proof_rows» «first_root» «first_least» (now («first_nodes» .entry)) «first_node_rows» (now («first_members» .entry)) «first_member_count») (tableau (now («second_schema» .entry)) «second_schema_rows» (now («second_proof» .entry)) «second_proof_rows» «second_root» «second_least» (now («second_nodes» .entry)) «second_node_rows» (now («second_members» .entry)) «second_member_count») ⌝ }
 {
-    match join::join(
-        first_schema,
-        first_schema_rows,
-        first_proof,
-        first_proof_rows,
-        first_root,
-        first_least,
-        first_nodes,
-        first_node_rows,
-        first_members,
-        first_member_count,
-        second_schema,
-        second_schema_rows,
-        second_proof,
-        second_proof_rows,
-        second_root,
-        second_least,
-        second_nodes,
-        second_node_rows,
-        second_members,
-        second_member_count,
-        out_schema,
-        out_proof,
-        out_nodes,
-        out_members,
-    ) {
-        Joined::Record {
-            root,
-            least,
-            schema,
-            proof,
-            nodes,
-            members,
-        } => {
-            *results = [
-                root,
-                least,
-                signed::of(schema),
-                signed::of(proof),
-                signed::of(nodes),
-                signed::of(members),
-            ];
-            answer::pack(Verdict::Accepted { nodes: 0, links: 0 })
-        }
-        Joined::Refused { why, place } => {
-            *results = [0, 0, 0, 0, 0, 0];
-            answer::pack(Verdict::Refused { why, place })
-        }
-    }
+    told::joined(
+        join::join(
+            first_schema,
+            first_schema_rows,
+            first_proof,
+            first_proof_rows,
+            first_root,
+            first_least,
+            first_nodes,
+            first_node_rows,
+            first_members,
+            first_member_count,
+            second_schema,
+            second_schema_rows,
+            second_proof,
+            second_proof_rows,
+            second_root,
+            second_least,
+            second_nodes,
+            second_node_rows,
+            second_members,
+            second_member_count,
+            out_schema,
+            out_proof,
+            out_nodes,
+            out_members,
+        ),
+        results,
+    )
 }

@@ -10,13 +10,10 @@ pub mod texts;
 pub mod tidier;
 pub mod wider;
 
-use stab::Verdict;
-use stab::Written;
 ghost use mathlib.Core.Path.{_≡_};
 ghost use Rattle.stab.specs.Check.{check, checkOlder};
 ghost use Rattle.stab.specs.Model.{checkModel};
 ghost use Rattle.stab.specs.Answer.{packed, answerIn};
-ghost use Rattle.stab.specs.Entry.{writtenPacked, WrittenFits};
 ghost use Rattle.stab.specs.Refuted.{Refuted, Irrefutable};
 
 // The check. An answer of 0 in the number says that the schema is false at every natural n from its least value up, under every
@@ -98,15 +95,4 @@ pub extern "C" fn zorambi_check_model(
     ensures { λ r. ⌜ (answerIn r ≡ 0 → Irrefutable (now (schema .entry)) «schema_rows» root least) ⌝ }
 {
     answer::pack(model::check_model(schema, schema_rows, root, least, n, pairs, pair_rows))
-}
-
-// What a writer answers as the one number: the bytes stand where a check's counts do.
-fn packed(w: Written) -> u64
-    requires { ⌜ WrittenFits w ⌝ }
-    ensures { λ r. ⌜ r ≡ writtenPacked w ⌝ }
-{
-    match w {
-        Written::Text { bytes } => 67108864 + bytes as u64,
-        Written::Refused { why, place } => answer::pack(Verdict::Refused { why, place }),
-    }
 }

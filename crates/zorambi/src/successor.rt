@@ -1,6 +1,4 @@
 // The entry that lists small schemata: from one table the next, one number back as from the check.
-use small::NextSmall;
-use stab::Verdict;
 ghost use mathlib.Core.Path.{_≡_};
 ghost use lib.ListN.{length};
 ghost use Rattle.small.specs.Small.{nextSmall, nextPacked, nextSmallTable};
@@ -11,9 +9,5 @@ pub extern "C" fn zorambi_next_small(table: &[i32], rows: usize, next: &mut [i32
     ensures answer { λ r. ⌜ r ≡ nextPacked (nextSmall rows (now (table .entry)) (length (now (next .entry)))) ⌝ }
     ensures table { λ r. ⌜ now (next .exit) ≡ nextSmallTable rows (now (table .entry)) (length (now (next .entry))) ⌝ }
 {
-    match nextsmall::next_small(table, rows, next) {
-        NextSmall::Table => answer::pack(Verdict::Accepted { nodes: 1, links: 0 }),
-        NextSmall::Last => answer::pack(Verdict::Accepted { nodes: 0, links: 0 }),
-        NextSmall::Refused { why, place } => answer::pack(Verdict::Refused { why, place }),
-    }
+    told::next_table(nextsmall::next_small(table, rows, next))
 }

@@ -1,9 +1,4 @@
 // The entries that read and write texts, and find a line: one number back as from the check, and what was read in lent results.
-use crate::packed;
-use stab::ModelRead;
-use stab::ProofRead;
-use stab::SchemaRead;
-use stab::Verdict;
 ghost use mathlib.Core.Path.{_≡_};
 ghost use mathlib.Core.List.{_∷_, []};
 ghost use lib.ListN.{length};
@@ -19,16 +14,7 @@ pub extern "C" fn zorambi_read_schema(text: &[u8], table: &mut [i32], results: &
     ensures { λ r. ⌜ now (results .exit) ≡ schemaResults (schemaAnswer (readSchema (length (now (table .entry))) (now (text .entry)))) ⌝ }
     ensures { λ r. ⌜ now (table .exit) ≡ schemaTable (length (now (table .entry))) (readSchema (length (now (table .entry))) (now (text .entry))) ⌝ }
 {
-    match text::read::read_schema(text, table) {
-        SchemaRead::Schema { root, least, rows } => {
-            *results = [root, least, signed::of(rows)];
-            answer::pack(Verdict::Accepted { nodes: 0, links: 0 })
-        }
-        SchemaRead::Refused { why, place } => {
-            *results = [0, 0, 0];
-            answer::pack(Verdict::Refused { why, place })
-        }
-    }
+    told::schema(text::read::read_schema(text, table), results)
 }
 
 // A proof text is read into the tables; the results are the numbers of rows, nodes and members.
@@ -46,24 +32,7 @@ pub extern "C" fn zorambi_read_proof(
     ensures { λ r. ⌜ now (nodes .exit) ≡ nodeTable (length (now (nodes .entry))) (readProof (length (now (table .entry))) (length (now (nodes .entry))) (length (now (members .entry))) (now (text .entry))) ⌝ }
     ensures { λ r. ⌜ now (members .exit) ≡ memberTable (length (now (members .entry))) (readProof (length (now (table .entry))) (length (now (nodes .entry))) (length (now (members .entry))) (now (text .entry))) ⌝ }
 {
-    match text::read::read_proof(text, table, nodes, members) {
-        ProofRead::Proof {
-            rows,
-            nodes: node_rows,
-            members: member_count,
-        } => {
-            *results = [
-                signed::of(rows),
-                signed::of(node_rows),
-                signed::of(member_count),
-            ];
-            answer::pack(Verdict::Accepted { nodes: 0, links: 0 })
-        }
-        ProofRead::Refused { why, place } => {
-            *results = [0, 0, 0];
-            answer::pack(Verdict::Refused { why, place })
-        }
-    }
+    told::proof(text::read::read_proof(text, table, nodes, members), results)
 }
 
 // A model text is read into the table of pairs; the results are n and the number of pairs.
@@ -73,19 +42,7 @@ pub extern "C" fn zorambi_read_model(text: &[u8], pairs: &mut [i32], results: &m
     ensures { λ r. ⌜ now (results .exit) ≡ modelResults (modelAnswer (readModel (length (now (pairs .entry))) (now (text .entry)))) ⌝ }
     ensures { λ r. ⌜ now (pairs .exit) ≡ pairTable (length (now (pairs .entry))) (readModel (length (now (pairs .entry))) (now (text .entry))) ⌝ }
 {
-    match text::read::read_model(text, pairs) {
-        ModelRead::Model {
-            n,
-            pairs: pair_rows,
-        } => {
-            *results = [n, signed::of(pair_rows)];
-            answer::pack(Verdict::Accepted { nodes: 0, links: 0 })
-        }
-        ModelRead::Refused { why, place } => {
-            *results = [0, 0];
-            answer::pack(Verdict::Refused { why, place })
-        }
-    }
+    told::model(text::read::read_model(text, pairs), results)
 }
 
 // A schema's text is written.
@@ -100,7 +57,7 @@ pub extern "C" fn zorambi_write_schema(
     ensures { λ r. ⌜ r ≡ writtenPacked (written (writeSchema (now (table .entry)) rows root least (length (now (out .entry))))) ⌝ }
     ensures { λ r. ⌜ now (out .exit) ≡ output (length (now (out .entry))) (writeSchema (now (table .entry)) rows root least (length (now (out .entry)))) ⌝ }
 {
-    packed(writing::write_schema(table, rows, root, least, out))
+    told::written(writing::write_schema(table, rows, root, least, out))
 }
 
 // A proof's text is written.
@@ -117,7 +74,7 @@ pub extern "C" fn zorambi_write_proof(
     ensures { λ r. ⌜ r ≡ writtenPacked (written (writeProof (now (table .entry)) rows (now (nodes .entry)) «node_rows» (now (members .entry)) «member_count» (length (now (out .entry))))) ⌝ }
     ensures { λ r. ⌜ now (out .exit) ≡ output (length (now (out .entry))) (writeProof (now (table .entry)) rows (now (nodes .entry)) «node_rows» (now (members .entry)) «member_count» (length (now (out .entry)))) ⌝ }
 {
-    packed(writing::write_proof(table, rows, nodes, node_rows, members, member_count, out))
+    told::written(writing::write_proof(table, rows, nodes, node_rows, members, member_count, out))
 }
 
 // A model's text is written.
@@ -131,7 +88,7 @@ pub extern "C" fn zorambi_write_model(
     ensures { λ r. ⌜ r ≡ writtenPacked (written (writeModel n (now (pairs .entry)) «pair_rows» (length (now (out .entry))))) ⌝ }
     ensures { λ r. ⌜ now (out .exit) ≡ output (length (now (out .entry))) (writeModel n (now (pairs .entry)) «pair_rows» (length (now (out .entry)))) ⌝ }
 {
-    packed(writing::write_model(n, pairs, pair_rows, out))
+    told::written(writing::write_model(n, pairs, pair_rows, out))
 }
 
 // Line k of a text, counted from 1: where it starts, and its length without its byte 10. Both are 0 where there is no such line.
@@ -139,6 +96,5 @@ pub extern "C" fn zorambi_write_model(
 pub extern "C" fn zorambi_line(text: &[u8], k: usize, span: &mut [usize; 2])
     ensures { λ r. ⌜ now (span .exit) ≡ lineSpan (now (text .entry)) k .start ∷ lineSpan (now (text .entry)) k .len ∷ [] ⌝ }
 {
-    let s = line::span_of(text, k);
-    *span = [s.start, s.len];
+    told::span(line::span_of(text, k), span)
 }

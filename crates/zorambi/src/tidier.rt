@@ -1,7 +1,5 @@
 // The entry that tidies an older record: one number back as from the check, with both counts 0, and the numbers of rows, nodes and members in
 // lent results.
-use stab::ProofRead;
-use stab::Verdict;
 ghost use mathlib.Core.Path.{_≡_};
 ghost use Rattle.stab.specs.Entry.{proofPacked, proofResults};
 ghost use Rattle.branch.specs.Work.{tableau};
@@ -32,32 +30,22 @@ pub extern "C" fn zorambi_tidy(
     ensures nodes { λ r. ⌜ now («out_nodes» .exit) ≡ tidyNodeTable (rooms (now («out_proof» .entry)) (now («out_nodes» .entry)) (now («out_members» .entry))) (tableau (now (schema .entry)) «schema_rows» (now (proof .entry)) «proof_rows» root least (now (nodes .entry)) «node_rows» (now (members .entry)) «member_count») ⌝ }
     ensures members { λ r. ⌜ now («out_members» .exit) ≡ tidyMemberTable (rooms (now («out_proof» .entry)) (now («out_nodes» .entry)) (now («out_members» .entry))) (tableau (now (schema .entry)) «schema_rows» (now (proof .entry)) «proof_rows» root least (now (nodes .entry)) «node_rows» (now (members .entry)) «member_count») ⌝ }
 {
-    match tidy::tidy(
-        schema,
-        schema_rows,
-        proof,
-        proof_rows,
-        root,
-        least,
-        nodes,
-        node_rows,
-        members,
-        member_count,
-        out_proof,
-        out_nodes,
-        out_members,
-    ) {
-        ProofRead::Proof {
-            rows,
-            nodes: node_count,
-            members: count,
-        } => {
-            *results = [signed::of(rows), signed::of(node_count), signed::of(count)];
-            answer::pack(Verdict::Accepted { nodes: 0, links: 0 })
-        }
-        ProofRead::Refused { why, place } => {
-            *results = [0, 0, 0];
-            answer::pack(Verdict::Refused { why, place })
-        }
-    }
+    told::proof(
+        tidy::tidy(
+            schema,
+            schema_rows,
+            proof,
+            proof_rows,
+            root,
+            least,
+            nodes,
+            node_rows,
+            members,
+            member_count,
+            out_proof,
+            out_nodes,
+            out_members,
+        ),
+        results,
+    )
 }

@@ -1,6 +1,4 @@
 // The entry that converts a wide schema: one number back as from a reader, and the plain schema in lent results.
-use stab::SchemaRead;
-use stab::Verdict;
 ghost use mathlib.Core.Path.{_≡_};
 ghost use lib.ListN.{length};
 ghost use Rattle.stab.specs.Entry.{schemaPacked, schemaResults};
@@ -20,18 +18,8 @@ pub extern "C" fn zorambi_convert(
     ensures results { λ r. ⌜ now (results .exit) ≡ schemaResults (converted (record { wide = now (wide .entry); wideRows = «wide_rows»; root = root; least = least; room = length (now (plain .entry)) })) ⌝ }
     ensures rows { λ r. ⌜ now (plain .exit) ≡ convertedTable (record { wide = now (wide .entry); wideRows = «wide_rows»; root = root; least = least; room = length (now (plain .entry)) }) ⌝ }
 {
-    match convert::convert(wide, wide_rows, root, least, plain) {
-        SchemaRead::Schema {
-            root: plain_root,
-            least: same_least,
-            rows,
-        } => {
-            *results = [plain_root, same_least, signed::of(rows)];
-            answer::pack(Verdict::Accepted { nodes: 0, links: 0 })
-        }
-        SchemaRead::Refused { why, place } => {
-            *results = [0, 0, 0];
-            answer::pack(Verdict::Refused { why, place })
-        }
-    }
+    told::schema(
+        convert::convert(wide, wide_rows, root, least, plain),
+        results,
+    )
 }

@@ -16,8 +16,8 @@ use Rattle.zorambi.proofs.again.zorambi_model_again.Tie as tie
 model-again-requires : tie.Need-model-again-requires
 model-again-requires c κs = search needs
 
-packed-requires : tie.Need-packed-requires
-packed-requires c κs = subst WrittenFits (sym (c .before .before .before .model-again .ensures .0)) (text-fits _ _ _ (stops-model _ _))
+written-requires : tie.Need-written-requires
+written-requires c κs = subst WrittenFits (sym (c .before .before .before .model-again .ensures .0)) (text-fits _ _ _ (stops-model _ _))
 
 same-length : tie.Need-same-length
 same-length c = search needs
@@ -36,8 +36,8 @@ returns c =
     let a = r .before .before .before .before .before .args in
     let R = readModel (length (a .pairs .now)) (a .text .now) in
     let e = r .model-again .ensures in
-    (c .packed .ensures ∙ ap writtenPacked (e .0), (e .1 .0, e .1 .1 ∙ ap (left (pairTable (length (a .pairs .now)) R)) (e .0)))
+    (c .written .ensures ∙ ap writtenPacked (e .0), (e .1 .0, e .1 .1 ∙ ap (left (pairTable (length (a .pairs .now)) R)) (e .0)))
 
 pub zorambi-model-again-spec : {M : Type 1} → statement M
 zorambi-model-again-spec =
-    tie.close (tie.spec model-again-requires packed-requires same-length same-length-2 returns)
+    tie.close (tie.spec model-again-requires written-requires same-length same-length-2 returns)

@@ -16,8 +16,8 @@ use Rattle.zorambi.proofs.again.zorambi_proof_again.Tie as tie
 proof-again-requires : tie.Need-proof-again-requires
 proof-again-requires c κs = search needs
 
-packed-requires : tie.Need-packed-requires
-packed-requires c κs = subst WrittenFits (sym (c .before .before .before .before .before .proof-again .ensures .0)) (text-fits _ _ _ (stops-proof _ _ _ _))
+written-requires : tie.Need-written-requires
+written-requires c κs = subst WrittenFits (sym (c .before .before .before .before .before .proof-again .ensures .0)) (text-fits _ _ _ (stops-proof _ _ _ _))
 
 same-length : tie.Need-same-length
 same-length c = search needs
@@ -42,8 +42,8 @@ returns c =
     let a = r .before .before .before .before .before .before .before .args in
     let R = readProof (length (a .table .now)) (length (a .nodes .now)) (length (a .members .now)) (a .text .now) in
     let e = r .proof-again .ensures in
-    (c .packed .ensures ∙ ap writtenPacked (e .0), (e .1 .0, (e .1 .1 .0 ∙ ap (left (proofTable (length (a .table .now)) R)) (e .0), (e .1 .1 .1 .0 ∙ ap (left (nodeTable (length (a .nodes .now)) R)) (e .0), e .1 .1 .1 .1 ∙ ap (left (memberTable (length (a .members .now)) R)) (e .0)))))
+    (c .written .ensures ∙ ap writtenPacked (e .0), (e .1 .0, (e .1 .1 .0 ∙ ap (left (proofTable (length (a .table .now)) R)) (e .0), (e .1 .1 .1 .0 ∙ ap (left (nodeTable (length (a .nodes .now)) R)) (e .0), e .1 .1 .1 .1 ∙ ap (left (memberTable (length (a .members .now)) R)) (e .0)))))
 
 pub zorambi-proof-again-spec : {M : Type 1} → statement M
 zorambi-proof-again-spec =
-    tie.close (tie.spec proof-again-requires packed-requires same-length same-length-2 same-length-3 same-length-4 returns)
+    tie.close (tie.spec proof-again-requires written-requires same-length same-length-2 same-length-3 same-length-4 returns)

@@ -16,8 +16,8 @@ use Rattle.zorambi.proofs.again.zorambi_schema_again.Tie as tie
 schema-again-requires : tie.Need-schema-again-requires
 schema-again-requires c κs = search needs
 
-packed-requires : tie.Need-packed-requires
-packed-requires c κs = subst WrittenFits (sym (c .before .before .before .schema-again .ensures .0)) (text-fits _ _ _ (stops-schema _ _))
+written-requires : tie.Need-written-requires
+written-requires c κs = subst WrittenFits (sym (c .before .before .before .schema-again .ensures .0)) (text-fits _ _ _ (stops-schema _ _))
 
 same-length : tie.Need-same-length
 same-length c = search needs
@@ -36,8 +36,8 @@ returns c =
     let a = r .before .before .before .before .before .args in
     let R = readSchema (length (a .table .now)) (a .text .now) in
     let e = r .schema-again .ensures in
-    (c .packed .ensures ∙ ap writtenPacked (e .0), (e .1 .0, e .1 .1 ∙ ap (left (schemaTable (length (a .table .now)) R)) (e .0)))
+    (c .written .ensures ∙ ap writtenPacked (e .0), (e .1 .0, e .1 .1 ∙ ap (left (schemaTable (length (a .table .now)) R)) (e .0)))
 
 pub zorambi-schema-again-spec : {M : Type 1} → statement M
 zorambi-schema-again-spec =
-    tie.close (tie.spec schema-again-requires packed-requires same-length same-length-2 returns)
+    tie.close (tie.spec schema-again-requires written-requires same-length same-length-2 returns)

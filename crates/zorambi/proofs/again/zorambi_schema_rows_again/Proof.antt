@@ -1,19 +1,15 @@
 use Prim.Native.Nat.{_*_}
-use native.Mathlib.Omega.{arith}
 use mathlib.Core.Path.{_≡_, sym, _∙_, ap, ap₂, subst}
 use mathlib.Core.Bool.{Bool}
-use mathlib.Core.List.{[], _∷_}
 use lib.Dec.{leb}
 use lib.IntN.{ℤ}
 use lib.ListN.{length, take}
 use mir.Facts.{toZ-ofZ}
 use borrow.Author.Needs.{needs}
-use Rattle.signed.proofs.Signs.{read-back}
 use Rattle.stab.specs.Write.{Writing, writeSchema, output}
-use Rattle.stab.specs.Answer.{schemaNumbers, packed, verdictNumbers, refusedNumbers}
-use Rattle.stab.specs.Entry.{schemaPacked, schemaResults, withoutCounts}
+use Rattle.stab.specs.Answer.{schemaNumbers}
+use Rattle.stab.specs.Entry.{schemaPacked, schemaResults}
 use Rattle.stab.specs.declared.SchemaRead.{SchemaRead}
-use Rattle.stab.specs.declared.SchemaRead.the-variants.{Schema, Refused}
 use Rattle.stab.proofs.Entries.{SchemaFits}
 use Rattle.round.specs.Again.{schemaAgain, tableAgain, kept}
 use Rattle.zorambi.proofs.Fits.{schema-rows-fit}
@@ -54,35 +50,11 @@ left c =
 schema-rows-again-requires : tie.Need-schema-rows-again-requires
 schema-rows-again-requires c κs = search needs
 
-enum-known-root-back : tie.Need-enum-known-root-back
-enum-known-root-back c = search needs
-
--- what was read, and what was refused
-was-read : (c : tie.After-root-back) →
-    let s = c .before .before .before .before .before .before .before .before .before in
-    let v = c .root-back .given .0 in
-    again s (s .args .root) (s .args .least) ≡ Schema (v .0) (v .1 .0) (v .1 .1 .0)
-was-read c = sym (answered (c .before .before .before .before .before)) ∙ c .root-back .given .1
-
-was-refused : (c : tie.After-why) →
-    let s = c .before .before .before .before .before .before .before .before .before in
-    again s (s .args .root) (s .args .least) ≡ Refused (c .why .given .0 .0) (c .why .given .0 .1 .0)
-was-refused c = sym (answered (c .before .before .before .before .before)) ∙ c .why .given .1
-
-fits : (s : tie.Start) → SchemaFits (again s (s .args .root) (s .args .least))
-fits s = schema-rows-fit (s .args .table .now) (s .args .rows) (s .args .root) (s .args .least) (length (s .args .out .now)) (full s)
-
-of-requires : tie.Need-of-requires
-of-requires c κs = let f = subst SchemaFits (was-read (c .before)) (fits (c .before .before .before .before .before .before .before .before .before .before)) in omega arith
-
-pack-requires : tie.Need-pack-requires
-pack-requires c κs = search needs
-
-enum-known-why : tie.Need-enum-known-why
-enum-known-why c = search needs
-
-pack-requires-2 : tie.Need-pack-requires-2
-pack-requires-2 c κs = subst SchemaFits (was-refused (c .before .before)) (fits (c .before .before .before .before .before .before .before .before .before .before .before))
+schema-requires : tie.Need-schema-requires
+schema-requires c κs =
+    let k = c .before .before .before .before in
+    let s = k .before .before .before .before in
+    subst SchemaFits (sym (answered k)) (schema-rows-fit (s .args .table .now) (s .args .rows) (s .args .root) (s .args .least) (length (s .args .out .now)) (full s))
 
 same-length : tie.Need-same-length
 same-length c = search needs
@@ -91,44 +63,10 @@ same-length-2 : tie.Need-same-length-2
 same-length-2 c = search needs
 
 returns : tie.Need-returns
-unfolding schemaResults schemaNumbers schemaPacked withoutCounts packed verdictNumbers refusedNumbers
 returns c =
-    let o = c .before .before in
-    let k = o .before in
-    let b = k .before in
-    let v = b .root-back .given .0 in
-    let root = read-back (v .0) (k .known-told .given .0 .1) in
-    let least = read-back (v .1 .0) (k .known-told .given .1 .0 .1) in
-    let rows = read-back _ (o .of .ok) ∙ o .of .ensures in
-    let e = sym (was-read b) in
-    (c .pack .ensures ∙ ap schemaPacked e, ((λ i. root i ∷ least i ∷ rows i ∷ []) ∙ ap schemaResults e, left (b .before .before .before .before .before)))
-
-same-length-3 : tie.Need-same-length-3
-same-length-3 c = search needs
-
-same-length-4 : tie.Need-same-length-4
-same-length-4 c = search needs
-
-returns-2 : tie.Need-returns-2
-unfolding schemaResults schemaNumbers schemaPacked withoutCounts packed verdictNumbers refusedNumbers
-returns-2 c =
-    let k = c .before .before .before in
-    let e = sym (was-refused k) in
-    (c .pack2 .ensures ∙ ap schemaPacked e, (ap schemaResults e, left (k .before .before .before .before .before)))
+    let k = c .before .before .before .before .before in
+    (c .schema .ensures .0 ∙ ap schemaPacked (answered k), (c .schema .ensures .1 ∙ ap schemaResults (answered k), left k))
 
 pub zorambi-schema-rows-again-spec : {M : Type 1} → statement M
 zorambi-schema-rows-again-spec =
-    tie.close
-    (tie.spec
-    schema-rows-again-requires
-    enum-known-root-back
-    of-requires
-    pack-requires
-    enum-known-why
-    pack-requires-2
-    same-length
-    same-length-2
-    returns
-    same-length-3
-    same-length-4
-    returns-2)
+    tie.close (tie.spec schema-rows-again-requires schema-requires same-length same-length-2 returns)

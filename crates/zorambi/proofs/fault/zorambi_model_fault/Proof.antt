@@ -10,11 +10,11 @@ use Rattle.zorambi.proofs.fault.zorambi_model_fault.Tie as tie
 model-fault-requires : tie.Need-model-fault-requires
 model-fault-requires c κs = search needs
 
-numbered-requires : tie.Need-numbered-requires
-numbered-requires c κs = subst (λ (f : Fault). f .line < 16384) (sym (c .model-fault .ensures)) (model-fault-fits _ _)
+fault-requires : tie.Need-fault-requires
+fault-requires c κs = subst (λ (f : Fault). f .line < 16384) (sym (c .model-fault .ensures)) (model-fault-fits _ _)
 
 returns : tie.Need-returns
-returns c = c .numbered .ensures ∙ ap faultNumber (c .before .model-fault .ensures)
+returns c = c .fault .ensures ∙ ap faultNumber (c .before .model-fault .ensures)
 
 pub zorambi-model-fault-spec : {M : Type 1} → statement M
-zorambi-model-fault-spec = tie.close (tie.spec model-fault-requires numbered-requires returns)
+zorambi-model-fault-spec = tie.close (tie.spec model-fault-requires fault-requires returns)

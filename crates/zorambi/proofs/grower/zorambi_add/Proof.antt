@@ -1,6 +1,6 @@
 use borrow.Author.Needs.{needs}
 use mathlib.Core.Path.{_≡_, sym, _∙_, ap, ap₂, subst}
-use mathlib.Core.List.{List, [], _∷_}
+use mathlib.Core.List.{[], _∷_}
 use lib.IntN.{ℤ, pos}
 use mir.Facts.{toZ-ofZ}
 use denote.Ref.{now}
@@ -57,8 +57,8 @@ left-is c =
     ∙ c .add .ensures .1
     ∙ ap₂ (λ (r l : ℤ). edited (editorAt b r l) (grow (add (row b)))) (toZ-ofZ (b .fits .root)) (toZ-ofZ (b .fits .least))
 
-told-requires : tie.Need-told-requires
-told-requires c κs =
+growth-requires : tie.Need-growth-requires
+growth-requires c κs =
     let k = c .before .before .before in
     subst (λ (r : Growth). Packs (asVerdict r)) (sym (answer-is k)) (call-packs _ _)
 
@@ -74,9 +74,9 @@ returns c =
     let k = c .before .before .before .before in
     let b = k .before .before .before .before .before .before in
     let E = editorAt b (b .args .root) (b .args .least) in (
-      c .told .ensures .0 ∙ ap growthPacked (answer-is k),
-      (c .told .ensures .1 ∙ ap (λ (r : Growth). pos (shownNumber r) ∷ []) (answer-is k), (ap (λ (F : Editor). F .held) (left-is k) ∙ held-is E (add (row b)), ap (λ (F : Editor). F .waiting) (left-is k))),
+      c .growth .ensures .0 ∙ ap growthPacked (answer-is k),
+      (c .growth .ensures .1 ∙ ap (λ (r : Growth). pos (shownNumber r) ∷ []) (answer-is k), (ap (λ (F : Editor). F .held) (left-is k) ∙ held-is E (add (row b)), ap (λ (F : Editor). F .waiting) (left-is k))),
     )
 
 pub zorambi-add-spec : {M : Type 1} → statement M
-zorambi-add-spec = tie.close (tie.spec add-requires told-requires same-length same-length-2 returns)
+zorambi-add-spec = tie.close (tie.spec add-requires growth-requires same-length same-length-2 returns)

@@ -1,17 +1,15 @@
-use native.Mathlib.Omega.{arith}
-use mathlib.Core.Path.{_≡_, sym, _∙_, ap, subst}
-use mathlib.Core.List.{[], _∷_}
+use mathlib.Core.Path.{_≡_, sym, _∙_, ap, ap₂, subst}
+use mathlib.Core.List.{List}
 use lib.IntN.{ℤ}
-use lib.ListN.{length}
+use mir.Syntax.{w32}
+use mir.Val.{ofZ, toZ}
 use mir.Facts.{toZ-ofZ}
 use denote.Ref.{now}
 use borrow.Author.Needs.{needs}
-use Rattle.signed.proofs.Signs.{read-back}
 use Rattle.stab.specs.Node.{Tableau}
-use Rattle.stab.specs.Answer.{packed, verdictNumbers, refusedNumbers}
 use Rattle.branch.specs.Work.{tableau}
-use Rattle.joint.specs.Joint.{Rooms, join, joinedSchema, joinedProof, joinedNodes, joinedMembers, joinedNumbers, joinedPacked, joinedResults}
-use Rattle.joint.specs.declared.Joined.the-variants.{Record, Refused}
+use Rattle.joint.specs.Joint.{Rooms, join, joinedSchema, joinedProof, joinedNodes, joinedMembers, joinedPacked, joinedResults}
+use Rattle.joint.specs.declared.Joined.{Joined}
 use Rattle.joint.proofs.Lent.{JoinedFits, join-fits}
 use Rattle.join.specs.Kept.{rooms}
 use Rattle.zorambi.proofs.joiner.zorambi_join.Statement.{statement}
@@ -41,50 +39,31 @@ abbrev start : tie.After-join → tie.Start
 start c = c .before .before .before .before .before
 
 -- a signed number is kept as bits, and read back from them
-answer-is : (c : tie.After-join) → c .join .result ≡ join (room (start c)) (A (start c)) (B (start c))
-answer-is c = let b = start c in c .join .ensures .0 ∙ (λ i. join (room b) (first b (toZ-ofZ (b .fits .first-root) i) (toZ-ofZ (b .fits .first-least) i)) (second b (toZ-ofZ (b .fits .second-root) i) (toZ-ofZ (b .fits .second-least) i)))
+first-is : (b : tie.Start) → first b (toZ w32 (ofZ w32 (b .args .first-root))) (toZ w32 (ofZ w32 (b .args .first-least))) ≡ A b
+first-is b = ap₂ (first b) (toZ-ofZ (b .fits .first-root)) (toZ-ofZ (b .fits .first-least))
 
--- what was joined, and what was refused
-was-joined : (c : tie.After-root) →
-    let b = start (c .before .before .before .before .before .before) in
-    let v = c .root .given .0 in
-    join (room b) (A b) (B b) ≡ Record (v .0) (v .1 .0) (v .1 .1 .0) (v .1 .1 .1 .0) (v .1 .1 .1 .1 .0) (v .1 .1 .1 .1 .1 .0)
-was-joined c = sym (answer-is (c .before .before .before .before .before .before)) ∙ c .root .given .1
+second-is : (b : tie.Start) → second b (toZ w32 (ofZ w32 (b .args .second-root))) (toZ w32 (ofZ w32 (b .args .second-least))) ≡ B b
+second-is b = ap₂ (second b) (toZ-ofZ (b .fits .second-root)) (toZ-ofZ (b .fits .second-least))
 
-was-refused : (c : tie.After-why) →
-    let b = start (c .before .before .before .before .before .before) in
-    join (room b) (A b) (B b) ≡ Refused (c .why .given .0 .0) (c .why .given .0 .1 .0)
-was-refused c = sym (answer-is (c .before .before .before .before .before .before)) ∙ c .why .given .1
+-- what is answered and left, of two records and of two that are the same
+abbrev Said : Rooms → Tableau → Tableau → Joined → List ℤ → List ℤ → List ℤ → List ℤ → Type 0
+Said R X Y r s p n m = (r ≡ join R X Y) × ((s ≡ joinedSchema R X Y) × ((p ≡ joinedProof R X Y) × ((n ≡ joinedNodes R X Y) × (m ≡ joinedMembers R X Y))))
 
-fits : (c : tie.After-root) → let v = c .root .given .0 in JoinedFits (Record (v .0) (v .1 .0) (v .1 .1 .0) (v .1 .1 .1 .0) (v .1 .1 .1 .1 .0) (v .1 .1 .1 .1 .1 .0))
-fits c = subst JoinedFits (was-joined c) (join-fits _ _ _)
+carried : (R : Rooms) {X X' Y Y' : Tableau} {r : Joined} {s p n m : List ℤ} → X ≡ X' → Y ≡ Y' → Said R X Y r s p n m → Said R X' Y' r s p n m
+carried R e f said =
+    let left = said .1 in (
+      said .0 ∙ ap₂ (join R) e f,
+      (left .0 ∙ ap₂ (joinedSchema R) e f, (left .1 .0 ∙ ap₂ (joinedProof R) e f, (left .1 .1 .0 ∙ ap₂ (joinedNodes R) e f, left .1 .1 .1 ∙ ap₂ (joinedMembers R) e f))),
+    )
 
 join-requires : tie.Need-join-requires
 join-requires c κs = search needs
 
-enum-known-root : tie.Need-enum-known-root
-enum-known-root c = search needs
-
-of-requires : tie.Need-of-requires
-of-requires c κs = omega (arith, fits (c .before) .0)
-
-of-requires-2 : tie.Need-of-requires-2
-of-requires-2 c κs = omega (arith, fits (c .before .before) .1)
-
-of-requires-3 : tie.Need-of-requires-3
-of-requires-3 c κs = omega (arith, fits (c .before .before .before) .2)
-
-of-requires-4 : tie.Need-of-requires-4
-of-requires-4 c κs = omega (arith, fits (c .before .before .before .before) .3)
-
-pack-requires : tie.Need-pack-requires
-pack-requires c κs = search needs
-
-enum-known-why : tie.Need-enum-known-why
-enum-known-why c = search needs
-
-pack-requires-2 : tie.Need-pack-requires-2
-pack-requires-2 c κs = subst JoinedFits (was-refused (c .before .before)) (join-fits _ _ _)
+joined-requires : tie.Need-joined-requires
+joined-requires c κs =
+    let j = c .before .before .before .before .before in
+    let b = start j in
+    subst JoinedFits (sym (carried (room b) (first-is b) (second-is b) (j .join .ensures) .0)) (join-fits _ _ _)
 
 same-length : tie.Need-same-length
 same-length c = search needs
@@ -99,92 +78,20 @@ same-length-4 : tie.Need-same-length-4
 same-length-4 c = search needs
 
 returns : tie.Need-returns
-unfolding joinedResults joinedNumbers joinedPacked packed verdictNumbers refusedNumbers
 returns c =
-    let o4 = c .before .before in
-    let o3 = o4 .before in
-    let o2 = o3 .before in
-    let o1 = o2 .before in
-    let k = o1 .before in
-    let r = k .before in
-    let j = r .before .before .before .before .before .before in
+    let j = c .before .before .before .before .before .before in
     let b = start j in
-    let v = r .root .given .0 in
-    let root = read-back (v .0) (k .known-told .given .0 .1) in
-    let least = read-back (v .1 .0) (k .known-told .given .1 .0 .1) in
-    let e = sym (was-joined r) in (
-      c .pack .ensures ∙ ap joinedPacked e,
-      (
-        (λ i. root i ∷ least i ∷ (read-back _ (o1 .of .ok) ∙ o1 .of .ensures) i ∷ (read-back _ (o2 .of2 .ok) ∙ o2 .of2 .ensures) i ∷ (read-back _ (o3 .of3 .ok) ∙ o3 .of3 .ensures) i ∷ (read-back _ (o4 .of4 .ok) ∙ o4 .of4 .ensures) i ∷ [])
-            ∙ ap joinedResults e,
-        (
-          j .join .ensures .1 .0 ∙ (λ i. joinedSchema (room b) (first b (toZ-ofZ (b .fits .first-root) i) (toZ-ofZ (b .fits .first-least) i)) (second b (toZ-ofZ (b .fits .second-root) i) (toZ-ofZ (b .fits .second-least) i))),
-          (
-            j .join .ensures .1 .1 .0 ∙ (λ i. joinedProof (room b) (first b (toZ-ofZ (b .fits .first-root) i) (toZ-ofZ (b .fits .first-least) i)) (second b (toZ-ofZ (b .fits .second-root) i) (toZ-ofZ (b .fits .second-least) i))),
-            (
-              j .join .ensures .1 .1 .1 .0 ∙ (λ i. joinedNodes (room b) (first b (toZ-ofZ (b .fits .first-root) i) (toZ-ofZ (b .fits .first-least) i)) (second b (toZ-ofZ (b .fits .second-root) i) (toZ-ofZ (b .fits .second-least) i))),
-              j .join .ensures .1 .1 .1 .1 ∙ (λ i. joinedMembers (room b) (first b (toZ-ofZ (b .fits .first-root) i) (toZ-ofZ (b .fits .first-least) i)) (second b (toZ-ofZ (b .fits .second-root) i) (toZ-ofZ (b .fits .second-least) i))),
-            ),
-          ),
-        ),
-      ),
-    )
-
-same-length-5 : tie.Need-same-length-5
-same-length-5 c = search needs
-
-same-length-6 : tie.Need-same-length-6
-same-length-6 c = search needs
-
-same-length-7 : tie.Need-same-length-7
-same-length-7 c = search needs
-
-same-length-8 : tie.Need-same-length-8
-same-length-8 c = search needs
-
-returns-2 : tie.Need-returns-2
-unfolding joinedResults joinedNumbers joinedPacked packed verdictNumbers refusedNumbers
-returns-2 c =
-    let k = c .before .before .before in
-    let j = k .before .before .before .before .before .before in
-    let b = start j in
-    let e = sym (was-refused k) in (
-      c .pack2 .ensures ∙ ap joinedPacked e,
-      (
-        ap joinedResults e,
-        (
-          j .join .ensures .1 .0 ∙ (λ i. joinedSchema (room b) (first b (toZ-ofZ (b .fits .first-root) i) (toZ-ofZ (b .fits .first-least) i)) (second b (toZ-ofZ (b .fits .second-root) i) (toZ-ofZ (b .fits .second-least) i))),
-          (
-            j .join .ensures .1 .1 .0 ∙ (λ i. joinedProof (room b) (first b (toZ-ofZ (b .fits .first-root) i) (toZ-ofZ (b .fits .first-least) i)) (second b (toZ-ofZ (b .fits .second-root) i) (toZ-ofZ (b .fits .second-least) i))),
-            (
-              j .join .ensures .1 .1 .1 .0 ∙ (λ i. joinedNodes (room b) (first b (toZ-ofZ (b .fits .first-root) i) (toZ-ofZ (b .fits .first-least) i)) (second b (toZ-ofZ (b .fits .second-root) i) (toZ-ofZ (b .fits .second-least) i))),
-              j .join .ensures .1 .1 .1 .1 ∙ (λ i. joinedMembers (room b) (first b (toZ-ofZ (b .fits .first-root) i) (toZ-ofZ (b .fits .first-least) i)) (second b (toZ-ofZ (b .fits .second-root) i) (toZ-ofZ (b .fits .second-least) i))),
-            ),
-          ),
-        ),
-      ),
-    )
+    let said = carried (room b) (first-is b) (second-is b) (j .join .ensures) in
+    (c .joined .ensures .0 ∙ ap joinedPacked (said .0), (c .joined .ensures .1 ∙ ap joinedResults (said .0), said .1))
 
 pub zorambi-join-spec : {M : Type 1} → statement M
 zorambi-join-spec =
     tie.close
     (tie.spec
     join-requires
-    enum-known-root
-    of-requires
-    of-requires-2
-    of-requires-3
-    of-requires-4
-    pack-requires
-    enum-known-why
-    pack-requires-2
+    joined-requires
     same-length
     same-length-2
     same-length-3
     same-length-4
-    returns
-    same-length-5
-    same-length-6
-    same-length-7
-    same-length-8
-    returns-2)
+    returns)

@@ -21,9 +21,9 @@ same s = ap (writes s) (toZ-ofZ (s .fits .n))
 write-model-requires : tie.Need-write-model-requires
 write-model-requires c κs = search needs
 
-packed-requires : tie.Need-packed-requires
+written-requires : tie.Need-written-requires
 unfolding writeModel
-packed-requires c κs = subst WrittenFits (sym (c .before .before .write-model .ensures .0)) (written-fits _ _ _)
+written-requires c κs = subst WrittenFits (sym (c .before .before .write-model .ensures .0)) (written-fits _ _ _)
 
 same-length : tie.Need-same-length
 same-length c = search needs
@@ -32,10 +32,10 @@ returns : tie.Need-returns
 returns c =
     let b = c .before .before .before in
     let s = b .before .before .before in (
-      c .packed .ensures ∙ ap writtenPacked (b .write-model .ensures .0 ∙ ap written (same s)),
+      c .written .ensures ∙ ap writtenPacked (b .write-model .ensures .0 ∙ ap written (same s)),
       b .write-model .ensures .1 ∙ ap (output (length (s .args .out .now))) (same s),
     )
 
 pub zorambi-write-model-spec : {M : Type 1} → statement M
 zorambi-write-model-spec =
-    tie.close (tie.spec write-model-requires packed-requires same-length returns)
+    tie.close (tie.spec write-model-requires written-requires same-length returns)

@@ -9,9 +9,9 @@ use Rattle.zorambi.proofs.texts.zorambi_write_proof.Tie as tie
 write-proof-requires : tie.Need-write-proof-requires
 write-proof-requires c κs = search needs
 
-packed-requires : tie.Need-packed-requires
+written-requires : tie.Need-written-requires
 unfolding writeProof
-packed-requires c κs = subst WrittenFits (sym (c .before .before .write-proof .ensures .0)) (written-fits _ _ _)
+written-requires c κs = subst WrittenFits (sym (c .before .before .write-proof .ensures .0)) (written-fits _ _ _)
 
 same-length : tie.Need-same-length
 same-length c = search needs
@@ -19,8 +19,8 @@ same-length c = search needs
 returns : tie.Need-returns
 returns c =
     let b = c .before .before .before in
-    (c .packed .ensures ∙ ap writtenPacked (b .write-proof .ensures .0), b .write-proof .ensures .1)
+    (c .written .ensures ∙ ap writtenPacked (b .write-proof .ensures .0), b .write-proof .ensures .1)
 
 pub zorambi-write-proof-spec : {M : Type 1} → statement M
 zorambi-write-proof-spec =
-    tie.close (tie.spec write-proof-requires packed-requires same-length returns)
+    tie.close (tie.spec write-proof-requires written-requires same-length returns)

@@ -21,9 +21,9 @@ same s = ap₂ (writes s) (toZ-ofZ (s .fits .root)) (toZ-ofZ (s .fits .least))
 write-schema-requires : tie.Need-write-schema-requires
 write-schema-requires c κs = search needs
 
-packed-requires : tie.Need-packed-requires
+written-requires : tie.Need-written-requires
 unfolding writeSchema
-packed-requires c κs = subst WrittenFits (sym (c .before .before .write-schema .ensures .0)) (written-fits _ _ _)
+written-requires c κs = subst WrittenFits (sym (c .before .before .write-schema .ensures .0)) (written-fits _ _ _)
 
 same-length : tie.Need-same-length
 same-length c = search needs
@@ -32,10 +32,10 @@ returns : tie.Need-returns
 returns c =
     let b = c .before .before .before in
     let s = b .before .before .before in (
-      c .packed .ensures ∙ ap writtenPacked (b .write-schema .ensures .0 ∙ ap written (same s)),
+      c .written .ensures ∙ ap writtenPacked (b .write-schema .ensures .0 ∙ ap written (same s)),
       b .write-schema .ensures .1 ∙ ap (output (length (s .args .out .now))) (same s),
     )
 
 pub zorambi-write-schema-spec : {M : Type 1} → statement M
 zorambi-write-schema-spec =
-    tie.close (tie.spec write-schema-requires packed-requires same-length returns)
+    tie.close (tie.spec write-schema-requires written-requires same-length returns)

@@ -5,8 +5,8 @@ use Rattle.stab.specs.Basic.{nat}
 use Rattle.stab.specs.Answer.{writtenNumbers, oneNumber}
 use Rattle.stab.specs.Entry.{withoutCounts, writtenPacked, WrittenFits}
 use Rattle.stab.proofs.Entries.{written-refused}
-use Rattle.zorambi.proofs.packed.Statement.{statement}
-use Rattle.zorambi.proofs.packed.Tie as tie
+use Rattle.told.proofs.written.Statement.{statement}
+use Rattle.told.proofs.written.Tie as tie
 
 enum-known-w : tie.Need-enum-known-w
 enum-known-w c = search needs
@@ -29,6 +29,6 @@ returns-2 c =
     let g = c .before .before .w2 .given in
     c .pack .ensures ∙ written-refused (g .0 .0) (g .0 .1 .0) ∙ ap writtenPacked (sym (g .1))
 
-pub packed-spec : {M : Type 1} → statement M
-packed-spec =
+pub written-spec : {M : Type 1} → statement M
+written-spec =
     tie.close (tie.spec enum-known-w add-result enum-known-w-2 pack-requires returns returns-2)

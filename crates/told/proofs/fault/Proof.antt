@@ -3,8 +3,8 @@ use native.Mathlib.Omega.{arith}
 use borrow.Author.Needs.{needs}
 use Rattle.stab.specs.Entry.{faultNumber}
 use Rattle.stab.proofs.Bools.{if-true, if-false}
-use Rattle.zorambi.proofs.fault.numbered.Statement.{statement}
-use Rattle.zorambi.proofs.fault.numbered.Tie as tie
+use Rattle.told.proofs.fault.Statement.{statement}
+use Rattle.told.proofs.fault.Tie as tie
 
 mul-twice : tie.Need-mul-twice
 mul-twice c = search needs
@@ -20,5 +20,5 @@ returns-2 : tie.Need-returns-2
 unfolding faultNumber
 returns-2 c = omega (arith, if-false {A = ℕ} (c .before .args .f .second) 1 0 (c .if1 .left))
 
-pub numbered-spec : {M : Type 1} → statement M
-numbered-spec = tie.close (tie.spec mul-twice add-result returns returns-2)
+pub fault-spec : {M : Type 1} → statement M
+fault-spec = tie.close (tie.spec mul-twice add-result returns returns-2)

@@ -1,8 +1,8 @@
 use mathlib.Core.Path.{sym, ap}
 use lib.IntN.{pos}
 use Rattle.stab.proofs.Bools.{if-true, if-false}
-use Rattle.zorambi.proofs.grower.shown_of.Statement.{statement}
-use Rattle.zorambi.proofs.grower.shown_of.Tie as tie
+use Rattle.told.proofs.closed_number.Statement.{statement}
+use Rattle.told.proofs.closed_number.Tie as tie
 
 returns : tie.Need-returns
 returns c = ap pos (sym (if-true _ _ _ (c .if1 .taken)))
@@ -10,5 +10,5 @@ returns c = ap pos (sym (if-true _ _ _ (c .if1 .taken)))
 returns-2 : tie.Need-returns-2
 returns-2 c = ap pos (sym (if-false _ _ _ (c .if1 .left)))
 
-pub shown-of-spec : {M : Type 1} → statement M
-shown-of-spec = tie.close (tie.spec returns returns-2)
+pub closed-number-spec : {M : Type 1} → statement M
+closed-number-spec = tie.close (tie.spec returns returns-2)
