@@ -5,7 +5,7 @@ use crate::heavy::{self, Part};
 use crate::kinds::{Kinds, Run};
 use crate::records;
 use crate::tally::Tally;
-use crate::tidy::{self, exactly, faulty, one_by_one, paper, record, with_parts};
+use crate::tidy::{self, exactly, faulty, one_by_one, paper, with_parts};
 use std::collections::BTreeMap;
 use std::fs;
 use zorambi::entries;
@@ -52,7 +52,7 @@ pub fn of_entry([a, b]: [&Tables; 2], [schema, proof, nodes, members]: [&mut [i3
 
 /// The other implementation's.
 pub fn of_other([a, b]: [&Tables; 2], [schema, proof, nodes, members]: &mut Out) -> join::Joined {
-    join::join(&record(a), &record(b), schema, proof, nodes, members)
+    join::join(&a.record(), &b.record(), schema, proof, nodes, members)
 }
 
 fn of_library(pair: [&Tables; 2], lengths: [usize; 4]) -> Seen {

@@ -7,82 +7,30 @@ use crate::paper::{PROOF, SCHEMA};
 use crate::records;
 use crate::tally::Tally;
 use std::fs;
+use zorambi::entries;
 use zorambi_reference::formula::{Row, AND, BIG_AND, BIG_OR, FALSE, LITERAL, ON_I, ON_N, OR};
 use zorambi_reference::generate::tables::{Tables, Tree, TreeNode};
 use zorambi_reference::generate::{case, Input, Rng};
-use zorambi_reference::tidy::{self, Record};
-
-mod c {
-    extern "C" {
-        pub fn zorambi_tidy(
-            schema: *const i32,
-            schema_len: usize,
-            schema_rows: usize,
-            proof: *const i32,
-            proof_len: usize,
-            proof_rows: usize,
-            root: i32,
-            least: i32,
-            nodes: *const i32,
-            nodes_len: usize,
-            node_rows: usize,
-            members: *const i32,
-            members_len: usize,
-            member_count: usize,
-            proof_out: *mut i32,
-            proof_out_len: usize,
-            nodes_out: *mut i32,
-            nodes_out_len: usize,
-            members_out: *mut i32,
-            members_out_len: usize,
-            results: *mut i32,
-        ) -> u64;
-    }
-}
+use zorambi_reference::tidy;
 
 /// The library's entry. Results: rows, nodes, members.
 pub fn tidy(t: &Tables, proof: &mut [i32], nodes: &mut [i32], members: &mut [i32], results: &mut [i32; 3]) -> u64 {
-    unsafe {
-        c::zorambi_tidy(
-            t.schema.as_ptr(),
-            t.schema.len(),
-            t.schema_count,
-            t.proof.as_ptr(),
-            t.proof.len(),
-            t.proof_count,
-            t.root,
-            t.least,
-            t.nodes.as_ptr(),
-            t.nodes.len(),
-            t.node_count,
-            t.members.as_ptr(),
-            t.members.len(),
-            t.member_count,
-            proof.as_mut_ptr(),
-            proof.len(),
-            nodes.as_mut_ptr(),
-            nodes.len(),
-            members.as_mut_ptr(),
-            members.len(),
-            results.as_mut_ptr(),
-        )
-    }
-}
-
-/// The tables as the other implementation takes them.
-pub fn record(t: &Tables) -> Record<'_> {
-    Record {
-        root: t.root,
-        least: t.least,
-        schema: &t.schema,
-        schema_count: t.schema_count,
-        proof: &t.proof,
-        proof_count: t.proof_count,
-        nodes: &t.nodes,
-        node_count: t.node_count,
-        members: &t.members,
-        member_count: t.member_count,
-    }
+    entries::tidy(
+        &t.schema,
+        t.schema_count,
+        &t.proof,
+        t.proof_count,
+        t.root,
+        t.least,
+        &t.nodes,
+        t.node_count,
+        &t.members,
+        t.member_count,
+        proof,
+        nodes,
+        members,
+        results,
+    )
 }
 
 const FULL: [usize; 3] = [4096, 9216, 8192];
@@ -107,7 +55,7 @@ fn of_library(t: &Tables, lengths: [usize; 3]) -> Seen {
 fn of_reference(t: &Tables, lengths: [usize; 3]) -> Seen {
     let mut lent = lengths.map(|length| vec![-3; length]);
     let [proof, nodes, members] = &mut lent;
-    let found = tidy::tidy(&record(t), proof, nodes, members);
+    let found = tidy::tidy(&t.record(), proof, nodes, members);
     let results = [found.rows, found.nodes, found.members].map(|count| count as i32).to_vec();
     Seen { packed: pack(found.answer, found.place, 0), results, tables: lent.to_vec(), ..Seen::default() }
 }

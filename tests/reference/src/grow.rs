@@ -1,7 +1,7 @@
 //! A tableau that grows row by row: document 02, No. 7; enquiries about a row, and commits: No. 8.
 
 use crate::formula::{judge_rows, Twice};
-use crate::tableau::{self, judge_tables, Kept, Missing};
+use crate::tableau::{self, judge_tables, Kept, Missing, Record};
 use crate::{holds, refuse, Refusal, Verdict, MAX_MEMBERS, MAX_NODES, MAX_ROWS, NODE_WIDTH, ROW_WIDTH};
 
 /// What is given with every call: root and least value, then the formula rows.
@@ -30,35 +30,22 @@ pub struct Memory {
 }
 
 impl Memory {
+    /// The rows given and held as one record.
+    fn record<'a>(&'a self, given: &Given<'a>) -> Record<'a> {
+        let Given { root, least, schema, schema_count, proof, proof_count } = *given;
+        let [node_count, member_count] = self.held;
+        let (nodes, members) = (&self.nodes, &self.members);
+        Record { root, least, schema, schema_count, proof, proof_count, nodes, node_count, members, member_count }
+    }
+
     /// The rows held, whatever is wrong with them but what is missing.
-    fn judge(&self, given: &Given) -> Result<Kept<'_>, Refusal> {
-        judge_tables(
-            Twice::Refused,
-            Missing::Allowed,
-            given.root,
-            given.least,
-            (given.schema, given.schema_count),
-            (given.proof, given.proof_count),
-            (&self.nodes, self.held[0]),
-            (&self.members, self.held[1]),
-        )
+    fn judge<'a>(&'a self, given: &Given<'a>) -> Result<Kept<'a>, Refusal> {
+        judge_tables(Twice::Refused, Missing::Allowed, &self.record(given))
     }
 
     /// The whole check accepts the rows held.
     fn closed(&self, given: &Given) -> bool {
-        let whole = tableau::check(
-            given.root,
-            given.least,
-            given.schema,
-            given.schema_count,
-            given.proof,
-            given.proof_count,
-            &self.nodes,
-            self.held[0],
-            &self.members,
-            self.held[1],
-        );
-        whole.answer == 0
+        tableau::check(&self.record(given)).answer == 0
     }
 
     fn hold(&mut self, nodes: usize, members: usize) {
@@ -186,21 +173,16 @@ fn show(given: &Given, memory: &mut Memory, judged: Result<Verdict, Refusal>) ->
 #[cfg(test)]
 mod tests {
     use super::*;
+    use crate::paper::{NODES, PROOF, SCHEMA};
 
-    // The record of document 01.
-    const SCHEMA: [i32; 20] = [2, 0, 2, 0, 3, 0, 2, 0, 7, 0, 2, 0, 6, 1, 2, 0, 4, 2, 3, 0];
-    const PROOF: [i32; 16] = [7, 0, 2, 1, 2, 0, 1, 0, 6, 1, 2, 1, 3, 0, 1, 0];
-    const ROWS: [([i32; 7], &[i32]); 7] = [
-        ([-1, 0, 4, -1, -1, -1, 0], &[4]),
-        ([0, 2, -1, -1, -1, -1, 0], &[2, 3]),
-        ([1, 7, 2, -1, -1, -1, 0], &[2, 3]),
-        ([1, 3, 3, 7, 8, -1, 0], &[2, 3]),
-        ([3, 4, 2, 5, 6, -1, 0], &[2, 7, 8]),
-        ([4, 8, -1, -1, -1, 1, 1], &[5, 7]),
-        ([4, 6, 6, 8, -1, -1, 0], &[6, 8]),
-    ];
-
-    const GIVEN: Given = Given { root: 4, least: 1, schema: &SCHEMA, schema_count: 5, proof: &PROOF, proof_count: 4 };
+    const GIVEN: Given = Given {
+        root: 4,
+        least: 1,
+        schema: SCHEMA.as_flattened(),
+        schema_count: 5,
+        proof: PROOF.as_flattened(),
+        proof_count: 4,
+    };
 
     /// Memory with rubbish in it, of these lengths.
     fn rubbish(nodes: usize, members: usize) -> Memory {
@@ -219,7 +201,7 @@ mod tests {
     fn grown(count: usize) -> Memory {
         let mut memory = rubbish(9216, 8192);
         assert_eq!(begin(&GIVEN, &mut memory), accepted(0, 0));
-        for (number, (row, set)) in ROWS.iter().take(count).enumerate() {
+        for (number, (row, set)) in NODES.iter().take(count).enumerate() {
             let links = usize::from(number >= 5);
             assert_eq!(add(&GIVEN, &mut memory, row, set), accepted(number + 1, links));
             assert_eq!(memory.shown, i32::from(number == 6));
@@ -269,14 +251,14 @@ mod tests {
             (memory.nodes[9 * held], memory.members[20]) = (5, 5);
             leaves(&memory, expected, |memory| add(&GIVEN, memory, &row, set));
         };
-        wrong(0, (9, 0), ROWS[0].0, &[9]);
-        wrong(0, (10, 0), ROWS[0].0, &[3]);
-        wrong(0, (10, 0), ROWS[1].0, &[4]);
+        wrong(0, (9, 0), NODES[0].0, &[9]);
+        wrong(0, (10, 0), NODES[0].0, &[3]);
+        wrong(0, (10, 0), NODES[1].0, &[4]);
         wrong(0, (12, 0), [-1, 1, 4, -1, -1, -1, 0], &[4]);
-        wrong(1, (9, 1), ROWS[1].0, &[3, 2]);
-        wrong(1, (9, 1), ROWS[1].0, &[0]);
+        wrong(1, (9, 1), NODES[1].0, &[3, 2]);
+        wrong(1, (9, 1), NODES[1].0, &[0]);
         wrong(1, (10, 1), [1, 2, -1, -1, -1, -1, 0], &[2, 3]);
-        wrong(1, (11, 1), ROWS[1].0, &[2, 3, 5]);
+        wrong(1, (11, 1), NODES[1].0, &[2, 3, 5]);
         // Node 0 has its one child: 17 before 11, and before what the row itself has wrong.
         wrong(2, (17, 2), [0, 9, 4, -1, -1, -1, 0], &[5]);
         wrong(2, (9, 2), [0, 9, 4, -1, -1, -1, 0], &[5, 5]);
@@ -288,13 +270,13 @@ mod tests {
         wrong(5, (13, 5), [4, 8, -1, -1, -1, 5, 1], &[5, 7]);
         wrong(5, (14, 5), [4, 8, -1, -1, -1, 1, 2], &[5, 7]);
         wrong(5, (16, 5), [4, 8, -1, -1, -1, 1, 1], &[5]);
-        wrong(7, (17, 7), ROWS[6].0, ROWS[6].1);
+        wrong(7, (17, 7), NODES[6].0, NODES[6].1);
     }
 
     #[test]
     fn no_room() {
         // 2 nodes and 3 members are held; the next row has 2 members.
-        let (row, set) = ROWS[2];
+        let (row, set) = NODES[2];
         for (nodes, members, fits) in [(27, 5, true), (26, 5, false), (27, 4, false), (18, 3, false)] {
             let mut memory = grown(2);
             memory.nodes.truncate(nodes);
@@ -328,7 +310,7 @@ mod tests {
         let altered = |expected: (u8, i32), alter: &dyn Fn(&mut Memory)| {
             let mut memory = grown(5);
             alter(&mut memory);
-            let (row, set) = ROWS[5];
+            let (row, set) = NODES[5];
             leaves(&memory, expected, |memory| add(&GIVEN, memory, &row, set));
             leaves(&memory, expected, |memory| take_back(&GIVEN, memory));
         };
@@ -352,7 +334,7 @@ mod tests {
         let mut memory = grown(0);
         memory.held = [0, 1];
         leaves(&memory, (25, -1), |memory| take_back(&GIVEN, memory));
-        let (row, set) = ROWS[0];
+        let (row, set) = NODES[0];
         leaves(&memory, (9, 0), |memory| add(&GIVEN, memory, &row, set));
     }
 
@@ -375,7 +357,7 @@ mod tests {
         away((27, 5), Given { proof: &[7, 0, 2, 0], proof_count: 1, ..GIVEN });
         let mut memory = rubbish(0, 0);
         assert_eq!(begin(&GIVEN, &mut memory), accepted(0, 0));
-        leaves(&memory, (24, -1), |memory| add(&GIVEN, memory, &ROWS[0].0, ROWS[0].1));
+        leaves(&memory, (24, -1), |memory| add(&GIVEN, memory, &NODES[0].0, NODES[0].1));
         // Formula rows are judged again with every call.
         let mut memory = grown(7);
         memory.shown = 7;
@@ -393,7 +375,7 @@ mod tests {
         leaves(&memory, (26, -1), |memory| commit(&GIVEN, memory));
         memory.nodes[100] = 5;
         let before = memory.clone();
-        let ((row, set), (other, other_set)) = (ROWS[5], ROWS[6]);
+        let ((row, set), (other, other_set)) = (NODES[5], NODES[6]);
         says_yes(&mut memory, 6, 1, |memory| enquire(&GIVEN, memory, &row, set));
         let mut waiting = [0; WAITING];
         waiting[..11].copy_from_slice(&[1, 2, 4, 8, -1, -1, -1, 1, 1, 5, 7]);
@@ -420,7 +402,7 @@ mod tests {
 
     #[test]
     fn calls_that_leave_nothing_to_commit() {
-        let (row, set) = ROWS[5];
+        let (row, set) = NODES[5];
         let mut memory = grown(5);
         says_yes(&mut memory, 6, 1, |memory| enquire(&GIVEN, memory, &row, set));
         says_yes(&mut memory, 4, 0, |memory| take_back(&GIVEN, memory));
@@ -434,7 +416,7 @@ mod tests {
 
     #[test]
     fn rows_altered_while_they_wait() {
-        let (row, set) = ROWS[5];
+        let (row, set) = NODES[5];
         let mut memory = grown(5);
         says_yes(&mut memory, 6, 1, |memory| enquire(&GIVEN, memory, &row, set));
         let altered = |expected: (u8, i32), alter: &dyn Fn(&mut Memory)| {

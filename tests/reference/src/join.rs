@@ -2,8 +2,9 @@
 //! whole is tidied.
 
 use crate::formula::{Formulas, Row, OR};
-use crate::tidy::{set, table_rows, tidied_tables, with_parts, ProofTables, Record};
-use crate::{refuse, tableau, Refusal, Verdict, MAX_MEMBERS, MAX_NODES, MAX_ROWS, NODE_WIDTH, ROW_WIDTH};
+use crate::tableau::{self, Record};
+use crate::tidy::{set, table_rows, tidied_tables, with_parts, ProofTables};
+use crate::{refuse, Refusal, Verdict, MAX_MEMBERS, MAX_NODES, MAX_ROWS, NODE_WIDTH, ROW_WIDTH};
 
 /// What comes back: as in reading a schema and a proof.
 #[derive(Clone, Copy, Debug, Default, PartialEq, Eq)]
@@ -55,7 +56,7 @@ pub fn join(
 
 fn joined(first: &Record, second: &Record) -> Result<(Vec<Row>, ProofTables), Refusal> {
     for record in [first, second] {
-        let Verdict { answer, place, .. } = check(record);
+        let Verdict { answer, place, .. } = tableau::check(record);
         if answer != 0 {
             return refuse(answer, place);
         }
@@ -93,21 +94,6 @@ fn joined(first: &Record, second: &Record) -> Result<(Vec<Row>, ProofTables), Re
         return refuse(29, -1);
     }
     Ok((schema, tables))
-}
-
-fn check(r: &Record) -> Verdict {
-    tableau::check(
-        r.root,
-        r.least,
-        r.schema,
-        r.schema_count,
-        r.proof,
-        r.proof_count,
-        r.nodes,
-        r.node_count,
-        r.members,
-        r.member_count,
-    )
 }
 
 /// A record, and where its schema rows, its proof rows and its nodes begin in the join.
@@ -153,8 +139,7 @@ impl Moved<'_> {
 #[cfg(test)]
 mod tests {
     use super::*;
-
-    type Nodes = Vec<([i32; 7], Vec<i32>)>;
+    use crate::paper::{self, tables, Nodes};
 
     struct Owned {
         root: i32,
@@ -166,38 +151,14 @@ mod tests {
 
     /// The record of document 01.
     fn paper() -> Owned {
-        Owned {
-            root: 4,
-            least: 1,
-            schema: vec![[2, 0, 2, 0], [3, 0, 2, 0], [7, 0, 2, 0], [6, 1, 2, 0], [4, 2, 3, 0]],
-            proof: vec![[7, 0, 2, 1], [2, 0, 1, 0], [6, 1, 2, 1], [3, 0, 1, 0]],
-            nodes: vec![
-                ([-1, 0, 4, -1, -1, -1, 0], vec![4]),
-                ([0, 2, -1, -1, -1, -1, 0], vec![2, 3]),
-                ([1, 7, 2, -1, -1, -1, 0], vec![2, 3]),
-                ([1, 3, 3, 7, 8, -1, 0], vec![2, 3]),
-                ([3, 4, 2, 5, 6, -1, 0], vec![2, 7, 8]),
-                ([4, 8, -1, -1, -1, 1, 1], vec![5, 7]),
-                ([4, 6, 6, 8, -1, -1, 0], vec![6, 8]),
-            ],
-        }
+        let [schema, proof] = [paper::SCHEMA.to_vec(), paper::PROOF.to_vec()];
+        Owned { root: 4, least: 1, schema, proof, nodes: paper::nodes() }
     }
 
     /// False, closed at once.
     fn no(least: i32) -> Owned {
         let nodes = vec![([-1, 5, 0, -1, -1, -1, 0], vec![0])];
         Owned { root: 0, least, schema: vec![[1, 0, 0, 0]], proof: vec![], nodes }
-    }
-
-    fn tables(nodes: &Nodes) -> [Vec<i32>; 2] {
-        let mut found = [Vec::new(), Vec::new()];
-        for (fields, set) in nodes {
-            let start = found[1].len() as i32;
-            found[0].extend(fields);
-            found[0].extend([start, set.len() as i32]);
-            found[1].extend(set);
-        }
-        found
     }
 
     /// The join and its tables.
@@ -271,10 +232,12 @@ mod tests {
         assert_eq!(members[22..25], [7, 14, 16]);
         // Node 13 links to node 9, the second's node 1.
         assert_eq!(nodes[13 * 9..14 * 9], [12, 8, -1, -1, -1, 9, 1, 25, 2]);
-        let (root, least, counts) = (found.root, found.least, (found.schema_rows, found.proof_rows));
-        let check =
-            tableau::check(root, least, &schema, counts.0, &proof, counts.1, &nodes, 15, &members, members.len());
-        assert_eq!(check, Verdict::accepted(15, 2));
+        let (root, least, schema_count, proof_count) = (found.root, found.least, found.schema_rows, found.proof_rows);
+        let (schema, proof, nodes, members, member_count) = (&schema, &proof, &nodes, &members, members.len());
+        let node_count = 15;
+        let record =
+            Record { root, least, schema, schema_count, proof, proof_count, nodes, node_count, members, member_count };
+        assert_eq!(tableau::check(&record), Verdict::accepted(15, 2));
     }
 
     #[test]

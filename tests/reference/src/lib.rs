@@ -31,6 +31,8 @@ pub mod grow;
 pub mod join;
 pub mod model;
 pub mod packed;
+#[cfg(test)]
+mod paper;
 pub mod program;
 pub mod small;
 pub mod tableau;

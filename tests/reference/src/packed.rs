@@ -1,6 +1,6 @@
 //! The one number that provers get: ((answer × 8192 + place + 1) × 8192 + nodes) × 8192 + links.
 
-use crate::{model, tableau, Verdict};
+use crate::Verdict;
 
 const STEP: i64 = 8192;
 
@@ -25,73 +25,4 @@ pub fn unpack(number: i64) -> Option<Verdict> {
         nodes: digit(1) as usize,
         links: digit(0) as usize,
     })
-}
-
-/// The check's verdict as one number.
-#[allow(clippy::too_many_arguments)]
-pub fn check(
-    root: i32,
-    least: i32,
-    schema: &[i32],
-    schema_count: usize,
-    proof: &[i32],
-    proof_count: usize,
-    nodes: &[i32],
-    node_count: usize,
-    members: &[i32],
-    member_count: usize,
-) -> i64 {
-    pack(tableau::check(
-        root,
-        least,
-        schema,
-        schema_count,
-        proof,
-        proof_count,
-        nodes,
-        node_count,
-        members,
-        member_count,
-    ))
-}
-
-/// The older check's verdict as one number.
-#[allow(clippy::too_many_arguments)]
-pub fn check_older(
-    root: i32,
-    least: i32,
-    schema: &[i32],
-    schema_count: usize,
-    proof: &[i32],
-    proof_count: usize,
-    nodes: &[i32],
-    node_count: usize,
-    members: &[i32],
-    member_count: usize,
-) -> i64 {
-    pack(tableau::check_older(
-        root,
-        least,
-        schema,
-        schema_count,
-        proof,
-        proof_count,
-        nodes,
-        node_count,
-        members,
-        member_count,
-    ))
-}
-
-/// The model check's verdict as one number.
-pub fn check_model(
-    root: i32,
-    least: i32,
-    schema: &[i32],
-    schema_count: usize,
-    n: i32,
-    pairs: &[i32],
-    pair_count: usize,
-) -> i64 {
-    pack(model::check_model(root, least, schema, schema_count, n, pairs, pair_count))
 }

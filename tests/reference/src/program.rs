@@ -1,5 +1,6 @@
 //! The check program, without its files: two texts in, the four numbers out, and the line that a refusal speaks of.
 
+use crate::tableau::Record;
 use crate::text::Named;
 use crate::{
     model, tableau, text, Verdict, MAX_MEMBERS, MAX_NODES, MAX_PAIRS, MAX_ROWS, NODE_WIDTH, PAIR_WIDTH, ROW_WIDTH,
@@ -10,7 +11,7 @@ fn refused(answer: u8, place: i32) -> Verdict {
 }
 
 /// A check of tables, present or older.
-type Check = fn(i32, i32, &[i32], usize, &[i32], usize, &[i32], usize, &[i32], usize) -> Verdict;
+type Check = fn(&Record) -> Verdict;
 
 /// Reads the schema text, then the proof text, and checks. A text refused in reading gives its answer
 /// and place with counts 0, and nothing is checked.
@@ -36,7 +37,18 @@ fn check_texts_by(check: Check, schema_text: &[u8], proof_text: &[u8]) -> Verdic
     if p.answer != 0 {
         return refused(p.answer, p.place);
     }
-    check(s.root, s.least, &schema, s.rows, &proof, p.rows, &nodes, p.nodes, &members, p.members)
+    check(&Record {
+        root: s.root,
+        least: s.least,
+        schema: &schema,
+        schema_count: s.rows,
+        proof: &proof,
+        proof_count: p.rows,
+        nodes: &nodes,
+        node_count: p.nodes,
+        members: &members,
+        member_count: p.members,
+    })
 }
 
 /// The same with a model text and the model check.

@@ -95,52 +95,33 @@ impl Bound {
     }
 }
 
-/// The check: `root` and `least`, then the four tables, each with its count of rows or members.
-#[allow(clippy::too_many_arguments)]
-pub fn check(
-    root: i32,
-    least: i32,
-    schema: &[i32],
-    schema_count: usize,
-    proof: &[i32],
-    proof_count: usize,
-    nodes: &[i32],
-    node_count: usize,
-    members: &[i32],
-    member_count: usize,
-) -> Verdict {
-    let (schema, proof) = ((schema, schema_count), (proof, proof_count));
-    check_tables(Twice::Refused, root, least, schema, proof, (nodes, node_count), (members, member_count))
+/// What a check is lent: root and least value, then the four tables, each with its count.
+#[derive(Clone, Copy, Debug)]
+pub struct Record<'a> {
+    pub root: i32,
+    pub least: i32,
+    pub schema: &'a [i32],
+    pub schema_count: usize,
+    pub proof: &'a [i32],
+    pub proof_count: usize,
+    pub nodes: &'a [i32],
+    pub node_count: usize,
+    pub members: &'a [i32],
+    pub member_count: usize,
+}
+
+/// The check.
+pub fn check(record: &Record) -> Verdict {
+    verdict(judge_tables(Twice::Refused, Missing::Refused, record))
 }
 
 /// The check of older records: proof rows may be written twice.
-#[allow(clippy::too_many_arguments)]
-pub fn check_older(
-    root: i32,
-    least: i32,
-    schema: &[i32],
-    schema_count: usize,
-    proof: &[i32],
-    proof_count: usize,
-    nodes: &[i32],
-    node_count: usize,
-    members: &[i32],
-    member_count: usize,
-) -> Verdict {
-    let (schema, proof) = ((schema, schema_count), (proof, proof_count));
-    check_tables(Twice::Allowed, root, least, schema, proof, (nodes, node_count), (members, member_count))
+pub fn check_older(record: &Record) -> Verdict {
+    verdict(judge_tables(Twice::Allowed, Missing::Refused, record))
 }
 
-fn check_tables(
-    twice: Twice,
-    root: i32,
-    least: i32,
-    schema: (&[i32], usize),
-    proof: (&[i32], usize),
-    nodes: (&[i32], usize),
-    members: (&[i32], usize),
-) -> Verdict {
-    match judge_tables(twice, Missing::Refused, root, least, schema, proof, nodes, members) {
+fn verdict(judged: Result<Kept, Refusal>) -> Verdict {
+    match judged {
         Ok(kept) => Verdict::accepted(kept.nodes(), kept.links()),
         Err(refusal) => Verdict::refused(refusal),
     }
@@ -163,17 +144,9 @@ pub(crate) struct Kept<'a> {
     children: Vec<usize>,
 }
 
-#[allow(clippy::too_many_arguments)]
-pub(crate) fn judge_tables<'a>(
-    twice: Twice,
-    missing: Missing,
-    root: i32,
-    least: i32,
-    (schema, schema_count): (&[i32], usize),
-    (proof, proof_count): (&[i32], usize),
-    (nodes, node_count): (&[i32], usize),
-    (members, member_count): (&'a [i32], usize),
-) -> Result<Kept<'a>, Refusal> {
+pub(crate) fn judge_tables<'a>(twice: Twice, missing: Missing, record: &Record<'a>) -> Result<Kept<'a>, Refusal> {
+    let Record { root, least, schema, schema_count, proof, proof_count, .. } = *record;
+    let Record { nodes, node_count, members, member_count, .. } = *record;
     let long_enough = holds(schema.len(), schema_count, ROW_WIDTH)
         && holds(proof.len(), proof_count, ROW_WIDTH)
         && holds(nodes.len(), node_count, NODE_WIDTH)

@@ -2,23 +2,9 @@
 //! there; what stays then takes its new number by counting.
 
 use crate::formula::{Row, AND, BIG_AND, BIG_OR, OR};
-use crate::{refuse, tableau, Refusal, Verdict, MAX_MEMBERS, MAX_NODES, MAX_ROWS, NODE_WIDTH, ROW_WIDTH};
+use crate::tableau::{self, Record};
+use crate::{refuse, Refusal, Verdict, MAX_MEMBERS, MAX_NODES, MAX_ROWS, NODE_WIDTH, ROW_WIDTH};
 use std::collections::HashMap;
-
-/// What a check is lent: root and least value, then the four tables, each with its count.
-#[derive(Clone, Copy, Debug)]
-pub struct Record<'a> {
-    pub root: i32,
-    pub least: i32,
-    pub schema: &'a [i32],
-    pub schema_count: usize,
-    pub proof: &'a [i32],
-    pub proof_count: usize,
-    pub nodes: &'a [i32],
-    pub node_count: usize,
-    pub members: &'a [i32],
-    pub member_count: usize,
-}
 
 /// What comes back: as in reading a proof.
 #[derive(Clone, Copy, Debug, Default, PartialEq, Eq)]
@@ -54,18 +40,7 @@ pub fn tidy(record: &Record, proof: &mut [i32], nodes: &mut [i32], members: &mut
 }
 
 fn tidied(r: &Record) -> Result<ProofTables, Refusal> {
-    let Verdict { answer, place, .. } = tableau::check_older(
-        r.root,
-        r.least,
-        r.schema,
-        r.schema_count,
-        r.proof,
-        r.proof_count,
-        r.nodes,
-        r.node_count,
-        r.members,
-        r.member_count,
-    );
+    let Verdict { answer, place, .. } = tableau::check_older(r);
     if answer != 0 {
         return refuse(answer, place);
     }
@@ -150,36 +125,9 @@ pub(crate) fn with_parts([kind, a, b, c]: Row, change: impl Fn(i32) -> i32) -> R
 #[cfg(test)]
 mod tests {
     use super::*;
+    use crate::paper::{nodes, tables, Nodes, PROOF, SCHEMA};
 
-    // The record of document 01.
-    const SCHEMA: [[i32; 4]; 5] = [[2, 0, 2, 0], [3, 0, 2, 0], [7, 0, 2, 0], [6, 1, 2, 0], [4, 2, 3, 0]];
-    const PROOF: [[i32; 4]; 4] = [[7, 0, 2, 1], [2, 0, 1, 0], [6, 1, 2, 1], [3, 0, 1, 0]];
-
-    type Nodes = Vec<([i32; 7], Vec<i32>)>;
     type Answer = Result<[Vec<i32>; 3], (u8, i32)>;
-
-    fn nodes() -> Nodes {
-        vec![
-            ([-1, 0, 4, -1, -1, -1, 0], vec![4]),
-            ([0, 2, -1, -1, -1, -1, 0], vec![2, 3]),
-            ([1, 7, 2, -1, -1, -1, 0], vec![2, 3]),
-            ([1, 3, 3, 7, 8, -1, 0], vec![2, 3]),
-            ([3, 4, 2, 5, 6, -1, 0], vec![2, 7, 8]),
-            ([4, 8, -1, -1, -1, 1, 1], vec![5, 7]),
-            ([4, 6, 6, 8, -1, -1, 0], vec![6, 8]),
-        ]
-    }
-
-    fn tables(nodes: &Nodes) -> [Vec<i32>; 2] {
-        let mut found = [Vec::new(), Vec::new()];
-        for (fields, set) in nodes {
-            let start = found[1].len() as i32;
-            found[0].extend(fields);
-            found[0].extend([start, set.len() as i32]);
-            found[1].extend(set);
-        }
-        found
-    }
 
     /// What comes of the record with these proof rows and nodes.
     fn tidied(proof: &[[i32; 4]], node_rows: &Nodes) -> Answer {

@@ -19,7 +19,8 @@ use zorambi_reference::generate::models::ModelTables;
 use zorambi_reference::generate::tables::Tables;
 use zorambi_reference::generate::Input;
 use zorambi_reference::grow::{Given, Memory, WAITING};
-use zorambi_reference::{formula, model, tableau, text, Verdict};
+use zorambi_reference::tableau::{self, Record};
+use zorambi_reference::{formula, model, text, Verdict};
 
 /// Seconds that one call takes, the median of some rounds.
 #[derive(Clone, Copy)]
@@ -108,7 +109,7 @@ fn same(name: &str, input: &Input) {
 }
 
 /// A check of the other implementation.
-type Check = fn(i32, i32, &[i32], usize, &[i32], usize, &[i32], usize, &[i32], usize) -> Verdict;
+type Check = fn(&Record) -> Verdict;
 
 fn check(name: &str, t: &Tables) -> Times {
     same(name, &Input::Check(t.clone()));
@@ -121,6 +122,7 @@ fn check_by_older(name: &str, t: &Tables) -> Times {
 }
 
 fn check_by(library: CheckEntry, reference: Check, t: &Tables) -> Times {
+    let record = t.record();
     time(
         || {
             black_box(library(
@@ -137,18 +139,7 @@ fn check_by(library: CheckEntry, reference: Check, t: &Tables) -> Times {
             ));
         },
         || {
-            black_box(reference(
-                t.root,
-                t.least,
-                black_box(&t.schema),
-                t.schema_count,
-                &t.proof,
-                t.proof_count,
-                &t.nodes,
-                t.node_count,
-                &t.members,
-                t.member_count,
-            ));
+            black_box(reference(black_box(&record)));
         },
     )
 }
@@ -334,7 +325,7 @@ fn tidies(shipped: &[Shipped]) {
     let of_records = [(adder.name.as_str(), records::tables(&adder.schema, &adder.proof))];
     for (name, t) in of_records.into_iter().chain(tidy::worst()) {
         let seen = tidy::of_both(&t).unwrap_or_else(|why| panic!("{name}: {why}"));
-        let record = tidy::record(&t);
+        let record = t.record();
         let [mut ours, mut theirs] = [(); 2].map(|()| [4096, 9216, 8192].map(|length| vec![1; length]));
         let mut results = [0; 3];
         let times = time(
@@ -463,7 +454,7 @@ fn finds() {
         let mut results = [0; 2];
         let times = time(
             || {
-                black_box(find::find_model(
+                black_box(entries::find_model(
                     black_box(schema),
                     *schema_count,
                     *root,
@@ -570,7 +561,7 @@ fn converts() {
         let mut results = [0; 3];
         let times = time(
             || {
-                black_box(convert::convert(black_box(wide), *wide_count, *root, *least, &mut ours, &mut results));
+                black_box(entries::convert(black_box(wide), *wide_count, *root, *least, &mut ours, &mut results));
             },
             || {
                 let wide = black_box(wide);

@@ -16,8 +16,9 @@ use zorambi_reference::generate::tables::Tables;
 use zorambi_reference::generate::{across, ranges, twice};
 use zorambi_reference::generate::{case, run, Case, Input, Outcome, Rng};
 use zorambi_reference::program::Fault;
+use zorambi_reference::tableau::{self, Record};
 use zorambi_reference::text::{self, Named};
-use zorambi_reference::{model, packed, program, tableau, Verdict};
+use zorambi_reference::{model, packed, program, Verdict};
 
 const SCHEMA: &str = "root least\n4 1\nkind a b c\n2 0 2 0\n3 0 2 0\n7 0 2 0\n6 1 2 0\n4 2 3 0\n";
 const PROOF: &str = "kind a b c\n7 0 2 1\n2 0 1 0\n6 1 2 1\n3 0 1 0\nup rule on with other to by set\n\
@@ -704,7 +705,18 @@ fn consistent(input: &Input, outcome: &Outcome, rng: &mut Rng) -> Result<(), Str
                 Verdict { answer: p.answer, place: p.place, nodes: 0, links: 0 }
             } else {
                 let check = if matches!(input, Input::Texts { .. }) { tableau::check } else { tableau::check_older };
-                check(s.root, s.least, &rows, s.rows, &proof, p.rows, &nodes, p.nodes, &members, p.members)
+                check(&Record {
+                    root: s.root,
+                    least: s.least,
+                    schema: &rows,
+                    schema_count: s.rows,
+                    proof: &proof,
+                    proof_count: p.rows,
+                    nodes: &nodes,
+                    node_count: p.nodes,
+                    members: &members,
+                    member_count: p.members,
+                })
             };
             ensure(*verdict == expected, "another answer by its parts")
         }

@@ -234,42 +234,17 @@ impl Outcome {
     }
 }
 
+fn of_verdict(verdict: Verdict) -> Outcome {
+    Outcome::Verdict { verdict, packed: packed::pack(verdict) }
+}
+
 /// Runs this implementation on a case.
 pub fn run(input: &Input) -> Outcome {
     match input {
-        Input::Check(t) => {
-            let verdict = tableau::check(
-                t.root,
-                t.least,
-                &t.schema,
-                t.schema_count,
-                &t.proof,
-                t.proof_count,
-                &t.nodes,
-                t.node_count,
-                &t.members,
-                t.member_count,
-            );
-            Outcome::Verdict { verdict, packed: packed::pack(verdict) }
-        }
-        Input::CheckOlder(t) => {
-            let verdict = tableau::check_older(
-                t.root,
-                t.least,
-                &t.schema,
-                t.schema_count,
-                &t.proof,
-                t.proof_count,
-                &t.nodes,
-                t.node_count,
-                &t.members,
-                t.member_count,
-            );
-            Outcome::Verdict { verdict, packed: packed::pack(verdict) }
-        }
+        Input::Check(t) => of_verdict(tableau::check(&t.record())),
+        Input::CheckOlder(t) => of_verdict(tableau::check_older(&t.record())),
         Input::Model(m) => {
-            let verdict = model::check_model(m.root, m.least, &m.schema, m.schema_count, m.n, &m.pairs, m.pair_count);
-            Outcome::Verdict { verdict, packed: packed::pack(verdict) }
+            of_verdict(model::check_model(m.root, m.least, &m.schema, m.schema_count, m.n, &m.pairs, m.pair_count))
         }
         Input::ReadSchema { text, length, fill } => {
             let mut rows = vec![*fill; *length];
@@ -315,14 +290,8 @@ pub fn run(input: &Input) -> Outcome {
             row: text::row_line(*schema_count, *proof_count, *row),
             node: text::node_line(*proof_count, *node),
         },
-        Input::Texts { schema, proof } => {
-            let verdict = program::check_texts(schema, proof);
-            Outcome::Verdict { verdict, packed: packed::pack(verdict) }
-        }
-        Input::TextsOlder { schema, proof } => {
-            let verdict = program::check_texts_older(schema, proof);
-            Outcome::Verdict { verdict, packed: packed::pack(verdict) }
-        }
+        Input::Texts { schema, proof } => of_verdict(program::check_texts(schema, proof)),
+        Input::TextsOlder { schema, proof } => of_verdict(program::check_texts_older(schema, proof)),
         Input::CheckFault { schema, proof } => Outcome::Fault(program::check_fault(schema, proof)),
         Input::CheckOlderFault { schema, proof } => Outcome::Fault(program::check_older_fault(schema, proof)),
         Input::ModelFault { schema, model } => Outcome::Fault(program::model_fault(schema, model)),

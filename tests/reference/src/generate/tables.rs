@@ -2,6 +2,7 @@
 
 use super::rng::Rng;
 use crate::formula::{Row, AND, BIG_AND, BIG_OR, LITERAL, NEGATED, OR};
+use crate::tableau::Record;
 use crate::{NODE_WIDTH, ROW_WIDTH};
 use std::collections::HashMap;
 
@@ -38,6 +39,22 @@ pub struct Tables {
 }
 
 impl Tables {
+    /// The tables as they are lent.
+    pub fn record(&self) -> Record<'_> {
+        Record {
+            root: self.root,
+            least: self.least,
+            schema: &self.schema,
+            schema_count: self.schema_count,
+            proof: &self.proof,
+            proof_count: self.proof_count,
+            nodes: &self.nodes,
+            node_count: self.node_count,
+            members: &self.members,
+            member_count: self.member_count,
+        }
+    }
+
     /// The tree of tables that have what their counts say, with sets in their places.
     pub fn tree(&self) -> Tree {
         let rows = |table: &[i32], count: usize| -> Vec<Row> {
