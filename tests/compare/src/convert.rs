@@ -3,6 +3,7 @@
 use crate::calls::{check_model, exact, number, of_library as library_on, pack, Lent, Seen};
 use crate::kinds::{Kinds, Run};
 use crate::tally::Tally;
+use zorambi::entries;
 use zorambi_reference::convert::{self, plain_rows, wide_value, EQUIVALENT, EXCLUSIVE, IMPLIES, NOT};
 use zorambi_reference::formula::{
     Facts, Formulas, Row, AND, BIG_AND, BIG_OR, FALSE, LITERAL, NEGATED, ON_I, ON_N, OR, PLAIN, TRUE,
@@ -11,44 +12,6 @@ use zorambi_reference::generate::models::{random_assignment, random_pairs, Model
 use zorambi_reference::generate::tables::{extreme, other_count, other_number, Tables};
 use zorambi_reference::generate::{Input, Rng};
 use zorambi_reference::model;
-
-mod c {
-    extern "C" {
-        pub fn zorambi_convert(
-            wide: *const i32,
-            wide_len: usize,
-            wide_rows: usize,
-            root: i32,
-            least: i32,
-            plain: *mut i32,
-            plain_len: usize,
-            results: *mut i32,
-        ) -> u64;
-    }
-}
-
-/// The library's entry. Results: root, least, rows.
-pub fn convert(
-    wide: &[i32],
-    wide_rows: usize,
-    root: i32,
-    least: i32,
-    plain: &mut [i32],
-    results: &mut [i32; 3],
-) -> u64 {
-    unsafe {
-        c::zorambi_convert(
-            wide.as_ptr(),
-            wide.len(),
-            wide_rows,
-            root,
-            least,
-            plain.as_mut_ptr(),
-            plain.len(),
-            results.as_mut_ptr(),
-        )
-    }
-}
 
 /// What is to be converted, and how long the lent table is.
 #[derive(Clone, Debug)]
@@ -85,7 +48,7 @@ fn of_library(asked: &Asked) -> Seen {
     let mut plain = Lent::new(asked.length, number);
     let mut results = [i32::MIN, 7, -1];
     let Asked { root, least, wide, wide_count, .. } = asked;
-    let packed = convert(&exact(wide), *wide_count, *root, *least, plain.lend(), &mut results);
+    let packed = entries::convert(&exact(wide), *wide_count, *root, *least, plain.lend(), &mut results);
     let mut outside = false;
     let tables = vec![plain.back(number, &mut outside)];
     Seen { packed, results: results.to_vec(), tables, outside, ..Seen::default() }

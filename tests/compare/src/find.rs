@@ -3,6 +3,7 @@
 use crate::calls::{check_model, exact, number, pack, Lent, Seen};
 use crate::kinds::{Kinds, Run};
 use crate::tally::Tally;
+use zorambi::entries;
 use zorambi_reference::find::{self, occurring};
 use zorambi_reference::formula::{Formulas, Row, AND, BIG_AND, BIG_OR, FALSE, LITERAL, NEGATED, ON_I, ON_N, OR, PLAIN};
 use zorambi_reference::generate::models::ModelTables;
@@ -10,47 +11,6 @@ use zorambi_reference::generate::schemata::{false_schema, random_schema};
 use zorambi_reference::generate::tables::{extreme, other_count, other_number};
 use zorambi_reference::generate::{Input, Rng};
 use zorambi_reference::{model, packed};
-
-mod c {
-    extern "C" {
-        pub fn zorambi_find_model(
-            schema: *const i32,
-            schema_len: usize,
-            schema_rows: usize,
-            root: i32,
-            least: i32,
-            n: i32,
-            pairs: *mut i32,
-            pairs_len: usize,
-            results: *mut i32,
-        ) -> u64;
-    }
-}
-
-/// The library's entry. Results: n, pairs.
-pub fn find_model(
-    schema: &[i32],
-    schema_rows: usize,
-    root: i32,
-    least: i32,
-    n: i32,
-    pairs: &mut [i32],
-    results: &mut [i32; 2],
-) -> u64 {
-    unsafe {
-        c::zorambi_find_model(
-            schema.as_ptr(),
-            schema.len(),
-            schema_rows,
-            root,
-            least,
-            n,
-            pairs.as_mut_ptr(),
-            pairs.len(),
-            results.as_mut_ptr(),
-        )
-    }
-}
 
 /// What is asked, and how long the lent table is.
 #[derive(Clone, Debug)]
@@ -81,7 +41,7 @@ fn of_library(asked: &Asked) -> Seen {
     let mut pairs = Lent::new(asked.length, number);
     let mut results = [i32::MIN, 7];
     let Asked { root, least, schema, schema_count, n, .. } = asked;
-    let packed = find_model(&exact(schema), *schema_count, *root, *least, *n, pairs.lend(), &mut results);
+    let packed = entries::find_model(&exact(schema), *schema_count, *root, *least, *n, pairs.lend(), &mut results);
     let mut outside = false;
     let tables = vec![pairs.back(number, &mut outside)];
     Seen { packed, results: results.to_vec(), tables, outside, ..Seen::default() }
