@@ -1,8 +1,10 @@
 //! Wide connectives: the plain rows of each kind, the limits, and the shipped wide schemata.
 
+mod common;
+
+use common::{records, texts};
 use std::fs;
-use std::path::Path;
-use zorambi::{check_model, convert, read_schema, Model, Refusal, Refused, Row, Schema, Verdict};
+use zorambi::{check_model, check_texts, convert, read_schema, Model, Refusal, Refused, Row, Schema, Verdict};
 
 fn wide(root: i32, rows: &[Row]) -> Schema {
     Schema { root, least: 3, rows: rows.to_vec() }
@@ -178,21 +180,13 @@ fn the_plain_root_is_true_where_the_wide_root_is() {
 
 #[test]
 fn shipped_wide_schemata() {
-    let folder = Path::new(env!("CARGO_MANIFEST_DIR")).join("../../records/wide");
-    let mut found = 0;
-    for entry in fs::read_dir(folder).unwrap() {
-        let record = entry.unwrap().path();
+    for record in records("wide") {
         let [wide, plain] =
             ["wide.txt", "schema.txt"].map(|name| read_schema(&fs::read(record.join(name)).unwrap()).unwrap());
         assert_eq!(convert(&wide), Ok(plain), "{}", record.display());
-        let verdict = zorambi::check_texts(
-            &fs::read(record.join("schema.txt")).unwrap(),
-            &fs::read(record.join("proof.txt")).unwrap(),
-        );
-        let Verdict::Accepted { nodes, links } = verdict else { panic!("{}", record.display()) };
+        let [schema, proof] = texts(&record);
+        let Verdict::Accepted { nodes, links } = check_texts(&schema, &proof) else { panic!("{}", record.display()) };
         let expected = fs::read_to_string(record.join("expected")).unwrap();
         assert_eq!(expected, format!("0 0 {nodes} {links}\n"), "{}", record.display());
-        found += 1;
     }
-    assert!(found > 0);
 }

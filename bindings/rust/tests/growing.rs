@@ -1,23 +1,9 @@
 //! A tableau that grows: every shipped record row by row, wrong rows in between, and what is taken back.
 
-use std::fs;
-use std::path::{Path, PathBuf};
-use zorambi::{
-    check, read_proof, read_schema, Growing, Proof, Record, Refusal, Refused, Row, Schema, Standing, Verdict,
-};
+mod common;
 
-fn records(sort: &str) -> Vec<PathBuf> {
-    let folder = Path::new(env!("CARGO_MANIFEST_DIR")).join("../../records").join(sort);
-    let mut found: Vec<PathBuf> = fs::read_dir(folder).unwrap().map(|entry| entry.unwrap().path()).collect();
-    found.sort();
-    assert!(!found.is_empty());
-    found
-}
-
-fn record(folder: &Path) -> Record {
-    let [schema, proof] = ["schema.txt", "proof.txt"].map(|name| fs::read(folder.join(name)).unwrap());
-    Record { schema: read_schema(&schema).unwrap(), proof: read_proof(&proof).unwrap() }
-}
+use common::{record, records};
+use zorambi::{check, Growing, Proof, Record, Refusal, Refused, Row, Schema, Standing, Verdict};
 
 fn node_rows(proof: &Proof) -> Vec<([i32; 7], &[i32])> {
     let row = |node: &[i32; 9]| {

@@ -1,23 +1,9 @@
 //! Two records joined: the joined rows and nodes, the counts of the check, the limits and refusals.
 
-use std::fs;
-use std::path::{Path, PathBuf};
-use zorambi::{
-    check, join, read_proof, read_schema, tidy, Node, Proof, Record, Refusal, Refused, Row, Schema, Verdict,
-};
+mod common;
 
-fn shipped(sort: &str) -> Vec<PathBuf> {
-    let folder = Path::new(env!("CARGO_MANIFEST_DIR")).join("../../records").join(sort);
-    let mut found: Vec<PathBuf> = fs::read_dir(folder).unwrap().map(|entry| entry.unwrap().path()).collect();
-    found.sort();
-    assert!(!found.is_empty());
-    found
-}
-
-fn record(folder: &Path) -> Record {
-    let [schema, proof] = ["schema.txt", "proof.txt"].map(|name| fs::read(folder.join(name)).unwrap());
-    Record { schema: read_schema(&schema).unwrap(), proof: read_proof(&proof).unwrap() }
-}
+use common::{record, records};
+use zorambi::{check, join, tidy, Node, Proof, Record, Refusal, Refused, Row, Schema, Verdict};
 
 /// The paper's record.
 fn paper() -> Record {
@@ -95,7 +81,7 @@ fn rows_that_both_have() {
 
 #[test]
 fn shipped_records() {
-    let accepted: Vec<Record> = shipped("accepted").iter().map(|folder| record(folder)).collect();
+    let accepted: Vec<Record> = records("accepted").iter().map(|folder| record(folder)).collect();
     let counts = |record: &Record| match check(record) {
         Verdict::Accepted { nodes, links } => (nodes, links),
         verdict => panic!("{verdict}"),
@@ -112,7 +98,7 @@ fn shipped_records() {
             assert_eq!(tidy(&joined).as_ref(), Ok(&joined.proof));
         }
     }
-    for folder in shipped("refused") {
+    for folder in records("refused") {
         let faulty = record(&folder);
         let Verdict::Refused { refusal, place } = check(&faulty) else { panic!() };
         let expected = Err((refusal, place));

@@ -1,20 +1,15 @@
 //! The shipped records: their verdicts are those of their `expected` files, by the older check for those
 //! that hold a file `older`, their models are accepted, and their texts are written as they were read.
 
+mod common;
+
+use common::{records, shipped, texts};
 use std::fs;
-use std::path::{Path, PathBuf};
+use std::path::Path;
 use zorambi::{
     check_fault, check_model_texts, check_older_fault, check_older_texts, check_texts, read_model, read_proof,
     read_schema, write_model, write_proof, write_schema, Refusal, Text, Verdict,
 };
-
-fn records(sort: &str) -> Vec<PathBuf> {
-    let folder = Path::new(env!("CARGO_MANIFEST_DIR")).join("../../records").join(sort);
-    let mut found: Vec<PathBuf> = fs::read_dir(folder).unwrap().map(|entry| entry.unwrap().path()).collect();
-    found.sort();
-    assert!(!found.is_empty());
-    found
-}
 
 fn expected(record: &Path) -> Verdict {
     let text = fs::read_to_string(record.join("expected")).unwrap();
@@ -24,10 +19,6 @@ fn expected(record: &Path) -> Verdict {
         None => Verdict::Accepted { nodes: nodes as usize, links: links as usize },
         Some(refusal) => Verdict::Refused { refusal, place: usize::try_from(place).ok() },
     }
-}
-
-fn texts(record: &Path) -> [Vec<u8>; 2] {
-    ["schema.txt", "proof.txt"].map(|name| fs::read(record.join(name)).unwrap())
 }
 
 #[test]
@@ -61,11 +52,10 @@ fn both_checks() {
 
 #[test]
 fn a_row_written_twice() {
-    let folder = Path::new(env!("CARGO_MANIFEST_DIR")).join("../../records");
-    let [schema, proof] = texts(&folder.join("refused/row_written_twice"));
+    let [schema, proof] = texts(&shipped("refused/row_written_twice"));
     assert_eq!(check_texts(&schema, &proof), Verdict::Refused { refusal: Refusal::Repeated, place: Some(130) });
     assert_eq!(check_fault(&schema, &proof), Some((Text::Proof, 84)));
-    assert_eq!(check_older_texts(&schema, &proof), expected(&folder.join("accepted/rca_zero")));
+    assert_eq!(check_older_texts(&schema, &proof), expected(&shipped("accepted/rca_zero")));
     assert_eq!(check_older_fault(&schema, &proof), None);
 }
 

@@ -1,20 +1,12 @@
 //! Older records tidied: what is folded, and that the check accepts what the older check did.
 
+mod common;
+
+use common::{record, records, shipped, texts};
 use std::fs;
-use std::path::{Path, PathBuf};
 use zorambi::{
-    check, check_older, check_older_texts, read_proof, read_schema, tidy, write_proof, Proof, Record, Refusal, Refused,
-    Row, Schema, Verdict,
+    check, check_older, check_older_texts, tidy, write_proof, Proof, Record, Refusal, Refused, Row, Schema, Verdict,
 };
-
-fn shipped(name: &str) -> PathBuf {
-    Path::new(env!("CARGO_MANIFEST_DIR")).join("../../records").join(name)
-}
-
-fn record(folder: &Path) -> Record {
-    let [schema, proof] = ["schema.txt", "proof.txt"].map(|name| fs::read(folder.join(name)).unwrap());
-    Record { schema: read_schema(&schema).unwrap(), proof: read_proof(&proof).unwrap() }
-}
 
 #[test]
 fn shipped_records() {
@@ -27,8 +19,8 @@ fn shipped_records() {
     }
     // A record that repeats no row and is accepted stays as it is; a refused one is refused alike.
     for sort in ["accepted", "refused"] {
-        for entry in fs::read_dir(shipped(sort)).unwrap() {
-            let record = record(&entry.unwrap().path());
+        for folder in records(sort) {
+            let record = record(&folder);
             match (tidy(&record), check_older(&record)) {
                 (Ok(proof), Verdict::Accepted { .. }) if check(&record).is_accepted() => {
                     assert_eq!(proof, record.proof)
@@ -109,8 +101,8 @@ fn what_the_older_check_refuses() {
 #[test]
 fn as_texts() {
     let folder = shipped("tidy/rows_twice");
-    let texts = ["schema.txt", "proof.txt"].map(|name| fs::read(folder.join(name)).unwrap());
-    assert_eq!(check_older_texts(&texts[0], &texts[1]), Verdict::Accepted { nodes: 8, links: 1 });
+    let [schema, proof] = texts(&folder);
+    assert_eq!(check_older_texts(&schema, &proof), Verdict::Accepted { nodes: 8, links: 1 });
     let written = write_proof(&tidy(&record(&folder)).unwrap()).unwrap();
     assert_eq!(written, fs::read(shipped("tidy/rows_once/proof.txt")).unwrap());
 }
