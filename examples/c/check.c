@@ -1,25 +1,8 @@
 /* The paper's record, and its neighbour with node 5 linking by 2, through the proved check. */
 #include <stdio.h>
 
+#include "paper.h"
 #include "zorambi.h"
-
-#define COUNT(table) (sizeof(table) / sizeof((table)[0]))
-
-/* kind a b c: some p_i for i from 2 to n, and no p_i for i from 2 to n. */
-static const int32_t schema[] = {
-    2, 0, 2, 0,
-    3, 0, 2, 0,
-    7, 0, 2, 0,
-    6, 1, 2, 0,
-    4, 2, 3, 0,
-};
-
-static const int32_t proof[] = {
-    7, 0, 2, 1,
-    2, 0, 1, 0,
-    6, 1, 2, 1,
-    3, 0, 1, 0,
-};
 
 /* up rule on with other to by, then the set's start among the members and its length. */
 static int32_t node_rows[] = {

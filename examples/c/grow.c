@@ -2,25 +2,8 @@
  * back, and the last one, asked about first, closes the tableau. */
 #include <stdio.h>
 
+#include "paper.h"
 #include "zorambi.h"
-
-#define COUNT(table) (sizeof(table) / sizeof((table)[0]))
-
-/* kind a b c: some p_i for i from 2 to n, and no p_i for i from 2 to n. */
-static const int32_t schema[] = {
-    2, 0, 2, 0,
-    3, 0, 2, 0,
-    7, 0, 2, 0,
-    6, 1, 2, 0,
-    4, 2, 3, 0,
-};
-
-static const int32_t proof[] = {
-    7, 0, 2, 1,
-    2, 0, 1, 0,
-    6, 1, 2, 1,
-    3, 0, 1, 0,
-};
 
 /* What is lent to every call: here with room for the seven nodes and fourteen members that will be held. */
 static int32_t nodes[7 * 9], members[14], shown[1], waiting[1033];
