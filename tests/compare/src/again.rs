@@ -2,7 +2,7 @@
 //! and read again, by the library and by the other implementation. The lent memory of the second step is now long
 //! enough, now not.
 
-use crate::calls::{byte, exact, number, pack, Lent, Seen};
+use crate::calls::{exact, lent, pack, Seen};
 use zorambi::entries;
 use zorambi_reference::again;
 use zorambi_reference::generate::tables::Tables;
@@ -32,114 +32,116 @@ fn sizes<const N: usize>(full: [usize; N]) -> Vec<[usize; N]> {
     all
 }
 
-/// Lends tables and an output, all garbage, and gathers what comes back.
-fn lent<const N: usize, const R: usize>(
+/// One way. The other implementation gives the one number and the results; its memory is lent full of ones.
+fn way<const N: usize, const R: usize>(
+    what: String,
     tables: [usize; N],
     output: usize,
-    call: impl FnOnce([&mut [i32]; N], &mut [u8], &mut [i32; R]) -> u64,
-) -> Seen {
-    let mut memory = tables.map(|length| Lent::new(length, number));
-    let mut out = Lent::new(output, byte);
-    let mut results = [-1; R];
-    let packed = call(memory.each_mut().map(Lent::lend), out.lend(), &mut results);
-    let mut outside = false;
-    let tables = memory.map(|table| table.back(number, &mut outside)).to_vec();
-    let out = out.back(byte, &mut outside);
-    Seen { packed, results: results.to_vec(), tables, out, outside, ..Seen::default() }
+    library: impl FnOnce([&mut [i32]; N], &mut [u8], &mut [i32; R]) -> u64,
+    other: impl FnOnce([&mut [i32]; N], &mut [u8]) -> (u64, [i32; R]),
+) -> Way {
+    let library = lent(tables, output, library);
+    let (mut tables, mut out) = (tables.map(|length| vec![1; length]), vec![1; output]);
+    let (packed, results) = other(tables.each_mut().map(Vec::as_mut_slice), &mut out);
+    let other = Seen { packed, results: results.to_vec(), tables: tables.to_vec(), out, ..Seen::default() };
+    Way { what, library, other }
 }
 
-/// The other implementation's memory, lent full of ones.
-fn filled<const N: usize>(tables: [usize; N], output: usize) -> ([Vec<i32>; N], Vec<u8>) {
-    (tables.map(|length| vec![1; length]), vec![1; output])
-}
-
-fn written(w: Written, tables: Vec<Vec<i32>>, out: Vec<u8>) -> Seen {
-    Seen { packed: pack(w.answer, w.place, w.bytes), tables, out, ..Seen::default() }
-}
-
-fn read(answer: u8, place: i32, results: Vec<i32>, tables: Vec<Vec<i32>>, out: Vec<u8>) -> Seen {
-    Seen { packed: pack(answer, place, 0), results, tables, out, ..Seen::default() }
+/// A text is read into tables and written again.
+fn text_again<const N: usize>(
+    tables: [usize; N],
+    output: usize,
+    library: impl FnOnce([&mut [i32]; N], &mut [u8]) -> u64,
+    other: impl FnOnce([&mut [i32]; N], &mut [u8]) -> Written,
+) -> Way {
+    let other = |tables: [&mut [i32]; N], out: &mut [u8]| {
+        let w = other(tables, out);
+        (pack(w.answer, w.place, w.bytes), [])
+    };
+    let what = format!("again into {output} bytes");
+    way(what, tables, output, |tables, out, _| library(tables, out), other)
 }
 
 fn schema_text(text: &[u8], length: usize, output: usize) -> Way {
-    let library =
-        lent([length], output, |[table], out, _: &mut [i32; 0]| entries::schema_again(&exact(text), table, out));
-    let ([mut table], mut out) = filled([length], output);
-    let w = again::schema_again(text, &mut table, &mut out);
-    Way { what: format!("again into {output} bytes"), library, other: written(w, vec![table], out) }
+    text_again(
+        [length],
+        output,
+        |[table], out| entries::schema_again(&exact(text), table, out),
+        |[table], out| again::schema_again(text, table, out),
+    )
 }
 
 fn proof_text(text: &[u8], lengths: [usize; 3], output: usize) -> Way {
-    let library = lent(lengths, output, |[table, nodes, members], out, _: &mut [i32; 0]| {
-        entries::proof_again(&exact(text), table, nodes, members, out)
-    });
-    let ([mut table, mut nodes, mut members], mut out) = filled(lengths, output);
-    let w = again::proof_again(text, &mut table, &mut nodes, &mut members, &mut out);
-    Way { what: format!("again into {output} bytes"), library, other: written(w, vec![table, nodes, members], out) }
+    text_again(
+        lengths,
+        output,
+        |[table, nodes, members], out| entries::proof_again(&exact(text), table, nodes, members, out),
+        |[table, nodes, members], out| again::proof_again(text, table, nodes, members, out),
+    )
 }
 
 fn model_text(text: &[u8], length: usize, output: usize) -> Way {
-    let library =
-        lent([length], output, |[pairs], out, _: &mut [i32; 0]| entries::model_again(&exact(text), pairs, out));
-    let ([mut pairs], mut out) = filled([length], output);
-    let w = again::model_again(text, &mut pairs, &mut out);
-    Way { what: format!("again into {output} bytes"), library, other: written(w, vec![pairs], out) }
+    text_again(
+        [length],
+        output,
+        |[pairs], out| entries::model_again(&exact(text), pairs, out),
+        |[pairs], out| again::model_again(text, pairs, out),
+    )
 }
 
 fn schema_rows(root: i32, least: i32, rows: &[i32], count: usize, output: usize, length: usize) -> Way {
-    let library = lent([length], output, |[back], out, results| {
-        entries::schema_rows_again(&exact(rows), count, root, least, out, back, results)
-    });
-    let ([mut back], mut out) = filled([length], output);
-    let r = again::schema_rows_again(root, least, rows, count, &mut out, &mut back);
-    let other = read(r.answer, r.place, vec![r.root, r.least, r.rows as i32], vec![back], out);
-    Way { what: format!("again into {length} numbers"), library, other }
+    way(
+        format!("again into {length} numbers"),
+        [length],
+        output,
+        |[back], out, results| entries::schema_rows_again(&exact(rows), count, root, least, out, back, results),
+        |[back], out| {
+            let r = again::schema_rows_again(root, least, rows, count, out, back);
+            (pack(r.answer, r.place, 0), [r.root, r.least, r.rows as i32])
+        },
+    )
 }
 
 fn proof_rows(t: &Tables, output: usize, lengths: [usize; 3]) -> Way {
+    let Tables { proof_count, node_count, member_count, .. } = *t;
     let [rows, nodes, members] = [&t.proof, &t.nodes, &t.members].map(|table| exact(table));
-    let library = lent(lengths, output, |[back, back_nodes, back_members], out, results| {
-        entries::proof_rows_again(
-            &rows,
-            t.proof_count,
-            &nodes,
-            t.node_count,
-            &members,
-            t.member_count,
-            out,
-            back,
-            back_nodes,
-            back_members,
-            results,
-        )
-    });
-    let (mut back, mut out) = filled(lengths, output);
-    let r = again::proof_rows_again(
-        &rows,
-        t.proof_count,
-        &nodes,
-        t.node_count,
-        &members,
-        t.member_count,
-        &mut out,
-        back.each_mut().map(Vec::as_mut_slice),
-    );
-    let results = [r.rows, r.nodes, r.members].map(|count| count as i32).to_vec();
-    Way {
-        what: format!("again into {lengths:?} numbers"),
-        library,
-        other: read(r.answer, r.place, results, back.to_vec(), out),
-    }
+    way(
+        format!("again into {lengths:?} numbers"),
+        lengths,
+        output,
+        |[back, back_nodes, back_members], out, results| {
+            entries::proof_rows_again(
+                &rows,
+                proof_count,
+                &nodes,
+                node_count,
+                &members,
+                member_count,
+                out,
+                back,
+                back_nodes,
+                back_members,
+                results,
+            )
+        },
+        |back, out| {
+            let r = again::proof_rows_again(&rows, proof_count, &nodes, node_count, &members, member_count, out, back);
+            (pack(r.answer, r.place, 0), [r.rows, r.nodes, r.members].map(|count| count as i32))
+        },
+    )
 }
 
 fn model_rows(n: i32, pairs: &[i32], count: usize, output: usize, length: usize) -> Way {
-    let library = lent([length], output, |[back], out, results| {
-        entries::model_rows_again(n, &exact(pairs), count, out, back, results)
-    });
-    let ([mut back], mut out) = filled([length], output);
-    let r = again::model_rows_again(n, pairs, count, &mut out, &mut back);
-    let other = read(r.answer, r.place, vec![r.n, r.pairs as i32], vec![back], out);
-    Way { what: format!("again into {length} numbers"), library, other }
+    way(
+        format!("again into {length} numbers"),
+        [length],
+        output,
+        |[back], out, results| entries::model_rows_again(n, &exact(pairs), count, out, back, results),
+        |[back], out| {
+            let r = again::model_rows_again(n, pairs, count, out, back);
+            (pack(r.answer, r.place, 0), [r.n, r.pairs as i32])
+        },
+    )
 }
 
 /// The ways there and back from a case; none from a case that neither reads nor writes.

@@ -38,6 +38,11 @@ impl Seen {
         self.packed & 8191
     }
 
+    /// What both give; an error if they differ.
+    pub fn agreed(self, other: Seen) -> Result<Seen, String> {
+        self.difference(&other).map_or(Ok(other), Err)
+    }
+
     /// What differs from another's, in few words.
     pub fn difference(&self, other: &Seen) -> Option<String> {
         if self == other {
@@ -98,21 +103,43 @@ pub(crate) fn exact<T: Clone>(table: &[T]) -> Box<[T]> {
     table.to_vec().into_boxed_slice()
 }
 
+/// Tables of exactly their lengths.
+pub(crate) fn exactly(t: &Tables) -> Tables {
+    let [schema, proof, nodes, members] =
+        [&t.schema, &t.proof, &t.nodes, &t.members].map(|table| exact(table).into_vec());
+    Tables { schema, proof, nodes, members, ..*t }
+}
+
+/// Lends tables and an output, all garbage, and gathers what comes back.
+pub(crate) fn lent<const N: usize, const R: usize>(
+    tables: [usize; N],
+    output: usize,
+    call: impl FnOnce([&mut [i32]; N], &mut [u8], &mut [i32; R]) -> u64,
+) -> Seen {
+    let mut memory = tables.map(|length| Lent::new(length, number));
+    let mut out = Lent::new(output, byte);
+    let mut results = std::array::from_fn(number);
+    let packed = call(memory.each_mut().map(Lent::lend), out.lend(), &mut results);
+    let mut outside = false;
+    let tables = memory.map(|table| table.back(number, &mut outside)).to_vec();
+    let out = out.back(byte, &mut outside);
+    Seen { packed, results: results.to_vec(), tables, out, outside, ..Seen::default() }
+}
+
 /// An entry for tableaux: the check, or the older check.
 pub type CheckEntry = fn(&[i32], usize, &[i32], usize, i32, i32, &[i32], usize, &[i32], usize) -> u64;
 
-fn check(entry: CheckEntry, t: &Tables) -> u64 {
-    let [schema, proof, nodes, members] = [&t.schema, &t.proof, &t.nodes, &t.members].map(|table| exact(table));
+pub fn check(entry: CheckEntry, t: &Tables) -> u64 {
     entry(
-        &schema,
+        &t.schema,
         t.schema_count,
-        &proof,
+        &t.proof,
         t.proof_count,
         t.root,
         t.least,
-        &nodes,
+        &t.nodes,
         t.node_count,
-        &members,
+        &t.members,
         t.member_count,
     )
 }
@@ -123,45 +150,28 @@ pub fn check_model(m: &ModelTables) -> u64 {
 }
 
 fn read_schema(text: &[u8], length: usize) -> Seen {
-    let mut rows = Lent::new(length, number);
-    let mut results = [i32::MIN, 7, -1];
-    let packed = entries::read_schema(&exact(text), rows.lend(), &mut results);
-    let mut outside = false;
-    let tables = vec![rows.back(number, &mut outside)];
-    Seen { packed, results: results.to_vec(), tables, outside, ..Seen::default() }
+    lent([length], 0, |[rows], _, results| entries::read_schema(&exact(text), rows, results))
 }
 
 fn read_proof(text: &[u8], lengths: [usize; 3]) -> Seen {
-    let [mut rows, mut nodes, mut members] = lengths.map(|length| Lent::new(length, number));
-    let mut results = [i32::MIN, 7, -1];
-    let packed = entries::read_proof(&exact(text), rows.lend(), nodes.lend(), members.lend(), &mut results);
-    let mut outside = false;
-    let tables = [rows, nodes, members].map(|table| table.back(number, &mut outside)).to_vec();
-    Seen { packed, results: results.to_vec(), tables, outside, ..Seen::default() }
+    lent(lengths, 0, |[rows, nodes, members], _, results| {
+        entries::read_proof(&exact(text), rows, nodes, members, results)
+    })
 }
 
 fn read_model(text: &[u8], length: usize) -> Seen {
-    let mut pairs = Lent::new(length, number);
-    let mut results = [i32::MIN, 7];
-    let packed = entries::read_model(&exact(text), pairs.lend(), &mut results);
-    let mut outside = false;
-    let tables = vec![pairs.back(number, &mut outside)];
-    Seen { packed, results: results.to_vec(), tables, outside, ..Seen::default() }
+    lent([length], 0, |[pairs], _, results| entries::read_model(&exact(text), pairs, results))
 }
 
 fn written(length: usize, write: impl FnOnce(&mut [u8]) -> u64) -> Seen {
-    let mut out = Lent::new(length, byte);
-    let packed = write(out.lend());
-    let mut outside = false;
-    let out = out.back(byte, &mut outside);
-    Seen { packed, out, outside, ..Seen::default() }
+    lent([], length, |[], out, _: &mut [i32; 0]| write(out))
 }
 
 /// The library on a case; `None` if no entry does what is asked.
 pub fn of_library(input: &Input) -> Option<Seen> {
     Some(match input {
-        Input::Check(t) => Seen::number(check(entries::check, t)),
-        Input::CheckOlder(t) => Seen::number(check(check_older, t)),
+        Input::Check(t) => Seen::number(check(entries::check, &exactly(t))),
+        Input::CheckOlder(t) => Seen::number(check(check_older, &exactly(t))),
         Input::Model(m) => Seen::number(check_model(m)),
         Input::ReadSchema { text, length, .. } => read_schema(text, *length),
         Input::ReadProof { text, lengths, .. } => read_proof(text, *lengths),

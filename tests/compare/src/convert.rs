@@ -1,15 +1,16 @@
 //! Wide connectives written in plain rows (document 02, No. 1).
 
-use crate::calls::{check_model, exact, number, of_library as library_on, pack, Lent, Seen};
+use crate::calls::{check_model, exact, lent, of_library as library_on, pack, Seen};
+use crate::damage::damage_schema;
 use crate::kinds::{Kinds, Run};
-use crate::tally::Tally;
+use crate::tally::{fits, Tally};
 use zorambi::entries;
 use zorambi_reference::convert::{self, plain_rows, wide_value, EQUIVALENT, EXCLUSIVE, IMPLIES, NOT};
 use zorambi_reference::formula::{
     Facts, Formulas, Row, AND, BIG_AND, BIG_OR, FALSE, LITERAL, NEGATED, ON_I, ON_N, OR, PLAIN, TRUE,
 };
 use zorambi_reference::generate::models::{random_assignment, random_pairs, ModelTables};
-use zorambi_reference::generate::tables::{extreme, other_count, other_number, Tables};
+use zorambi_reference::generate::tables::Tables;
 use zorambi_reference::generate::{Input, Rng};
 use zorambi_reference::model;
 
@@ -45,13 +46,8 @@ fn rows_of(table: &[i32], count: usize) -> Vec<Row> {
 }
 
 fn of_library(asked: &Asked) -> Seen {
-    let mut plain = Lent::new(asked.length, number);
-    let mut results = [i32::MIN, 7, -1];
-    let Asked { root, least, wide, wide_count, .. } = asked;
-    let packed = entries::convert(&exact(wide), *wide_count, *root, *least, plain.lend(), &mut results);
-    let mut outside = false;
-    let tables = vec![plain.back(number, &mut outside)];
-    Seen { packed, results: results.to_vec(), tables, outside, ..Seen::default() }
+    let Asked { root, least, wide, wide_count, length } = asked;
+    lent([*length], 0, |[plain], _, results| entries::convert(&exact(wide), *wide_count, *root, *least, plain, results))
 }
 
 fn of_reference(asked: &Asked) -> Seen {
@@ -64,8 +60,7 @@ fn of_reference(asked: &Asked) -> Seen {
 
 /// What both give; an error if they differ.
 pub fn of_both(asked: &Asked) -> Result<Seen, String> {
-    let (ours, theirs) = (of_library(asked), of_reference(asked));
-    ours.difference(&theirs).map_or(Ok(theirs), Err)
+    of_library(asked).agreed(of_reference(asked))
 }
 
 const KINDS: [&str; 19] = [
@@ -110,9 +105,7 @@ impl Comparison<'_> {
 
     fn expect(&mut self, what: &str, asked: &Asked, expected: (u64, i64)) {
         let seen = self.put(what, asked).unwrap_or_default();
-        let found = (seen.answer(), seen.place());
-        let why = || format!("{found:?}, expected {expected:?}");
-        self.tally.test(what, if found == expected { Ok(()) } else { Err(why()) });
+        self.tally.test_answer(what, &seen, expected);
     }
 
     fn count(&mut self, asked: &Asked, seen: &Seen) {
@@ -179,8 +172,7 @@ impl Comparison<'_> {
         // No node is all that is wrong.
         let input = Input::Check(tables);
         let packed = library_on(&input).map(|seen| seen.packed);
-        let fits = packed == Some(pack(10, -1, 0));
-        self.tally.test(what, if fits { Ok(()) } else { Err(format!("the check answers {packed:x?}")) });
+        self.tally.test(what, fits(packed == Some(pack(10, -1, 0)), || format!("the check answers {packed:x?}")));
         self.tally.compare(&format!("{what}, its plain rows"), &input);
 
         let Some(formulas) = Formulas::new(&plain, schema_count, &[], 0) else { return };
@@ -198,7 +190,7 @@ impl Comparison<'_> {
             let of_wide = wide_value(&wide, asked.root, i64::from(n), 0, &assignment);
             let of_plain = model::value(&formulas, root, i64::from(n), &assignment);
             let why = || format!("at n = {n} the wide root is {of_wide}, the plain one {of_plain}");
-            self.tally.test(what, if of_wide == of_plain { Ok(()) } else { Err(why()) });
+            self.tally.test(what, fits(of_wide == of_plain, why));
 
             let pairs = random_pairs(rng);
             let is_true = |symbol: i32, index: i64| {
@@ -208,9 +200,9 @@ impl Comparison<'_> {
             let (schema, pair_count) = (plain.clone(), pairs.len() / 2);
             let model = ModelTables { root, least, schema, schema_count, n, pairs, pair_count };
             let packed = check_model(&model);
-            let fits = packed == if of_wide { pack(0, 0, 0) } else { pack(20, -1, 0) };
+            let expected = if of_wide { pack(0, 0, 0) } else { pack(20, -1, 0) };
             let why = || format!("at n = {n} the wide root is {of_wide}, the model check answers {}", packed >> 39);
-            self.tally.test(what, if fits { Ok(()) } else { Err(why()) });
+            self.tally.test(what, fits(packed == expected, why));
             self.tally.compare(&format!("{what}, a model of its plain rows"), &Input::Model(model));
             self.kinds.count(if of_wide {
                 "true under an assignment, as the wide root"
@@ -261,9 +253,9 @@ impl Comparison<'_> {
             let seen = self.put(name, &Asked::of_last(&[P, Q, row])).unwrap_or_default();
             let expected = [sides.clone(), rows].concat();
             let found = seen.tables.first().map(|table| rows_of(table, seen.results[2] as usize));
-            let fits = seen.results == [root, 0, expected.len() as i32] && found.as_ref() == Some(&expected);
+            let same = seen.results == [root, 0, expected.len() as i32] && found.as_ref() == Some(&expected);
             let why = || format!("{:?} {found:?}, expected root {root} {expected:?}", seen.results);
-            self.tally.test(name, if fits { Ok(()) } else { Err(why()) });
+            self.tally.test(name, fits(same, why));
         }
     }
 
@@ -448,18 +440,8 @@ fn any(rng: &mut Rng) -> Asked {
 }
 
 fn damage(rng: &mut Rng, asked: &mut Asked) {
-    match rng.below(8) {
-        0 => asked.root = other_number(rng, asked.root),
-        1 => asked.least = other_number(rng, asked.least),
-        2 => asked.wide_count = other_count(rng, asked.wide_count),
-        3 => asked.length = rng.pick(&[0, 1, FULL / 2, FULL - 1, FULL - 1, FULL + 1]),
-        4 => asked.wide.truncate(asked.wide.len().saturating_sub(rng.below(3))),
-        5 => asked.wide.extend((0..rng.below(9)).map(|_| extreme(rng))),
-        _ => {
-            let at = rng.below(asked.wide.len());
-            asked.wide[at] = other_number(rng, asked.wide[at]);
-        }
-    }
+    let Asked { root, least, wide, wide_count, length } = asked;
+    damage_schema(rng.below(8), rng, [root, least], (wide, wide_count), (length, FULL));
 }
 
 /// The largest and slowest, accepted or refused with 23.

@@ -1,14 +1,15 @@
 //! The first model at an n that is named (document 02, No. 13).
 
-use crate::calls::{check_model, exact, number, pack, Lent, Seen};
+use crate::calls::{check_model, exact, lent, pack, Seen};
+use crate::damage::damage_schema;
 use crate::kinds::{Kinds, Run};
-use crate::tally::Tally;
+use crate::tally::{fits, Tally};
 use zorambi::entries;
 use zorambi_reference::find::{self, occurring};
 use zorambi_reference::formula::{Formulas, Row, AND, BIG_AND, BIG_OR, FALSE, LITERAL, NEGATED, ON_I, ON_N, OR, PLAIN};
 use zorambi_reference::generate::models::ModelTables;
 use zorambi_reference::generate::schemata::{false_schema, random_schema};
-use zorambi_reference::generate::tables::{extreme, other_count, other_number};
+use zorambi_reference::generate::tables::extreme;
 use zorambi_reference::generate::{Input, Rng};
 use zorambi_reference::{model, packed};
 
@@ -38,13 +39,10 @@ impl Asked {
 }
 
 fn of_library(asked: &Asked) -> Seen {
-    let mut pairs = Lent::new(asked.length, number);
-    let mut results = [i32::MIN, 7];
-    let Asked { root, least, schema, schema_count, n, .. } = asked;
-    let packed = entries::find_model(&exact(schema), *schema_count, *root, *least, *n, pairs.lend(), &mut results);
-    let mut outside = false;
-    let tables = vec![pairs.back(number, &mut outside)];
-    Seen { packed, results: results.to_vec(), tables, outside, ..Seen::default() }
+    let Asked { root, least, schema, schema_count, n, length } = asked;
+    lent([*length], 0, |[pairs], _, results| {
+        entries::find_model(&exact(schema), *schema_count, *root, *least, *n, pairs, results)
+    })
 }
 
 fn of_reference(asked: &Asked) -> Seen {
@@ -57,8 +55,7 @@ fn of_reference(asked: &Asked) -> Seen {
 
 /// What both give; an error if they differ.
 pub fn of_both(asked: &Asked) -> Result<Seen, String> {
-    let (ours, theirs) = (of_library(asked), of_reference(asked));
-    ours.difference(&theirs).map_or(Ok(theirs), Err)
+    of_library(asked).agreed(of_reference(asked))
 }
 
 /// A model is given, not "none".
@@ -167,9 +164,8 @@ impl Comparison<'_> {
             listed.flat_map(|pair| [pairs[pair].0, pairs[pair].1 as i32]).collect()
         });
         let found = is_given(seen).then(|| seen.tables[0][..2 * seen.results[1] as usize].to_vec());
-        let fits = found == expected;
         let why = || format!("given {found:?}, the first of all is {expected:?}");
-        self.tally.test(what, if fits { Ok(()) } else { Err(why()) });
+        self.tally.test(what, fits(found == expected, why));
         self.kinds.count("tried one by one");
     }
 
@@ -187,7 +183,7 @@ impl Comparison<'_> {
         };
         let packed = check_model(&model);
         let why = || format!("the model check answers {}", packed >> 39);
-        self.tally.test(what, if packed == pack(0, 0, 0) { Ok(()) } else { Err(why()) });
+        self.tally.test(what, fits(packed == pack(0, 0, 0), why));
         self.tally.compare(&format!("{what}, its model"), &Input::Model(model));
         self.kinds.count("a model, checked");
     }
@@ -253,9 +249,8 @@ impl Comparison<'_> {
         for (name, rows, expected) in cases {
             let seen = self.put(name, &Asked::of_rows(rows, 0, 3)).unwrap_or_default();
             let given = is_given(&seen).then(|| seen.tables[0][..2 * seen.results[1] as usize].to_vec());
-            let fits = seen.answer() == 0 && given == expected;
             let why = || format!("{given:?}, expected {expected:?}");
-            self.tally.test(name, if fits { Ok(()) } else { Err(why()) });
+            self.tally.test(name, fits(seen.answer() == 0 && given == expected, why));
         }
     }
 
@@ -267,9 +262,7 @@ impl Comparison<'_> {
             for (second, later) in ORDER.into_iter().enumerate().skip(first) {
                 let what = format!("refusals {expected:?} and {later:?}");
                 let seen = self.put(&what, &faulty(|fault| fault == first || fault == second)).unwrap_or_default();
-                let found = (seen.answer(), seen.place());
-                let why = || format!("{found:?}, expected {expected:?}");
-                self.tally.test(&what, if found == expected { Ok(()) } else { Err(why()) });
+                self.tally.test_answer(&what, &seen, expected);
             }
         }
         // Lengths and counts of all sizes.
@@ -489,19 +482,11 @@ fn any(rng: &mut Rng) -> Asked {
 }
 
 fn damage(rng: &mut Rng, asked: &mut Asked) {
+    let Asked { root, least, schema, schema_count, n, length } = asked;
     match rng.below(10) {
-        0 => asked.n = rng.pick(&[asked.least - 1, asked.least, 9999, 10_000]),
-        1 => asked.n = extreme(rng),
-        2 => asked.root = other_number(rng, asked.root),
-        3 => asked.least = other_number(rng, asked.least),
-        4 => asked.schema_count = other_count(rng, asked.schema_count),
-        5 => asked.length = rng.pick(&[0, 1, FULL / 2, FULL - 1, FULL - 1, FULL + 1]),
-        6 => asked.schema.truncate(asked.schema.len().saturating_sub(rng.below(3))),
-        7 => asked.schema.extend((0..rng.below(9)).map(|_| extreme(rng))),
-        _ => {
-            let at = rng.below(asked.schema.len());
-            asked.schema[at] = other_number(rng, asked.schema[at]);
-        }
+        0 => *n = rng.pick(&[*least - 1, *least, 9999, 10_000]),
+        1 => *n = extreme(rng),
+        sort => damage_schema(sort - 2, rng, [root, least], (schema, schema_count), (length, FULL)),
     }
 }
 
@@ -509,7 +494,7 @@ fn damage(rng: &mut Rng, asked: &mut Asked) {
 pub fn heavy(tally: &mut Tally) {
     for (name, asked) in worst() {
         let seen = of_both(&asked);
-        tally.test(name, seen.and_then(|seen| if seen.answer() == 0 { Ok(()) } else { Err("refused".to_string()) }));
+        tally.test(name, seen.and_then(|seen| fits(seen.answer() == 0, || "refused".to_string())));
     }
 }
 

@@ -1,12 +1,12 @@
 //! A tableau that grows (document 02, No. 7), with enquiries and commits (No. 8): lists of calls put to both, with all
 //! lent memory compared after each.
 
-use crate::calls::{exact, number, Lent};
+use crate::calls::{check, exact, number, Lent};
 use crate::heavy;
 use crate::kinds::{Kinds, Run};
 use crate::paper::{PROOF, SCHEMA};
 use crate::records;
-use crate::tally::Tally;
+use crate::tally::{fits, Tally};
 use std::fs;
 use std::path::Path;
 use zorambi::entries;
@@ -134,20 +134,10 @@ impl Session {
 
     /// What the library's check says of these rows.
     fn check(&self, rows: &[NodeRow]) -> u64 {
-        let t = &self.given;
         let [nodes, members] = tables_of(rows);
-        entries::check(
-            &t.schema,
-            t.schema_count,
-            &t.proof,
-            t.proof_count,
-            t.root,
-            t.least,
-            &nodes,
-            rows.len(),
-            &members,
-            members.len(),
-        )
+        let (node_count, member_count) = (rows.len(), members.len());
+        let t = Tables { nodes, node_count, members, member_count, ..self.given.clone() };
+        check(entries::check, &t)
     }
 
     /// Nothing was written next to the lent tables.
@@ -756,7 +746,7 @@ impl Comparison<'_> {
         let closed = whole && list.closed;
         let accepted = file("expected").starts_with(b"0 ") && !folder.join("older").is_file();
         let why = || format!("closed is {closed}, the check accepts is {accepted}");
-        self.tally.test(&what, if closed == accepted { Ok(()) } else { Err(why()) });
+        self.tally.test(&what, fits(closed == accepted, why));
         self.kinds.count_if(closed, "a shipped record grown whole, closed");
         self.close(list);
     }
@@ -794,7 +784,7 @@ impl Comparison<'_> {
         let packed = self.put(list, call);
         let found = (answer(packed), place(packed));
         let why = || format!("{}: {found:?}, expected {expected:?}", about(call));
-        self.tally.test(&list.what, if found == expected { Ok(()) } else { Err(why()) });
+        self.tally.test(&list.what, fits(found == expected, why));
     }
 
     /// The paper's record row by row, with wrong rows, and back; the answers worked out by hand.
@@ -835,7 +825,7 @@ impl Comparison<'_> {
             if let Some(row) = rows.get(at) {
                 self.expect(&mut list, &Call::Add(row.clone()), (0, 0));
                 let shown = list.session.memory().shown == i32::from(at == 6);
-                self.tally.test(&list.what, if shown { Ok(()) } else { Err(format!("shown at {at}")) });
+                self.tally.test(&list.what, fits(shown, || format!("shown at {at}")));
             }
         }
         for _ in 0..rows.len() {
@@ -925,9 +915,9 @@ impl Comparison<'_> {
                 }
                 let found = found.map(|packed| (self::answer(packed), self::place(packed)));
                 let why = || format!("{}: {found:?}, expected {expected:?}", about(&call));
-                self.tally.test(&list.what, if found == expected { Ok(()) } else { Err(why()) });
+                self.tally.test(&list.what, fits(found == expected, why));
                 let kept = *list.session.memory() == Memory { shown: 0, ..memory };
-                self.tally.test(&list.what, if kept { Ok(()) } else { Err("the memory is not as it was".to_string()) });
+                self.tally.test(&list.what, fits(kept, || "the memory is not as it was".to_string()));
                 self.close(list);
             }
         }
@@ -945,7 +935,7 @@ impl Comparison<'_> {
             list.session.set_memory(memory);
             let found = list.session.call(&call).map(|packed| (self::answer(packed), self::place(packed)));
             let why = || format!("{}: {found:?}, expected {expected:?}", about(&call));
-            self.tally.test(&list.what, if found == Ok(expected) { Ok(()) } else { Err(why()) });
+            self.tally.test(&list.what, fits(found == Ok(expected), why));
             self.kinds.count("members counted without a node");
             self.close(list);
         }
@@ -1044,7 +1034,7 @@ impl Comparison<'_> {
             let packed = self.altered(&mut list, &Call::Commit, |memory, _| alter(memory));
             let found = (self::answer(packed), self::place(packed));
             let why = || format!("{what}: {found:?}, expected {:?}", (answer, place));
-            self.tally.test(&list.what, if found == (answer, place) { Ok(()) } else { Err(why()) });
+            self.tally.test(&list.what, fits(found == (answer, place), why));
             match what {
                 "flag" => self.kinds.count("a waiting row's flag altered, 26"),
                 "length" => self.kinds.count("a waiting row's length altered, 26"),
@@ -1090,7 +1080,7 @@ pub fn heavy(tally: &mut Tally) {
         let mut list = List::holding(&format!("growing, {name}"), &t, FULL, &rows[..rows.len() - 1]);
         comparison.expect(&mut list, &Call::Add(rows[rows.len() - 1].clone()), (0, 0));
         let closed = list.session.memory().shown == 1;
-        comparison.tally.test(name, if closed { Ok(()) } else { Err("not closed".to_string()) });
+        comparison.tally.test(name, fits(closed, || "not closed".to_string()));
         comparison.expect(&mut list, &Call::TakeBack, (0, 0));
         comparison.expect(&mut list, &Call::Enquire(rows[rows.len() - 1].clone()), (0, 0));
         comparison.expect(&mut list, &Call::Commit, (0, 0));

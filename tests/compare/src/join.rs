@@ -1,11 +1,11 @@
 //! Two records joined (document 02, No. 11).
 
-use crate::calls::{number, of_library as library_on, pack, Lent, Seen};
+use crate::calls::{exactly, lent, of_library as library_on, pack, Seen};
 use crate::heavy::{self, Part};
 use crate::kinds::{Kinds, Run};
 use crate::records;
-use crate::tally::Tally;
-use crate::tidy::{self, exactly, faulty, one_by_one, paper, with_parts};
+use crate::tally::{fits, Tally};
+use crate::tidy::{self, faulty, one_by_one, paper, with_parts};
 use std::collections::BTreeMap;
 use std::fs;
 use zorambi::entries;
@@ -56,13 +56,8 @@ pub fn of_other([a, b]: [&Tables; 2], [schema, proof, nodes, members]: &mut Out)
 }
 
 fn of_library(pair: [&Tables; 2], lengths: [usize; 4]) -> Seen {
-    let mut lent = lengths.map(|length| Lent::new(length, number));
-    let mut results = [i32::MIN, 7, -1, 9, i32::MAX, 3];
     let [a, b] = pair.map(exactly);
-    let packed = of_entry([&a, &b], lent.each_mut().map(Lent::lend), &mut results);
-    let mut outside = false;
-    let tables = lent.map(|table| table.back(number, &mut outside)).to_vec();
-    Seen { packed, results: results.to_vec(), tables, outside, ..Seen::default() }
+    lent(lengths, 0, |tables, _, results| of_entry([&a, &b], tables, results))
 }
 
 fn of_reference(pair: [&Tables; 2], lengths: [usize; 4]) -> Seen {
@@ -75,8 +70,7 @@ fn of_reference(pair: [&Tables; 2], lengths: [usize; 4]) -> Seen {
 
 /// What both give into tables of these lengths; an error if they differ.
 fn into_tables(pair: [&Tables; 2], lengths: [usize; 4]) -> Result<Seen, String> {
-    let (ours, theirs) = (of_library(pair, lengths), of_reference(pair, lengths));
-    ours.difference(&theirs).map_or(Ok(theirs), Err)
+    of_library(pair, lengths).agreed(of_reference(pair, lengths))
 }
 
 /// The same into tables of the full sizes.
@@ -196,14 +190,6 @@ fn refused_kind(answer: u64) -> &'static str {
     KINDS[REFUSED + at]
 }
 
-fn fits(holds: bool, why: impl FnOnce() -> String) -> Result<(), String> {
-    if holds {
-        Ok(())
-    } else {
-        Err(why())
-    }
-}
-
 struct Comparison<'a> {
     tally: &'a mut Tally,
     kinds: Kinds,
@@ -302,8 +288,8 @@ impl Comparison<'_> {
 
     /// The same with the answer that is expected and its kind, if it has one.
     fn expect(&mut self, what: &str, pair: [&Tables; 2], expected: (u64, i64), kind: Option<&'static str>) {
-        let found = self.put(what, pair).map(|seen| (seen.answer(), seen.place()));
-        self.tally.test(what, fits(found == Some(expected), || format!("{found:?}, expected {expected:?}")));
+        let seen = self.put(what, pair).unwrap_or_default();
+        self.tally.test_answer(what, &seen, expected);
         if let Some(kind) = kind {
             self.kinds.count(kind);
         }

@@ -1,7 +1,7 @@
 //! What an entry that is compared by itself is given, and how often cases of each kind were compared. A kind that is
 //! listed has to occur.
 
-use crate::tally::Tally;
+use crate::tally::{fits, Tally};
 use std::path::Path;
 
 /// The seed of a run, how many cases of other entries it generates, and where the records are.
@@ -38,8 +38,7 @@ impl Kinds {
         println!("{:66}{:>9}", self.entry, "cases");
         for (kind, count) in &self.counts {
             println!("{:66}{count:>9}", format!("{}: {kind}", self.entry));
-            let result = if *count > 0 { Ok(()) } else { Err("no case".to_string()) };
-            tally.test(&format!("{}, {kind}", self.entry), result);
+            tally.test(&format!("{}, {kind}", self.entry), fits(*count > 0, || "no case".to_string()));
         }
     }
 }

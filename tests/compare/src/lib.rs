@@ -20,6 +20,7 @@
 pub mod again;
 pub mod calls;
 pub mod convert;
+mod damage;
 pub mod edges;
 pub mod find;
 pub mod grow;

@@ -1,9 +1,9 @@
 //! All small schemata (document 02, No. 14): the list of each length, tables that are not on it, and what the check and the
 //! model check say of each schema with tiny tableaux and models.
 
-use crate::calls::{exact, number, pack, Lent, Seen};
+use crate::calls::{exact, lent, pack, Seen};
 use crate::kinds::{Kinds, Run};
-use crate::tally::Tally;
+use crate::tally::{fits, Tally};
 use zorambi::entries;
 use zorambi_reference::find::find_model;
 use zorambi_reference::formula::{Row, AND, BIG_AND, BIG_OR, FALSE, LITERAL, NEGATED, ON_I, ON_N, OR, PLAIN, TRUE};
@@ -20,11 +20,7 @@ const COUNTS: [usize; 3] = [14, 340, 10_384];
 
 /// The library on a table, with a result table of this length.
 pub fn of_library(table: &[i32], rows: usize, length: usize) -> Seen {
-    let mut lent = Lent::new(length, number);
-    let packed = entries::next_small(&exact(table), rows, lent.lend());
-    let mut outside = false;
-    let tables = vec![lent.back(number, &mut outside)];
-    Seen { packed, tables, outside, ..Seen::default() }
+    lent([length], 0, |[next], _, _: &mut [i32; 0]| entries::next_small(&exact(table), rows, next))
 }
 
 fn of_reference(table: &[i32], rows: usize, length: usize) -> Seen {
@@ -78,14 +74,6 @@ const KINDS: [&str; 34] = [
     "a schema with a model that is none",
     "a schema at an n below its least value",
 ];
-
-fn fits(holds: bool, why: impl FnOnce() -> String) -> Result<(), String> {
-    if holds {
-        Ok(())
-    } else {
-        Err(why())
-    }
-}
 
 struct Comparison<'a> {
     tally: &'a mut Tally,

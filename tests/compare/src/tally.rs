@@ -66,6 +66,15 @@ fn group(input: &Input) -> Option<usize> {
     }
 }
 
+/// A result by whether something holds.
+pub(crate) fn fits(holds: bool, why: impl FnOnce() -> String) -> Result<(), String> {
+    if holds {
+        Ok(())
+    } else {
+        Err(why())
+    }
+}
+
 impl Tally {
     pub fn test(&mut self, what: &str, result: Result<(), String>) {
         match result {
@@ -77,6 +86,12 @@ impl Tally {
                 }
             }
         }
+    }
+
+    /// The answer and its place are those that are expected.
+    pub fn test_answer(&mut self, what: &str, seen: &Seen, expected: (u64, i64)) {
+        let found = (seen.answer(), seen.place());
+        self.test(what, fits(found == expected, || format!("{found:?}, expected {expected:?}")));
     }
 
     fn count(&mut self, group: usize, answer: u64) {
@@ -97,9 +112,8 @@ impl Tally {
         let older = input.older().and_then(|older| self.put(&format!("{what}, older"), &older));
         if let (Some(older), Some(_)) = (&older, group(input)) {
             // The two agree but for 27, which the older check does not know.
-            let fits = if ours.answer() == 27 { older.answer() != 27 } else { ours == *older };
-            let why = || format!("check {:#x}, older check {:#x}", ours.packed, older.packed);
-            self.test(what, if fits { Ok(()) } else { Err(why()) });
+            let agree = if ours.answer() == 27 { older.answer() != 27 } else { ours == *older };
+            self.test(what, fits(agree, || format!("check {:#x}, older check {:#x}", ours.packed, older.packed)));
         }
         // What the check accepts, the older one accepts too.
         if let (Input::Check(tables), Some(older)) = (input, older.as_ref().filter(|older| older.answer() == 0)) {
@@ -155,9 +169,8 @@ impl Tally {
     ) {
         let found = seen.map(|seen| (seen.answer(), seen.place()));
         if let Some(expected) = expected {
-            let fits = found == expected.map(|(answer, at)| (u64::from(answer), i64::from(at)));
-            let why = || format!("answers and places {found:?}, made for {expected:?}");
-            self.test(what, if fits { Ok(()) } else { Err(why()) });
+            let as_made = found == expected.map(|(answer, at)| (u64::from(answer), i64::from(at)));
+            self.test(what, fits(as_made, || format!("answers and places {found:?}, made for {expected:?}")));
         }
         let [(present, _), (answer, place)] = found;
         for kind in &aim.kinds {
@@ -193,22 +206,20 @@ impl Tally {
     /// Every answer has occurred; a fifth of the generated tableaux are accepted, and half of those
     /// have links.
     pub fn test_cover(&mut self) {
+        let occurred = |times: u64| fits(times > 0, || "never occurred".to_string());
         for answer in ANSWERS {
-            let result = if self.times(answer) > 0 { Ok(()) } else { Err("never occurred".to_string()) };
-            self.test(&format!("answer {answer}"), result);
+            self.test(&format!("answer {answer}"), occurred(self.times(answer)));
         }
         // What reading and writing can answer has occurred there and back too.
         for answer in [0, 1, 2, 3, 4, 5, 21, 22] {
-            let result = if self.answers[AGAIN][answer] > 0 { Ok(()) } else { Err("never occurred".to_string()) };
-            self.test(&format!("answer {answer} there and back"), result);
+            self.test(&format!("answer {answer} there and back"), occurred(self.answers[AGAIN][answer]));
         }
         // What the older check can answer has occurred there.
         for answer in [0, 2, 5, 6, 7, 8, 9, 10, 11, 12, 13, 14, 15, 16, 17] {
-            let result = if self.answers[OLDER][answer] > 0 { Ok(()) } else { Err("never occurred".to_string()) };
-            self.test(&format!("answer {answer} of the older check"), result);
+            self.test(&format!("answer {answer} of the older check"), occurred(self.answers[OLDER][answer]));
         }
         let Accepted { cases, accepted, linked, .. } = self.all_tableaux();
-        let enough = |fits: bool| if fits { Ok(()) } else { Err("too few".to_string()) };
+        let enough = |holds: bool| fits(holds, || "too few".to_string());
         self.test("a fifth of the tableaux accepted", enough(cases > 0 && accepted * 5 >= cases));
         self.test("half of those with links", enough(accepted > 0 && linked * 2 >= accepted));
         for (kind, at, earlier) in exact::KINDS {

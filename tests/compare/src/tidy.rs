@@ -1,11 +1,11 @@
 //! Older records tidied (document 02, No. 10).
 
-use crate::calls::{exact, number, of_library as library_on, pack, Lent, Seen};
+use crate::calls::{exactly, lent, of_library as library_on, pack, Seen};
 use crate::heavy;
 use crate::kinds::{Kinds, Run};
 use crate::paper::{PROOF, SCHEMA};
 use crate::records;
-use crate::tally::Tally;
+use crate::tally::{fits, Tally};
 use std::fs;
 use zorambi::entries;
 use zorambi_reference::formula::{Row, AND, BIG_AND, BIG_OR, FALSE, LITERAL, ON_I, ON_N, OR};
@@ -35,21 +35,8 @@ pub fn tidy(t: &Tables, proof: &mut [i32], nodes: &mut [i32], members: &mut [i32
 
 const FULL: [usize; 3] = [4096, 9216, 8192];
 
-/// Tables of exactly their lengths, so that a reading past an end shows under valgrind.
-pub(crate) fn exactly(t: &Tables) -> Tables {
-    let [schema, proof, nodes, members] =
-        [&t.schema, &t.proof, &t.nodes, &t.members].map(|table| exact(table).into_vec());
-    Tables { schema, proof, nodes, members, ..*t }
-}
-
 fn of_library(t: &Tables, lengths: [usize; 3]) -> Seen {
-    let mut lent = lengths.map(|length| Lent::new(length, number));
-    let mut results = [i32::MIN, 7, -1];
-    let [proof, nodes, members] = lent.each_mut().map(Lent::lend);
-    let packed = tidy(&exactly(t), proof, nodes, members, &mut results);
-    let mut outside = false;
-    let tables = lent.map(|table| table.back(number, &mut outside)).to_vec();
-    Seen { packed, results: results.to_vec(), tables, outside, ..Seen::default() }
+    lent(lengths, 0, |[proof, nodes, members], _, results| tidy(&exactly(t), proof, nodes, members, results))
 }
 
 fn of_reference(t: &Tables, lengths: [usize; 3]) -> Seen {
@@ -62,8 +49,7 @@ fn of_reference(t: &Tables, lengths: [usize; 3]) -> Seen {
 
 /// What both give into tables of these lengths; an error if they differ.
 fn into_tables(t: &Tables, lengths: [usize; 3]) -> Result<Seen, String> {
-    let (ours, theirs) = (of_library(t, lengths), of_reference(t, lengths));
-    ours.difference(&theirs).map_or(Ok(theirs), Err)
+    of_library(t, lengths).agreed(of_reference(t, lengths))
 }
 
 /// The same into tables of the full sizes.
@@ -135,7 +121,7 @@ impl Comparison<'_> {
         if seen.answer() > 0 {
             // The older check's number and place.
             let why = || format!("{:#x}, and the older check {:#x}", seen.packed, older.packed);
-            self.tally.test(what, if seen.packed == older.packed { Ok(()) } else { Err(why()) });
+            self.tally.test(what, fits(seen.packed == older.packed, why));
             let at = if seen.answer() == 2 { 0 } else { seen.answer() as usize - 4 };
             self.kinds.count(KINDS[REFUSED + at]);
             self.kinds.count_if(check.answer() == 27, "a refused record with rows written twice");
@@ -154,11 +140,10 @@ impl Comparison<'_> {
         let input = Input::Check(tidied.clone());
         let packed = library_on(&input).map(|seen| seen.packed);
         let why = || format!("the check of it answers {packed:x?}, the older check {older:x} before");
-        self.tally.test(what, if packed == Some(older) { Ok(()) } else { Err(why()) });
+        self.tally.test(what, fits(packed == Some(older), why));
         self.tally.compare(&format!("{what}, tidied"), &input);
         let again = of_both(tidied).map(|seen| self::tidied(t, &seen) == *tidied);
-        let why = |same: bool| if same { Ok(()) } else { Err("tidying again changes it".to_string()) };
-        self.tally.test(what, again.and_then(why));
+        self.tally.test(what, again.and_then(|same| fits(same, || "tidying again changes it".to_string())));
     }
 
     /// Counts what tidying does; where there are few rows, they are also taken out one by one.
@@ -182,8 +167,8 @@ impl Comparison<'_> {
             node.set.sort_unstable();
             node.set.dedup();
         }
-        let fits = tree.tables() == tidied.tree().tables();
-        self.tally.test(what, if fits { Ok(()) } else { Err("not as with rows taken out one by one".to_string()) });
+        let same = tree.tables() == tidied.tree().tables();
+        self.tally.test(what, fits(same, || "not as with rows taken out one by one".to_string()));
     }
 
     /// The record, which has no row twice, with copies of rows spread over it: after tidying it is as before.
@@ -194,8 +179,7 @@ impl Comparison<'_> {
         }
         let Some(spread) = spread(&tree, rng) else { return };
         let found = self.put(&format!("{what}, spread"), &spread.tables());
-        let fits = found == Some(tree.tables());
-        self.tally.test(what, if fits { Ok(()) } else { Err("not as before the copies".to_string()) });
+        self.tally.test(what, fits(found == Some(tree.tables()), || "not as before the copies".to_string()));
         self.kinds.count("copies spread over a tableau, as before after tidying");
     }
 }
@@ -449,9 +433,8 @@ impl Comparison<'_> {
         ];
         for (name, tree, expected) in cases {
             let found = self.put(&format!("tidying, {name}"), &tree.tables());
-            let fits = found == Some(expected.tables());
-            let why = || format!("{:?}, expected {:?}", found.map(|tables| tables.tree()), expected);
-            self.tally.test(name, if fits { Ok(()) } else { Err(why()) });
+            let why = || format!("{:?}, expected {expected:?}", found.as_ref().map(Tables::tree));
+            self.tally.test(name, fits(found.as_ref() == Some(&expected.tables()), why));
         }
     }
 
@@ -471,10 +454,7 @@ impl Comparison<'_> {
         for (expected, t) in cases {
             let what = format!("tidying what the older check refuses with {expected:?}");
             self.put(&what, &t);
-            let seen = of_library(&t, FULL);
-            let found = (seen.answer(), seen.place());
-            let why = || format!("{found:?}, expected {expected:?}");
-            self.tally.test(&what, if found == expected { Ok(()) } else { Err(why()) });
+            self.tally.test_answer(&what, &of_library(&t, FULL), expected);
             // Result tables come first.
             self.short(&t);
         }
@@ -490,8 +470,8 @@ impl Comparison<'_> {
                 let what = format!("tidying into {lengths:?} numbers");
                 let seen = into_tables(t, lengths);
                 let expected = length > FULL[at] || seen.as_ref().is_ok_and(|seen| seen.packed == pack(2, 0, 0));
-                let why = |_| if expected { Ok(()) } else { Err("not refused with 2 at 0".to_string()) };
-                self.tally.test(&what, seen.and_then(why));
+                let judge = |_| fits(expected, || "not refused with 2 at 0".to_string());
+                self.tally.test(&what, seen.and_then(judge));
                 self.kinds.count_if(length + 1 == FULL[at], KINDS[SHORT + at]);
             }
         }
@@ -502,8 +482,7 @@ impl Comparison<'_> {
 pub fn heavy(tally: &mut Tally) {
     for (name, tables) in worst() {
         let seen = of_both(&tables);
-        let judge =
-            |seen: Seen| if seen.answer() == 0 { Ok(()) } else { Err(format!("refused with {}", seen.answer())) };
+        let judge = |seen: Seen| fits(seen.answer() == 0, || format!("refused with {}", seen.answer()));
         tally.test(name, seen.and_then(judge));
     }
 }

@@ -6,7 +6,7 @@ use std::hint::black_box;
 use std::path::Path;
 use zorambi::entries;
 use zorambi::entries::check_older;
-use zorambi_compare::calls::{of_library, of_reference, CheckEntry};
+use zorambi_compare::calls::{self, of_library, of_reference, CheckEntry};
 use zorambi_compare::convert;
 use zorambi_compare::find;
 use zorambi_compare::grow;
@@ -125,18 +125,7 @@ fn check_by(library: CheckEntry, reference: Check, t: &Tables) -> Times {
     let record = t.record();
     time(
         || {
-            black_box(library(
-                black_box(&t.schema),
-                t.schema_count,
-                &t.proof,
-                t.proof_count,
-                t.root,
-                t.least,
-                &t.nodes,
-                t.node_count,
-                &t.members,
-                t.member_count,
-            ));
+            black_box(calls::check(library, black_box(t)));
         },
         || {
             black_box(reference(black_box(&record)));
