@@ -8,7 +8,7 @@ use crate::records;
 use crate::tally::{fits, Tally};
 use std::fs;
 use zorambi::entries;
-use zorambi_reference::formula::{Row, AND, BIG_AND, BIG_OR, FALSE, LITERAL, ON_I, ON_N, OR};
+use zorambi_reference::formula::{with_parts, Row, AND, BIG_AND, BIG_OR, FALSE, LITERAL, ON_I, ON_N, OR};
 use zorambi_reference::generate::tables::{Tables, Tree, TreeNode};
 use zorambi_reference::generate::{case, Input, Rng};
 use zorambi_reference::tidy;
@@ -181,15 +181,6 @@ impl Comparison<'_> {
         let found = self.put(&format!("{what}, spread"), &spread.tables());
         self.tally.test(what, fits(found == Some(tree.tables()), || "not as before the copies".to_string()));
         self.kinds.count("copies spread over a tableau, as before after tidying");
-    }
-}
-
-/// The row with its parts changed.
-pub(crate) fn with_parts([kind, a, b, c]: Row, mut change: impl FnMut(i32) -> i32) -> Row {
-    match kind {
-        AND | OR => [kind, change(a), change(b), c],
-        BIG_AND | BIG_OR => [kind, change(a), b, c],
-        _ => [kind, a, b, c],
     }
 }
 

@@ -1,7 +1,7 @@
 //! Wide connectives written in plain rows: document 02, No. 1. How many plain rows each source row writes says where
 //! they stand; then every plain row is written by itself.
 
-use crate::formula::{Formulas, Row, AND, BIG_AND, BIG_OR, FALSE, LITERAL, NEGATED, ON_I, ON_N, OR, PLAIN, TRUE};
+use crate::formula::{index, Formulas, Row, AND, BIG_AND, BIG_OR, FALSE, LITERAL, NEGATED, ON_I, OR, PLAIN, TRUE};
 use crate::{holds, refuse, Refusal, MAX_DEPTH, MAX_N, MAX_OFFSET, MAX_ROWS, MAX_SIZE, MAX_SYMBOL, ROW_WIDTH};
 
 /// The kinds that a wide schema adds.
@@ -205,14 +205,7 @@ pub fn wide_value<F: Fn(i32, i64) -> bool>(wide: &[Row], row: i32, n: i64, i: i6
     let mut range = i64::from(b)..=n - i64::from(c);
     match kind {
         TRUE => true,
-        LITERAL | NEGATED => {
-            let base = match b {
-                ON_N => n,
-                ON_I => i,
-                _ => 0,
-            };
-            assignment(a, base + i64::from(c)) == (kind == LITERAL)
-        }
+        LITERAL | NEGATED => assignment(a, index(b, c, n, i)) == (kind == LITERAL),
         AND => value(a) && value(b),
         OR => value(a) || value(b),
         BIG_AND => range.all(|i| wide_value(wide, a, n, i, assignment)),
@@ -228,6 +221,7 @@ pub fn wide_value<F: Fn(i32, i64) -> bool>(wide: &[Row], row: i32, n: i64, i: i6
 #[cfg(test)]
 mod tests {
     use super::*;
+    use crate::formula::ON_N;
 
     const P: Row = [LITERAL, 0, ON_N, 0];
     const Q: Row = [LITERAL, 1, ON_N, 0];

@@ -1,7 +1,7 @@
 //! A model at an n that is named: document 02, No. 13. The schema at that n becomes a decision diagram over the pairs
 //! that occur, which it asks for in ascending order; the first model is the path that takes false wherever it can.
 
-use crate::formula::{judge_rows, Formulas, Twice, AND, BIG_AND, BIG_OR, LITERAL, NEGATED, ON_I, ON_N, OR, TRUE};
+use crate::formula::{index, judge_rows, Formulas, Twice, AND, BIG_AND, BIG_OR, LITERAL, NEGATED, ON_N, OR, TRUE};
 use crate::{holds, refuse, Refusal, Verdict, MAX_N, MAX_PAIRS, MAX_ROWS, PAIR_WIDTH, ROW_WIDTH};
 use std::collections::{BTreeSet, HashMap};
 
@@ -236,12 +236,8 @@ impl AtN<'_> {
         offset: i32,
         i: Option<i64>,
     ) -> Function {
-        let at = match base {
-            ON_N => self.n,
-            ON_I => i.unwrap_or_default(),
-            _ => 0,
-        };
-        match self.pairs.binary_search(&(symbol, at + i64::from(offset))) {
+        let at = index(base, offset, self.n, i.unwrap_or_default());
+        match self.pairs.binary_search(&(symbol, at)) {
             Ok(pair) if kind == LITERAL => diagram.node(pair, NEVER, ALWAYS),
             Ok(pair) => diagram.node(pair, ALWAYS, NEVER),
             Err(_) => NEVER,

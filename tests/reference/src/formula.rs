@@ -297,6 +297,25 @@ impl Change {
     }
 }
 
+/// The row with its parts changed.
+pub fn with_parts([kind, a, b, c]: Row, mut change: impl FnMut(i32) -> i32) -> Row {
+    match kind {
+        AND | OR => [kind, change(a), change(b), c],
+        BIG_AND | BIG_OR => [kind, change(a), b, c],
+        _ => [kind, a, b, c],
+    }
+}
+
+/// The index of a literal at this n and, inside an iteration, this i.
+pub(crate) fn index(base: i32, offset: i32, n: i64, i: i64) -> i64 {
+    let base = match base {
+        ON_N => n,
+        ON_I => i,
+        _ => 0,
+    };
+    base.saturating_add(i64::from(offset))
+}
+
 /// A quick hash of a form or a row.
 #[derive(Clone, Debug, Default)]
 struct Mixer(u64);

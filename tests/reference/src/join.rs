@@ -1,9 +1,9 @@
 //! One record for either fault: document 02, No. 11. Both records are moved to where they stand in the join, and the
 //! whole is tidied.
 
-use crate::formula::{Formulas, Row, OR};
+use crate::formula::{with_parts, Formulas, Row, OR};
 use crate::tableau::{self, Record};
-use crate::tidy::{set, table_rows, tidied_tables, with_parts, ProofTables};
+use crate::tidy::{set, table_rows, tidied_tables, ProofTables};
 use crate::{refuse, Refusal, Verdict, MAX_MEMBERS, MAX_NODES, MAX_ROWS, NODE_WIDTH, ROW_WIDTH};
 
 /// What comes back: as in reading a schema and a proof.

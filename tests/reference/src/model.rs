@@ -1,6 +1,6 @@
 //! The model check, and the value of a formula.
 
-use crate::formula::{judge_rows, Formulas, Row, Twice, AND, BIG_AND, BIG_OR, LITERAL, NEGATED, ON_I, ON_N, OR, TRUE};
+use crate::formula::{index, judge_rows, Formulas, Row, Twice, AND, BIG_AND, BIG_OR, LITERAL, NEGATED, OR, TRUE};
 use crate::{
     holds, refuse, Refusal, Verdict, MAX_INDEX, MAX_N, MAX_PAIRS, MAX_ROWS, MAX_SYMBOL, PAIR_WIDTH, ROW_WIDTH,
 };
@@ -81,14 +81,7 @@ impl<F: Fn(i32, i64) -> bool> Evaluation<'_, F> {
         let [kind, a, b, c] = self.rows[row as usize];
         match kind {
             TRUE => true,
-            LITERAL | NEGATED => {
-                let base = match b {
-                    ON_N => self.n,
-                    ON_I => i,
-                    _ => 0,
-                };
-                (self.assignment)(a, base.saturating_add(i64::from(c))) == (kind == LITERAL)
-            }
+            LITERAL | NEGATED => (self.assignment)(a, index(b, c, self.n, i)) == (kind == LITERAL),
             AND => self.formula(a, i) && self.formula(b, i),
             OR => self.formula(a, i) || self.formula(b, i),
             BIG_AND => self.range(b, c).all(|i| self.formula(a, i)),

@@ -68,8 +68,15 @@ struct Lines<'a> {
 }
 
 impl<'a> Lines<'a> {
-    fn new(text: &'a [u8]) -> Lines<'a> {
-        Lines { text, at: 0, number: 0 }
+    /// The start of a text that is not too long, or 1, if the tables are long enough for any, or 2.
+    fn begin(text: &'a [u8], long_enough: bool) -> Result<Lines<'a>, Refusal> {
+        if text.len() > MAX_TEXT {
+            return refuse(1, 0);
+        }
+        if !long_enough {
+            return refuse(2, 0);
+        }
+        Ok(Lines { text, at: 0, number: 0 })
     }
 
     fn next(&mut self) -> Line<'a> {
@@ -188,13 +195,7 @@ pub fn read_schema(text: &[u8], rows: &mut [i32]) -> SchemaRead {
 }
 
 fn schema_lines(text: &[u8], rows: &mut [i32]) -> Result<SchemaRead, Refusal> {
-    if text.len() > MAX_TEXT {
-        return refuse(1, 0);
-    }
-    if rows.len() < MAX_ROWS * ROW_WIDTH {
-        return refuse(2, 0);
-    }
-    let mut lines = Lines::new(text);
+    let mut lines = Lines::begin(text, rows.len() >= MAX_ROWS * ROW_WIDTH)?;
     let mut schema = [0; 2];
     lines.heading(ROOT_HEADING)?;
     lines.one_line(&mut schema)?;
@@ -218,13 +219,9 @@ pub fn read_proof(text: &[u8], rows: &mut [i32], nodes: &mut [i32], members: &mu
 }
 
 fn proof_lines(text: &[u8], rows: &mut [i32], nodes: &mut [i32], members: &mut [i32]) -> Result<ProofRead, Refusal> {
-    if text.len() > MAX_TEXT {
-        return refuse(1, 0);
-    }
-    if rows.len() < MAX_ROWS * ROW_WIDTH || nodes.len() < MAX_NODES * NODE_WIDTH || members.len() < MAX_MEMBERS {
-        return refuse(2, 0);
-    }
-    let mut lines = Lines::new(text);
+    let long_enough =
+        rows.len() >= MAX_ROWS * ROW_WIDTH && nodes.len() >= MAX_NODES * NODE_WIDTH && members.len() >= MAX_MEMBERS;
+    let mut lines = Lines::begin(text, long_enough)?;
     lines.heading(ROWS_HEADING)?;
     let row_count = proof_rows(&mut lines, rows)?;
     let (node_count, member_count) = node_rows(&mut lines, nodes, members)?;
@@ -285,13 +282,7 @@ pub fn read_model(text: &[u8], pairs: &mut [i32]) -> ModelRead {
 }
 
 fn model_lines(text: &[u8], pairs: &mut [i32]) -> Result<ModelRead, Refusal> {
-    if text.len() > MAX_TEXT {
-        return refuse(1, 0);
-    }
-    if pairs.len() < MAX_PAIRS * PAIR_WIDTH {
-        return refuse(2, 0);
-    }
-    let mut lines = Lines::new(text);
+    let mut lines = Lines::begin(text, pairs.len() >= MAX_PAIRS * PAIR_WIDTH)?;
     let mut n = [0; 1];
     lines.heading(N_HEADING)?;
     lines.one_line(&mut n)?;

@@ -1,7 +1,7 @@
 //! Tidying older records: document 02, No. 10. First each row is told which row stands for it, in the numbers that are
 //! there; what stays then takes its new number by counting.
 
-use crate::formula::{Row, AND, BIG_AND, BIG_OR, OR};
+use crate::formula::{with_parts, Row};
 use crate::tableau::{self, Record};
 use crate::{refuse, Refusal, Verdict, MAX_MEMBERS, MAX_NODES, MAX_ROWS, NODE_WIDTH, ROW_WIDTH};
 use std::collections::HashMap;
@@ -111,15 +111,6 @@ fn standing(rows: &[Row], schema_count: usize) -> Vec<usize> {
         standing.push(if number < schema_count { number } else { first });
     }
     standing
-}
-
-/// The row with its parts changed.
-pub(crate) fn with_parts([kind, a, b, c]: Row, change: impl Fn(i32) -> i32) -> Row {
-    match kind {
-        AND | OR => [kind, change(a), change(b), c],
-        BIG_AND | BIG_OR => [kind, change(a), b, c],
-        _ => [kind, a, b, c],
-    }
 }
 
 #[cfg(test)]

@@ -724,6 +724,16 @@ fn damaged_text(rng: &mut Rng, mut text: Vec<u8>) -> Vec<u8> {
     text
 }
 
+/// The text, damaged, now and then as long as a text may be or longer, and the length of the table that it is read into.
+fn text_for_table(rng: &mut Rng, text: Vec<u8>, full: usize) -> (Vec<u8>, usize) {
+    let mut text = damaged_text(rng, text);
+    if rng.chance(6) {
+        text.resize(rng.pick(&[65_535, 65_536, 65_536, 65_537, 65_537, 70_000]), rng.pick(b"\n0 "));
+    }
+    let length = lent_length(rng, full, &text);
+    (text, length)
+}
+
 /// Adds rows until the limit is near; now and then a line of another form as the last.
 fn many_lines(rng: &mut Rng, text: &mut Vec<u8>, line: &[u8], have: usize, limit: usize) {
     for _ in have..limit - 1 + rng.below(4) {
@@ -754,11 +764,7 @@ fn schema_text(rng: &mut Rng) -> Vec<u8> {
 
 fn read_schema_case(rng: &mut Rng) -> Input {
     let text = schema_text(rng);
-    let mut text = damaged_text(rng, text);
-    if rng.chance(6) {
-        text.resize(rng.pick(&[65_535, 65_536, 65_536, 65_537, 65_537, 70_000]), rng.pick(b"\n0 "));
-    }
-    let length = lent_length(rng, 4096, &text);
+    let (text, length) = text_for_table(rng, text, 4096);
     Input::ReadSchema { text, length, fill: extreme(rng) }
 }
 
@@ -817,11 +823,7 @@ fn model_text(rng: &mut Rng) -> Vec<u8> {
 
 fn read_model_case(rng: &mut Rng) -> Input {
     let text = model_text(rng);
-    let mut text = damaged_text(rng, text);
-    if rng.chance(6) {
-        text.resize(rng.pick(&[65_535, 65_536, 65_536, 65_537, 65_537, 70_000]), rng.pick(b"\n0 "));
-    }
-    let length = lent_length(rng, 8192, &text);
+    let (text, length) = text_for_table(rng, text, 8192);
     Input::ReadModel { text, length, fill: extreme(rng) }
 }
 

@@ -2,7 +2,7 @@
 
 use super::rng::{mix, Rng};
 use super::tables::{extreme, other_count, other_number};
-use crate::formula::{Formulas, AND, BIG_AND, BIG_OR, LITERAL, NEGATED, ON_I, ON_N, OR, TRUE};
+use crate::formula::{index, Formulas, AND, BIG_AND, BIG_OR, LITERAL, NEGATED, OR, TRUE};
 use std::collections::BTreeMap;
 
 /// What the model check is lent.
@@ -61,12 +61,7 @@ impl Search<'_> {
         match kind {
             TRUE => true,
             LITERAL | NEGATED => {
-                let base = match b {
-                    ON_N => self.n,
-                    ON_I => i,
-                    _ => 0,
-                };
-                let pair = (a, base + i64::from(c));
+                let pair = (a, index(b, c, self.n, i));
                 let value = kind == LITERAL;
                 match self.fixed.get(&pair) {
                     Some(fixed) => *fixed == value,

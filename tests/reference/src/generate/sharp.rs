@@ -7,7 +7,7 @@ use super::prover::{grow, grow_across, Grown};
 use super::rng::Rng;
 use super::schemata::{false_schema, Schema};
 use super::tables::{Tables, Tree, TreeNode};
-use crate::formula::{Row, AND, BIG_AND, BIG_OR, FALSE, LITERAL, NEGATED, ON_I, ON_N, OR, PLAIN};
+use crate::formula::{with_parts, Row, AND, BIG_AND, BIG_OR, FALSE, LITERAL, NEGATED, ON_I, ON_N, OR, PLAIN};
 use crate::NODE_WIDTH;
 
 pub fn sharp_tables(rng: &mut Rng) -> Tables {
@@ -447,11 +447,7 @@ fn insert_schema_rows(tree: &mut Tree, rows: &[Row]) {
     let count = rows.len() as i32;
     let rename = |number: i32| if number >= at { number + count } else { number };
     for row in &mut tree.rows[tree.schema_count..] {
-        match row[0] {
-            AND | OR => (row[1], row[2]) = (rename(row[1]), rename(row[2])),
-            BIG_AND | BIG_OR => row[1] = rename(row[1]),
-            _ => {}
-        }
+        *row = with_parts(*row, rename);
     }
     for node in &mut tree.nodes {
         for field in 2..5 {

@@ -1,7 +1,7 @@
 //! A tableau as a tree and as tables, changes that keep it right, and damage.
 
 use super::rng::Rng;
-use crate::formula::{Row, AND, BIG_AND, BIG_OR, LITERAL, NEGATED, OR};
+use crate::formula::{with_parts, Row, AND, BIG_AND, BIG_OR, LITERAL, NEGATED, OR};
 use crate::tableau::Record;
 use crate::{NODE_WIDTH, ROW_WIDTH};
 use std::collections::HashMap;
@@ -99,13 +99,8 @@ impl Tree {
             Ok(at) if at < count + 8 => row - gone as i32,
             _ => row,
         };
-        for (number, [kind, a, b, c]) in self.rows.iter().copied().enumerate() {
-            let rename = |part: i32| rename(&new_number, number - rows.len(), part);
-            let row = match kind {
-                AND | OR => [kind, rename(a), rename(b), c],
-                BIG_AND | BIG_OR => [kind, rename(a), b, c],
-                _ => [kind, a, b, c],
-            };
+        for (number, row) in self.rows.iter().enumerate() {
+            let row = with_parts(*row, |part| rename(&new_number, number - rows.len(), part));
             let next = rows.len() as i32;
             let found = *earliest.entry(row).or_insert(next);
             if found < next && number >= self.schema_count {
@@ -143,13 +138,7 @@ impl Tree {
     pub fn insert_row(&mut self, at: usize, row: Row, in_schema: bool) {
         let first = at as i32;
         let rename = |number: i32| if number >= first { number + 1 } else { number };
-        for [kind, a, b, _] in &mut self.rows {
-            match *kind {
-                AND | OR => (*a, *b) = (rename(*a), rename(*b)),
-                BIG_AND | BIG_OR => *a = rename(*a),
-                _ => {}
-            }
-        }
+        self.rows.iter_mut().for_each(|row| *row = with_parts(*row, rename));
         self.rows.insert(at, row);
         self.schema_count += usize::from(in_schema);
         self.root = rename(self.root);
@@ -286,17 +275,7 @@ impl Tree {
             }
         }
         let rename = |number: i32| if number >= 0 { new_number[number as usize] } else { number };
-        self.rows = order
-            .iter()
-            .map(|old| {
-                let [kind, a, b, c] = self.rows[*old];
-                match kind {
-                    AND | OR => [kind, rename(a), rename(b), c],
-                    BIG_AND | BIG_OR => [kind, rename(a), b, c],
-                    _ => [kind, a, b, c],
-                }
-            })
-            .collect();
+        self.rows = order.iter().map(|old| with_parts(self.rows[*old], rename)).collect();
         self.root = rename(self.root);
         for node in &mut self.nodes {
             for field in 2..5 {
