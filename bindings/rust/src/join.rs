@@ -1,7 +1,7 @@
 //! One record for either fault.
 
 use crate::entries;
-use crate::record::{Proof, Record, Schema};
+use crate::record::{on_records, Proof, Record, Schema};
 use crate::text::{rows, MAX_MEMBERS, MAX_NODES, MAX_ROWS};
 use crate::verdict::{counts, Refused};
 
@@ -17,32 +17,14 @@ pub fn join(first: &Record, second: &Record) -> Result<Record, Refused> {
     let mut nodes = vec![0; MAX_NODES * 9];
     let mut members = vec![0; MAX_MEMBERS];
     let mut results = [0; 6];
-    counts(entries::join(
-        first.schema.rows.as_flattened(),
-        first.schema.rows.len(),
-        first.proof.rows.as_flattened(),
-        first.proof.rows.len(),
-        first.schema.root,
-        first.schema.least,
-        first.proof.nodes.as_flattened(),
-        first.proof.nodes.len(),
-        &first.proof.members,
-        first.proof.members.len(),
-        second.schema.rows.as_flattened(),
-        second.schema.rows.len(),
-        second.proof.rows.as_flattened(),
-        second.proof.rows.len(),
-        second.schema.root,
-        second.schema.least,
-        second.proof.nodes.as_flattened(),
-        second.proof.nodes.len(),
-        &second.proof.members,
-        second.proof.members.len(),
+    counts(on_records!(
+        entries::join,
+        [first, second],
         &mut schema,
         &mut proof,
         &mut nodes,
         &mut members,
-        &mut results,
+        &mut results
     ))?;
     let [root, least, schema_rows, proof_rows, node_rows, member_count] = results;
     members.truncate(member_count as usize);

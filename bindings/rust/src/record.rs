@@ -53,35 +53,39 @@ pub struct Model {
     pub pairs: Vec<Pair>,
 }
 
-/// The entry of a check: four tables with their counts, the root and the least value.
-type Entry = fn(&[i32], usize, &[i32], usize, i32, i32, &[i32], usize, &[i32], usize) -> u64;
-
-fn check_by(entry: Entry, record: &Record) -> Verdict {
-    let Record { schema, proof } = record;
-    Verdict::of_packed(entry(
-        schema.rows.as_flattened(),
-        schema.rows.len(),
-        proof.rows.as_flattened(),
-        proof.rows.len(),
-        schema.root,
-        schema.least,
-        proof.nodes.as_flattened(),
-        proof.nodes.len(),
-        &proof.members,
-        proof.members.len(),
-    ))
+/// A call of an entry with records, each as its tables, counts, root and least value, and with what it is given
+/// besides.
+macro_rules! on_records {
+    ($entry:path, [$($record:expr),*] $(, $more:expr)*) => {
+        $entry(
+            $(
+                $record.schema.rows.as_flattened(),
+                $record.schema.rows.len(),
+                $record.proof.rows.as_flattened(),
+                $record.proof.rows.len(),
+                $record.schema.root,
+                $record.schema.least,
+                $record.proof.nodes.as_flattened(),
+                $record.proof.nodes.len(),
+                &$record.proof.members,
+                $record.proof.members.len(),
+            )*
+            $($more,)*
+        )
+    };
 }
+pub(crate) use on_records;
 
 /// Checks a record. If it is accepted, its schema is false at every natural n from the least value up,
 /// under every assignment. A proof row that equals an earlier schema or proof row is refused.
 pub fn check(record: &Record) -> Verdict {
-    check_by(entries::check, record)
+    Verdict::of_packed(on_records!(entries::check, [record]))
 }
 
 /// Checks an older record: the same, but proof rows may repeat. Where [`check`] says anything else than
 /// [`Refusal::Repeated`](crate::Refusal::Repeated), both say the same.
 pub fn check_older(record: &Record) -> Verdict {
-    check_by(entries::check_older, record)
+    Verdict::of_packed(on_records!(entries::check_older, [record]))
 }
 
 /// Checks a model. If it is accepted, the schema is true at its n where exactly its pairs are true.
