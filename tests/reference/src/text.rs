@@ -4,11 +4,19 @@ use crate::{
     holds, refuse, Refusal, MAX_MEMBERS, MAX_NODES, MAX_PAIRS, MAX_ROWS, MAX_TEXT, NODE_WIDTH, PAIR_WIDTH, ROW_WIDTH,
 };
 
-const ROOT_HEADING: &[u8] = b"root least";
 const ROWS_HEADING: &[u8] = b"kind a b c";
 const NODES_HEADING: &[u8] = b"up rule on with other to by set";
-const N_HEADING: &[u8] = b"n";
-const PAIRS_HEADING: &[u8] = b"symbol index";
+
+/// A text with one line of numbers and one table: their headings, the width of the table's rows and how many there may be.
+struct Form {
+    line: &'static [u8],
+    table: &'static [u8],
+    width: usize,
+    limit: usize,
+}
+
+const SCHEMA: Form = Form { line: b"root least", table: ROWS_HEADING, width: ROW_WIDTH, limit: MAX_ROWS };
+const MODEL: Form = Form { line: b"n", table: b"symbol index", width: PAIR_WIDTH, limit: MAX_PAIRS };
 
 const LINE_END: u8 = 10;
 /// The numbers of a node row before its set.
@@ -184,24 +192,33 @@ fn number(word: &[u8]) -> Option<i32> {
     Some(if negative { -value } else { value })
 }
 
-/// Reads a schema text; the rows go into `rows`, of at least 4,096 numbers.
-pub fn read_schema(text: &[u8], rows: &mut [i32]) -> SchemaRead {
-    rows.fill(0);
-    let read = schema_lines(text, rows);
-    read.unwrap_or_else(|refusal| {
-        rows.fill(0);
-        SchemaRead { answer: refusal.answer, place: refusal.place, ..SchemaRead::default() }
-    })
+impl Form {
+    /// The numbers of the line and how many rows the table has; after a refusal the table is all 0.
+    fn read<const N: usize>(&self, text: &[u8], table: &mut [i32]) -> Result<([i32; N], usize), Refusal> {
+        table.fill(0);
+        let read = self.lines(text, table);
+        if read.is_err() {
+            table.fill(0);
+        }
+        read
+    }
+
+    fn lines<const N: usize>(&self, text: &[u8], table: &mut [i32]) -> Result<([i32; N], usize), Refusal> {
+        let mut lines = Lines::begin(text, table.len() >= self.limit * self.width)?;
+        let mut line = [0; N];
+        lines.heading(self.line)?;
+        lines.one_line(&mut line)?;
+        lines.heading(self.table)?;
+        Ok((line, lines.rows_to_the_end(self.width, self.limit, table)?))
+    }
 }
 
-fn schema_lines(text: &[u8], rows: &mut [i32]) -> Result<SchemaRead, Refusal> {
-    let mut lines = Lines::begin(text, rows.len() >= MAX_ROWS * ROW_WIDTH)?;
-    let mut schema = [0; 2];
-    lines.heading(ROOT_HEADING)?;
-    lines.one_line(&mut schema)?;
-    lines.heading(ROWS_HEADING)?;
-    let count = lines.rows_to_the_end(ROW_WIDTH, MAX_ROWS, rows)?;
-    Ok(SchemaRead { answer: 0, place: 0, root: schema[0], least: schema[1], rows: count })
+/// Reads a schema text; the rows go into `rows`, of at least 4,096 numbers.
+pub fn read_schema(text: &[u8], rows: &mut [i32]) -> SchemaRead {
+    match SCHEMA.read(text, rows) {
+        Ok(([root, least], rows)) => SchemaRead { answer: 0, place: 0, root, least, rows },
+        Err(Refusal { answer, place }) => SchemaRead { answer, place, ..SchemaRead::default() },
+    }
 }
 
 /// Reads a proof text; `rows` has at least 4,096 numbers, `nodes` 9,216, `members` 8,192.
@@ -273,49 +290,39 @@ fn node_rows(lines: &mut Lines, nodes: &mut [i32], members: &mut [i32]) -> Resul
 
 /// Reads a model text; the pairs go into `pairs`, of at least 8,192 numbers.
 pub fn read_model(text: &[u8], pairs: &mut [i32]) -> ModelRead {
-    pairs.fill(0);
-    let read = model_lines(text, pairs);
-    read.unwrap_or_else(|refusal| {
-        pairs.fill(0);
-        ModelRead { answer: refusal.answer, place: refusal.place, ..ModelRead::default() }
-    })
-}
-
-fn model_lines(text: &[u8], pairs: &mut [i32]) -> Result<ModelRead, Refusal> {
-    let mut lines = Lines::begin(text, pairs.len() >= MAX_PAIRS * PAIR_WIDTH)?;
-    let mut n = [0; 1];
-    lines.heading(N_HEADING)?;
-    lines.one_line(&mut n)?;
-    lines.heading(PAIRS_HEADING)?;
-    let count = lines.rows_to_the_end(PAIR_WIDTH, MAX_PAIRS, pairs)?;
-    Ok(ModelRead { answer: 0, place: 0, n: n[0], pairs: count })
+    match MODEL.read(text, pairs) {
+        Ok(([n], pairs)) => ModelRead { answer: 0, place: 0, n, pairs },
+        Err(Refusal { answer, place }) => ModelRead { answer, place, ..ModelRead::default() },
+    }
 }
 
 // ---------------------------------------------------------------------------------------------
 // Writing
 
-/// Writes a schema text into `out`.
-pub fn write_schema(root: i32, least: i32, rows: &[i32], row_count: usize, out: &mut [u8]) -> Written {
-    hand_over(schema_text(root, least, rows, row_count), out)
+impl Form {
+    fn text(&self, line: &[i32], table: &[i32], count: usize) -> Result<Vec<u8>, Refusal> {
+        if !holds(table.len(), count, self.width) {
+            return refuse(2, -1);
+        }
+        if count > self.limit {
+            return refuse(5, -1);
+        }
+        let table = &table[..count * self.width];
+        if !writable(line) || !writable(table) {
+            return refuse(21, -1);
+        }
+        let mut text = Vec::new();
+        put_heading(&mut text, self.line);
+        put_line(&mut text, line, &[]);
+        put_heading(&mut text, self.table);
+        put_rows(&mut text, table, self.width);
+        Ok(text)
+    }
 }
 
-fn schema_text(root: i32, least: i32, rows: &[i32], row_count: usize) -> Result<Vec<u8>, Refusal> {
-    if !holds(rows.len(), row_count, ROW_WIDTH) {
-        return refuse(2, -1);
-    }
-    if row_count > MAX_ROWS {
-        return refuse(5, -1);
-    }
-    let rows = &rows[..row_count * ROW_WIDTH];
-    if !writable(&[root, least]) || !writable(rows) {
-        return refuse(21, -1);
-    }
-    let mut text = Vec::new();
-    put_heading(&mut text, ROOT_HEADING);
-    put_line(&mut text, &[root, least], &[]);
-    put_heading(&mut text, ROWS_HEADING);
-    put_rows(&mut text, rows, ROW_WIDTH);
-    Ok(text)
+/// Writes a schema text into `out`.
+pub fn write_schema(root: i32, least: i32, rows: &[i32], row_count: usize, out: &mut [u8]) -> Written {
+    hand_over(SCHEMA.text(&[root, least], rows, row_count), out)
 }
 
 /// Writes a proof text into `out`.
@@ -383,26 +390,7 @@ fn sets_follow(nodes: &[i32], member_count: usize) -> bool {
 
 /// Writes a model text into `out`.
 pub fn write_model(n: i32, pairs: &[i32], pair_count: usize, out: &mut [u8]) -> Written {
-    hand_over(model_text(n, pairs, pair_count), out)
-}
-
-fn model_text(n: i32, pairs: &[i32], pair_count: usize) -> Result<Vec<u8>, Refusal> {
-    if !holds(pairs.len(), pair_count, PAIR_WIDTH) {
-        return refuse(2, -1);
-    }
-    if pair_count > MAX_PAIRS {
-        return refuse(5, -1);
-    }
-    let pairs = &pairs[..pair_count * PAIR_WIDTH];
-    if !writable(&[n]) || !writable(pairs) {
-        return refuse(21, -1);
-    }
-    let mut text = Vec::new();
-    put_heading(&mut text, N_HEADING);
-    put_line(&mut text, &[n], &[]);
-    put_heading(&mut text, PAIRS_HEADING);
-    put_rows(&mut text, pairs, PAIR_WIDTH);
-    Ok(text)
+    hand_over(MODEL.text(&[n], pairs, pair_count), out)
 }
 
 /// No number has more than five digits.
