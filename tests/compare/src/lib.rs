@@ -3,6 +3,7 @@
 //! * [`calls`]: one case put to both, and all that comes back compared
 //! * [`again`]: a text read and written again, rows written and read again, from the same cases
 //! * [`convert`]: wide connectives written in plain rows
+//! * `damage`: damage to what an entry is lent
 //! * [`paper`]: the paper's record, its neighbours and its models, with the paper's answers
 //! * [`records`]: shipped records, with the answers in their `expected` files
 //! * [`sides`]: shipped records with sides of their ands and ors swapped
