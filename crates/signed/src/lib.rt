@@ -89,13 +89,6 @@ pub fn under_at(t: &[i32], i: usize) -> usize
     under(at(t, i))
 }
 
-// How far it lies above the least number.
-pub fn rank_at(t: &[i32], i: usize) -> usize
-    ensures { λ r. ⌜ (r ≡ rankOf (getD (now (t .entry)) i (pos 0))) × (r < 2 ^ 32) ⌝ }
-{
-    rank(at(t, i))
-}
-
 // It is z.
 pub fn is_at(t: &[i32], i: usize, z: i32) -> bool
     ensures { λ r. ⌜ r ≡ eqZ (getD (now (t .entry)) i (pos 0)) z ⌝ }
