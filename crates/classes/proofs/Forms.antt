@@ -2,29 +2,30 @@
 use Prim.Native.Nat.{ℕ, _+_, _*_, _-_, _≤_, _<_, _^_}
 use native.Mathlib.Omega.{arith}
 use mathlib.Core.Path.{_≡_, refl, sym, _∙_, ap, ap₂}
+use mathlib.Core.Logic.{⊎-elim}
 use mathlib.Core.Bool.{Bool, true, false}
 use mathlib.Core.List.{List}
 use mathlib.Core.Option.{Option, none, some}
 use lib.Dec.{eqb, leb}
-use lib.IntN.{ℤ, pos, negℤ}
+use lib.IntN.{ℤ, pos}
 use lib.ListN.{getD}
 use lib.Signed.{leZ}
-use borrow.Author.Tests.{le-leb, lt-leb}
+use borrow.Author.Tests.{eqb-true, eqb-false}
 use Rattle.stab.specs.Basic.{if_then_else_, eqZ, within, nat}
 use Rattle.stab.specs.Formula.{Row, Op, Kind, constant, literal, junction, iteration, unknown, kindOf, Base, nothing, parameter, index, baseOf, tree, wellFormed}
-use Rattle.stab.proofs.Bools.{if-true, if-false, and-left, and-right}
+use Rattle.stab.proofs.Bools.{decide, if-true, if-false, and-left, and-right}
 use Rattle.stab.proofs.Whole.{atom, num, of-le, nonneg-minus, plus-nat, nat-pos, eqZ-of, eqZ-not}
 use Rattle.stab.proofs.Decoded.{tree-constant, tree-literal}
 use Rattle.formula.specs.Facts.{AllFormed}
 use Rattle.classes.specs.Class.{offLit, off, shiftCode, shiftOf, above, partCode, leftCode, rightCode, leadAs, leadOf, AllWorked}
-use Rattle.classes.specs.Key.{addedOf, lowAs, lowOf, highAs, highOf, formOf, smaller}
+use Rattle.classes.specs.Key.{addedOf, lowAs, lowOf, highAs, highOf, formOf, smaller, keptCode, literalForm, inOrder, junctionForm, iterationForm, keptFormAs, keptForm}
 use Rattle.classes.specs.declared.form.Form.{Form}
 use Rattle.classes.proofs.ByKind.{known, has-shift, symbol-within, base-within, added-offset, left-less, right-less, body-less, first-offset, off-iteration}
 use Rattle.classes.proofs.Least.{class-small}
 use Rattle.classes.proofs.Shifts.{Coded, offset-stands}
 use Rattle.classes.proofs.Keys.{shift-junction}
 
-form-same : {f g : Form} → f .shift ≡ g .shift → f .lead ≡ g .lead → f .low ≡ g .low → f .high ≡ g .high → f ≡ g
+pub form-same : {f g : Form} → f .shift ≡ g .shift → f .lead ≡ g .lead → f .low ≡ g .low → f .high ≡ g .high → f ≡ g
 form-same p q s t i = record { shift = p i; lead = q i; low = s i; high = t i }
 
 -- ---- what a literal is on
@@ -60,75 +61,92 @@ pub literal-off : (rows : ℕ → Row) (r : ℕ) (v : Bool) → kindOf (rows r .
 unfolding off
 literal-off rows r v e = ap off (tree-literal rows r v e)
 
-module _ (rows : ℕ → Row) (r : ℕ) {f : Form} where
+module _ (rows : ℕ → Row) (r : ℕ) where
   -- by its kind
-  form-as : (k : Kind) → kindOf (rows r .kind) ≡ k → f .shift ≡ shiftOf rows r → f .lead ≡ leadAs rows r k → f .low ≡ lowAs rows r k → f .high ≡ highAs rows r k → f ≡ formOf rows r
+  form-as : {f : Form} (k : Kind) → kindOf (rows r .kind) ≡ k → f .shift ≡ shiftOf rows r → f .lead ≡ leadAs rows r k → f .low ≡ lowAs rows r k → f .high ≡ highAs rows r k → f ≡ formOf rows r
   unfolding formOf leadOf lowOf highOf
   form-as k e p q s t = form-same p (q ∙ ap (leadAs rows r) (sym e)) (s ∙ ap (lowAs rows r) (sym e)) (t ∙ ap (highAs rows r) (sym e))
 
-  pub constant-form : (v : Bool) → kindOf (rows r .kind) ≡ constant v → f .shift ≡ 0 → f .lead ≡ r → f .low ≡ 0 → f .high ≡ 0 → f ≡ formOf rows r
-  unfolding shiftOf off shiftCode leadAs lowAs highAs
-  constant-form v e p q s t = form-as (constant v) e (p ∙ ap (λ (x : _). shiftCode (off x)) (sym (tree-constant rows r v e))) q s t
+  module _ (h : wellFormed rows r ≡ true) (v : Bool) (e : kindOf (rows r .kind) ≡ literal v) where
+    on-nothing : eqb (nat (rows r .b)) 0 ≡ true → literalForm r (rows r) ≡ formOf rows r
+    unfolding literalForm shiftOf offLit addedOf shiftCode leadAs lowAs highAs
+    on-nothing t =
+        let b = base-nothing (rows r .b) (rows r .c) (base-within rows r h v e) (eqb-true _ 0 t) in
+        if-true _ _ _ t
+        ∙ form-as (literal v) e
+        (ap (λ (x : Base). shiftCode (offLit x (rows r .c))) (sym b) ∙ ap shiftCode (sym (literal-off rows r v e)))
+        refl
+        refl
+        (ap (λ (x : Base). addedOf x (rows r .c)) (sym b))
 
-  module _ (v : Bool) (e : kindOf (rows r .kind) ≡ literal v) where
-    pub on-nothing : wellFormed rows r ≡ true → nat (rows r .b) ≡ 0 → f .shift ≡ 0 → f .lead ≡ r → f .low ≡ nat (rows r .a) → f .high ≡ shiftCode (some (rows r .c)) → f ≡ formOf rows r
-    unfolding shiftOf offLit addedOf shiftCode leadAs lowAs highAs
-    on-nothing h z p q s t =
-        let b = base-nothing (rows r .b) (rows r .c) (base-within rows r h v e) z in
-        form-as (literal v) e
-        (p ∙ ap (λ (x : Base). shiftCode (offLit x (rows r .c))) (sym b) ∙ ap shiftCode (sym (literal-off rows r v e)))
-        q s
-        (t ∙ ap (λ (x : Base). addedOf x (rows r .c)) (sym b))
+    on-other : eqb (nat (rows r .b)) 0 ≡ false → literalForm r (rows r) ≡ formOf rows r
+    unfolding literalForm shiftOf leadAs lowAs highAs
+    on-other t =
+        let z = eqb-false (nat (rows r .b)) 0 t in
+        if-false _ _ _ t
+        ∙ form-as (literal v) e
+        (ap shiftCode (sym (off-other (rows r .b) (rows r .c) z) ∙ sym (literal-off rows r v e)))
+        refl
+        refl
+        (sym (added-other (rows r .b) (rows r .c) z))
 
-    pub on-other : (nat (rows r .b) ≡ 0 → ⊥) → f .shift ≡ shiftCode (some (rows r .c)) → f .lead ≡ r → f .low ≡ nat (rows r .a) → f .high ≡ 0 → f ≡ formOf rows r
-    unfolding shiftOf leadAs lowAs highAs
-    on-other z p q s t =
-        form-as (literal v) e
-        (p ∙ ap shiftCode (sym (off-other (rows r .b) (rows r .c) z) ∙ sym (literal-off rows r v e)))
-        q s
-        (t ∙ sym (added-other (rows r .b) (rows r .c) z))
+    literal-form : literalForm r (rows r) ≡ formOf rows r
+    literal-form = ⊎-elim on-nothing on-other (decide (eqb (nat (rows r .b)) 0))
 
 here : (rows : ℕ → Row) (r : ℕ) → AllFormed rows (r + 1) → wellFormed rows r ≡ true
 here rows r formed = formed r (omega arith)
 
 module _ (rows : ℕ → Row) (r : ℕ) (few : r < 1024) (formed : AllFormed rows (r + 1)) (forms : List ℕ) (worked : AllWorked rows forms r) where
   -- the code of a part, by what is kept for it
-  pub known-code : (m a : ℕ) → a < r → getD forms (4 * a) 0 + 1024 * above m (getD forms (4 * a + 1) 0) ≡ partCode rows m a
-  unfolding partCode
+  known-code : (m a : ℕ) → a < r → keptCode forms m a ≡ partCode rows m a
+  unfolding keptCode partCode
   known-code m a l = ap₂ (λ (c p : ℕ). c + 1024 * above m p) (worked a l .class) (worked a l .shift)
 
   module _ (o : Op) (e : kindOf (rows r .kind) ≡ junction o) where
-    pub known-shift : smaller (getD forms (4 * nat (rows r .a) + 1) 0) (getD forms (4 * nat (rows r .b) + 1) 0) ≡ shiftOf rows r
-    known-shift =
-        ap₂ smaller (worked _ (left-less rows r (here rows r formed) o e) .shift) (worked _ (right-less rows r (here rows r formed) o e) .shift)
-        ∙ sym (shift-junction rows (r + 1) formed (omega arith) r (omega arith) o e)
+    left-known : nat (rows r .a) < r
+    left-known = left-less rows r (here rows r formed) o e
 
-    -- the codes of both parts, in terms of the row's shift
-    module _ {m x y : ℕ} (em : m ≡ shiftOf rows r) (ex : x ≡ partCode rows m (nat (rows r .a))) (ey : y ≡ partCode rows m (nat (rows r .b))) where
-      left-code : x ≡ leftCode rows r
-      left-code = ex ∙ ap (λ (w : ℕ). partCode rows w (nat (rows r .a))) em
+    right-known : nat (rows r .b) < r
+    right-known = right-less rows r (here rows r formed) o e
 
-      right-code : y ≡ rightCode rows r
-      right-code = ey ∙ ap (λ (w : ℕ). partCode rows w (nat (rows r .b))) em
+    known-shift : smaller (getD forms (4 * nat (rows r .a) + 1) 0) (getD forms (4 * nat (rows r .b) + 1) 0) ≡ shiftOf rows r
+    known-shift = ap₂ smaller (worked _ left-known .shift) (worked _ right-known .shift) ∙ sym (shift-junction rows (r + 1) formed (omega arith) r (omega arith) o e)
 
-      pub left-leads : {f : Form} → x ≤ y → f .shift ≡ m → f .lead ≡ nat (rows r .a) → f .low ≡ x → f .high ≡ y → f ≡ formOf rows r
-      unfolding leadAs lowAs highAs
-      left-leads l p q s t =
-          let b : leb (leftCode rows r) (rightCode rows r) ≡ true = le-leb (leftCode rows r) (rightCode rows r) (omega (arith, left-code, right-code)) in
-          form-as rows r (junction o) e (p ∙ em) (q ∙ sym (if-true _ _ _ b)) (s ∙ left-code ∙ sym (if-true _ _ _ b)) (t ∙ right-code ∙ sym (if-true _ _ _ b))
+    -- the parts with their codes, in terms of the row's shift
+    abbrev pair : ℕ → ℕ → ℕ → Form
+    pair m x y = inOrder m (nat (rows r .a)) (nat (rows r .b)) x y
 
-      pub right-leads : {f : Form} → y < x → f .shift ≡ m → f .lead ≡ nat (rows r .b) → f .low ≡ y → f .high ≡ x → f ≡ formOf rows r
-      unfolding leadAs lowAs highAs
-      right-leads l p q s t =
-          let b : leb (leftCode rows r) (rightCode rows r) ≡ false = lt-leb (leftCode rows r) (rightCode rows r) (omega (arith, left-code, right-code)) in
-          form-as rows r (junction o) e (p ∙ em) (q ∙ sym (if-false _ _ _ b)) (s ∙ right-code ∙ sym (if-false _ _ _ b)) (t ∙ left-code ∙ sym (if-false _ _ _ b))
+    ordered-form : pair (shiftOf rows r) (leftCode rows r) (rightCode rows r) ≡ formOf rows r
+    unfolding inOrder leadAs lowAs highAs
+    ordered-form =
+        ⊎-elim
+        (λ t. if-true _ _ _ t ∙ form-as rows r (junction o) e refl (sym (if-true _ _ _ t)) (sym (if-true _ _ _ t)) (sym (if-true _ _ _ t)))
+        (λ t. if-false _ _ _ t ∙ form-as rows r (junction o) e refl (sym (if-false _ _ _ t)) (sym (if-false _ _ _ t)) (sym (if-false _ _ _ t)))
+        (decide (leb (leftCode rows r) (rightCode rows r)))
 
-  module _ (o : Op) (e : kindOf (rows r .kind) ≡ iteration o) where
-    pub iteration-form : {f : Form} → f .shift ≡ shiftCode (some (negℤ (rows r .c))) → f .lead ≡ r → f .low ≡ getD forms (4 * nat (rows r .a)) 0 + 1024 * getD forms (4 * nat (rows r .a) + 1) 0 → f .high ≡ shiftCode (some (rows r .b)) → f ≡ formOf rows r
-    unfolding shiftOf leadAs lowAs highAs
-    iteration-form p q s t =
-        let w = worked _ (body-less rows r (here rows r formed) o e) in
-        form-as rows r (iteration o) e (p ∙ ap shiftCode (sym (off-iteration rows r (here rows r formed) o e))) q (s ∙ ap₂ (λ (c x : ℕ). c + 1024 * x) (w .class) (w .shift)) t
+    junction-form : junctionForm (rows r) forms ≡ formOf rows r
+    unfolding junctionForm
+    junction-form =
+        ap (λ (m : ℕ). pair m (keptCode forms m (nat (rows r .a))) (keptCode forms m (nat (rows r .b)))) known-shift
+        ∙ ap₂ (pair (shiftOf rows r)) (known-code _ _ left-known) (known-code _ _ right-known)
+        ∙ ordered-form
+
+  iteration-form : (o : Op) → kindOf (rows r .kind) ≡ iteration o → iterationForm r (rows r) forms ≡ formOf rows r
+  unfolding iterationForm shiftOf leadAs lowAs highAs
+  iteration-form o e =
+      let w = worked _ (body-less rows r (here rows r formed) o e) in
+      form-as rows r (iteration o) e (ap shiftCode (sym (off-iteration rows r (here rows r formed) o e))) refl (ap₂ (λ (c x : ℕ). c + 1024 * x) (w .class) (w .shift)) refl
+
+  kept-as : (k : Kind) → kindOf (rows r .kind) ≡ k → keptFormAs r (rows r) forms k ≡ formOf rows r
+  unfolding keptFormAs shiftOf off shiftCode leadAs lowAs highAs
+  kept-as (constant v) e = form-as rows r (constant v) e (ap (λ (x : _). shiftCode (off x)) (sym (tree-constant rows r v e))) refl refl refl
+  kept-as (literal v) e = literal-form rows r (here rows r formed) v e
+  kept-as (junction o) e = junction-form o e
+  kept-as (iteration o) e = iteration-form o e
+  kept-as unknown e = absurd (known rows r (here rows r formed) e)
+
+  pub kept-form : keptForm r (rows r) forms ≡ formOf rows r
+  kept-form = kept-as (kindOf (rows r .kind)) refl
 
 -- ---- the numbers are small
 

@@ -1,5 +1,5 @@
 -- Shifts as numbers.
-use Prim.Native.Nat.{ℕ, zero, suc, _+_, _-_, _≤_, _<_}
+use Prim.Native.Nat.{ℕ, zero, suc, _+_, _-_, _≤_, _<_, _^_}
 use native.Mathlib.Omega.{arith}
 use mathlib.Core.Path.{_≡_, refl, sym, _∙_, ap}
 use mathlib.Core.Logic.{⊎-elim}
@@ -7,12 +7,15 @@ use mathlib.Core.Bool.{Bool, true, false}
 use mathlib.Core.Option.{Option, none, some}
 use lib.Dec.{leb}
 use lib.IntN.{ℤ, pos, negℤ, _+ℤ_, _-ℤ_}
-use lib.Signed.{leZ}
+use lib.Signed.{mag, leZ}
+use mir.Syntax.{w32}
+use mir.Val.{ofZ, toZ, hbits}
 use borrow.Author.Tests.{eq-eqb, ne-eqb, le-leb, lt-leb, leb-true, leb-false}
 use Rattle.stab.specs.Basic.{if_then_else_, nat}
 use Rattle.stab.specs.Formula.{offset}
 use Rattle.stab.proofs.Bools.{decide, if-true, if-false}
 use Rattle.stab.proofs.Whole.{plus, minus, atom, num, _⊕_, _⊖_, less, parts, eq-of, of-eq, le-of, of-le, of-not-le, plus-nat, minus-nat, nonneg-minus}
+use Rattle.signed.proofs.Signs.{read-back}
 use Rattle.formula.proofs.RowLaws.{offset-small}
 use Rattle.classes.specs.Class.{lesser, orZero, shiftCode, above}
 use Rattle.classes.specs.Key.{smaller}
@@ -47,6 +50,10 @@ limit-stands z h =
     let o = offset-small z h in
     let s = parts (less (atom z)) in
     stands-of (negℤ z) (omega (arith, minus-nat z)) (omega (arith, plus-nat z))
+
+-- the same number, read back
+pub offset-read : (z : ℤ) → mag z < 2 ^ hbits w32 → offset z ≡ true → offset (toZ w32 (ofZ w32 z)) ≡ true
+offset-read z l h = ap offset (read-back z l) ∙ h
 
 -- as the code works them out
 pub raised-is : (z : ℤ) → offset z ≡ true → nat z + 10000 - nat (negℤ z) ≡ shiftCode (some z)

@@ -1,16 +1,17 @@
 -- The key of a row: its kind and two numbers that decide its class, made of what is known of smaller rows. Two well-formed rows
 -- have the same key exactly if they are akin.
-use Prim.Native.Nat.{ℕ, zero, suc, _+_, _*_, _%_, _<_}
+use Prim.Native.Nat.{ℕ, zero, suc, _+_, _*_, _/_, _<_}
 use mathlib.Core.Path.{_≡_}
-use mathlib.Core.Bool.{Bool}
+use mathlib.Core.Bool.{Bool, true}
 use mathlib.Core.List.{List}
 use mathlib.Core.Option.{some}
 use lib.Dec.{eqb, leb}
-use lib.IntN.{ℤ}
+use lib.IntN.{ℤ, negℤ}
 use lib.ListN.{getD, set}
 use Rattle.stab.specs.Basic.{if_then_else_, nat}
-use Rattle.stab.specs.Formula.{Row, Kind, constant, literal, junction, iteration, unknown, kindOf, Base, nothing, parameter, index, baseOf}
-use Rattle.classes.specs.Class.{shiftCode, classOf, shiftOf, leftCode, rightCode, leadOf, AllWorked}
+use Rattle.stab.specs.Formula.{Row, Kind, constant, literal, junction, iteration, unknown, kindOf, Base, nothing, parameter, index, baseOf, wellFormed}
+use Rattle.formula.specs.Spread.{spreadOf}
+use Rattle.classes.specs.Class.{shiftCode, above, classOf, shiftOf, leftCode, rightCode, leadOf, AllWorked}
 use Rattle.classes.specs.declared.form.Form.{Form}
 
 -- what is added to nothing, and 0 for a literal on n or i
@@ -51,9 +52,65 @@ smaller p q = if eqb p 0 then q else if eqb q 0 then p else if leb p q then p el
 unfoldable pub fitting : ℕ → ℕ → ℕ → ℕ → Bool
 fitting up down p q = if eqb p 0 then eqb q 0 else eqb (q + up) (p + down)
 
--- where rows with such a key are looked for. 1021 is a prime, so that shifts count too.
+-- ---- the numbers of row r by its columns w and by what is kept for smaller rows
+
+-- the code of a part a in a row whose shift is m
+unfoldable pub keptCode : List ℕ → ℕ → ℕ → ℕ
+keptCode forms m a = getD forms (4 * a) 0 + 1024 * above m (getD forms (4 * a + 1) 0)
+
+-- a literal: what is added is the shift, unless it is added to nothing
+unfoldable pub literalForm : ℕ → Row → Form
+literalForm r w =
+    if eqb (nat (w .b)) 0
+    then record { shift = 0; lead = r; low = nat (w .a); high = shiftCode (some (w .c)) }
+    else record { shift = shiftCode (some (w .c)); lead = r; low = nat (w .a); high = 0 }
+
+-- an and or an or with the shift m and the parts a and b, whose codes are x and y
+unfoldable pub inOrder : ℕ → ℕ → ℕ → ℕ → ℕ → Form
+inOrder m a b x y =
+    if leb x y
+    then record { shift = m; lead = a; low = x; high = y }
+    else record { shift = m; lead = b; low = y; high = x }
+
+unfoldable pub junctionForm : Row → List ℕ → Form
+junctionForm w forms =
+    let a = nat (w .a) in
+    let b = nat (w .b) in
+    let m = smaller (getD forms (4 * a + 1) 0) (getD forms (4 * b + 1) 0) in
+    inOrder m a b (keptCode forms m a) (keptCode forms m b)
+
+-- an iteration
+unfoldable pub iterationForm : ℕ → Row → List ℕ → Form
+iterationForm r w forms =
+    record {
+      shift = shiftCode (some (negℤ (w .c)));
+      lead = r;
+      low = getD forms (4 * nat (w .a)) 0 + 1024 * getD forms (4 * nat (w .a) + 1) 0;
+      high = shiftCode (some (w .b));
+    }
+
+-- by its kind
+unfoldable pub keptFormAs : ℕ → Row → List ℕ → Kind → Form
+keptFormAs r w forms (constant v) = record { shift = 0; lead = r; low = 0; high = 0 }
+keptFormAs r w forms (literal v) = literalForm r w
+keptFormAs r w forms (junction o) = junctionForm w forms
+keptFormAs r w forms (iteration o) = iterationForm r w forms
+keptFormAs r w forms unknown = record { shift = 0; lead = r; low = 0; high = 0 }
+
+abbrev pub keptForm : ℕ → Row → List ℕ → Form
+keptForm r w forms = keptFormAs r w forms (kindOf (w .kind))
+
+-- w is row r of some rows, and well formed among them
+pub record FormedAt (r : ℕ) (w : Row) : Type 0 where
+  pub rows : ℕ → Row
+  pub row : rows r ≡ w
+  pub formed : wellFormed rows r ≡ true
+
+-- ---- rows of one hash
+
+-- where rows with such a key are looked for: one of 2,048 places, by the high bits
 abbrev pub hashOf : ℕ → ℕ → ℕ → ℕ
-hashOf kind low high = (kind + low + 37 * high) % 1021
+hashOf kind low high = spreadOf low high kind 0 / 524288
 
 unfoldable pub hashAt : (ℕ → Row) → ℕ → ℕ
 hashAt rows r = hashOf (nat (rows r .kind)) (lowOf rows r) (highOf rows r)
@@ -73,7 +130,7 @@ pub record Listed (rows : ℕ → Row) (forms sides : List ℕ) (r : ℕ) : Type
 pub record Done (rows : ℕ → Row) (forms sides heads : List ℕ) (n : ℕ) : Type 0 where
   pub worked : AllWorked rows forms n
   pub listed : (r : ℕ) → r < n → Listed rows forms sides r
-  pub latest-of : (h : ℕ) → h < 1021 → getD heads h 0 ≡ latest rows h n
+  pub latest-of : (h : ℕ) → h < 2048 → getD heads h 0 ≡ latest rows h n
 
 -- the tables with the numbers of row r
 unfoldable pub formsWith : List ℕ → ℕ → ℕ → Form → ℕ → List ℕ

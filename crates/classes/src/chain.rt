@@ -3,6 +3,7 @@ use crate::form::Form;
 use formula::KIND;
 use formula::kept::kept_at;
 use formula::natural_in;
+use formula::spread::spread;
 ghost use mathlib.Core.Path.{_≡_};
 ghost use Prim.Native.Nat.{_+_, _*_, _<_, _^_};
 ghost use lib.Dec.{eqb};
@@ -17,7 +18,7 @@ pub fn hash(kind: usize, low: usize, high: usize) -> usize
     requires { ⌜ (kind < 2 ^ 32) × (low < 2 ^ 32) × (high < 2 ^ 32) ⌝ }
     ensures { λ v. ⌜ v ≡ hashOf kind low high ⌝ }
 {
-    (kind + low + 37 * high) % 1021
+    spread(low, high, kind, 0) / 524288
 }
 
 // Row q has that key.
@@ -43,6 +44,16 @@ fn has_key(
     kept_at(sides, 2 * q + 1) == high
 }
 
+// What is kept at i, and 0 past the end.
+fn number_at(t: &[u16], i: usize) -> usize
+    ensures { λ r. ⌜ r ≡ getD (now (t .entry)) i 0 ⌝ }
+{
+    if i < t.len() {
+        return t[i] as usize;
+    }
+    0
+}
+
 // The class of row r, whose kind is given, whose numbers are f and whose hash is h: that of an earlier row with its key, else its
 // own number.
 pub fn class_of(
@@ -55,7 +66,7 @@ pub fn class_of(
     h: usize,
     forms: &[u32],
     sides: &[u32],
-    heads: &[u32],
+    heads: &[u16],
 ) -> usize
     requires { ⌜ (r < 1024) × (kind ≡ nat (joined (now schema) s (now proof) r .kind)) ⌝ }
     requires { ⌜ AllFormed (joined (now schema) s (now proof)) (r + 1) ⌝ }
@@ -63,7 +74,7 @@ pub fn class_of(
     requires { ⌜ (f ≡ formOf (joined (now schema) s (now proof)) r) × (h ≡ hashAt (joined (now schema) s (now proof)) r) ⌝ }
     ensures { λ v. ⌜ v ≡ classOf (joined (now (schema .entry)) s (now (proof .entry))) r ⌝ }
 {
-    let mut next = kept_at(heads, h);
+    let mut next = number_at(heads, h);
     while 0 < next {
         let q = next - 1;
         if has_key(schema, s, proof, sides, q, kind, f.low, f.high) {
@@ -82,7 +93,7 @@ pub fn keep(
     f: Form,
     forms: &mut [u32],
     sides: &mut [u32],
-    heads: &mut [u32],
+    heads: &mut [u16],
 )
     requires { ⌜ (r < 1024) × (4 * r + 3 < length (now forms)) × (2 * r + 1 < length (now sides)) × (h < length (now heads)) ⌝ }
     requires { ⌜ (class < 2 ^ 32) × (f .shift < 2 ^ 32) × (f .lead < 2 ^ 32) × (f .low < 2 ^ 32) × (f .high < 2 ^ 32) ⌝ }
@@ -94,9 +105,9 @@ pub fn keep(
     forms[i] = class as u32;
     forms[i + 1] = f.shift as u32;
     forms[i + 2] = f.lead as u32;
-    forms[i + 3] = heads[h];
+    forms[i + 3] = heads[h] as u32;
     let k = 2 * r;
     sides[k] = f.low as u32;
     sides[k + 1] = f.high as u32;
-    heads[h] = (r + 1) as u32;
+    heads[h] = (r + 1) as u16;
 }

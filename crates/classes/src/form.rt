@@ -1,22 +1,17 @@
 // The numbers of one row, by what is kept for smaller rows.
-use formula::A;
-use formula::B;
-use formula::C;
+use formula::cells::Cells;
 use formula::kept::kept_at;
-use formula::natural_in;
-use formula::under_in;
 ghost use mathlib.Core.Path.{_≡_};
-ghost use mathlib.Core.Bool.{Bool, true};
+ghost use mathlib.Core.Bool.{true};
 ghost use mathlib.Core.Option.{some};
-ghost use Prim.Native.Nat.{_+_, _*_, _<_, _≤_, _^_};
+ghost use Prim.Native.Nat.{_+_, _*_, _<_, _≤_};
 ghost use lib.IntN.{negℤ};
 ghost use lib.ListN.{getD};
 ghost use Rattle.stab.specs.Basic.{nat};
-ghost use Rattle.stab.specs.Formula.{Op, joined, kindOf, literal, junction, iteration, offset};
-ghost use Rattle.formula.specs.Column.{column};
-ghost use Rattle.formula.specs.Facts.{AllFormed};
-ghost use Rattle.classes.specs.Class.{shiftCode, above, AllWorked};
-ghost use Rattle.classes.specs.Key.{formOf, smaller};
+ghost use Rattle.stab.specs.Formula.{offset};
+ghost use Rattle.formula.specs.Cells.{rowOf};
+ghost use Rattle.classes.specs.Class.{shiftCode};
+ghost use Rattle.classes.specs.Key.{smaller, keptCode, literalForm, junctionForm, iterationForm, FormedAt, keptForm};
 
 // The shift, 0 where there is none; the leading part; and the two numbers that, with the kind, decide the class.
 pub struct Form {
@@ -26,22 +21,20 @@ pub struct Form {
     pub high: usize,
 }
 
-// Column k of row r as a shift.
-fn raised(schema: &[i32], s: usize, proof: &[i32], r: usize, k: usize) -> usize
-    requires { ⌜ (r < 2 ^ 32) × (k < 4) ⌝ }
-    requires { ⌜ offset (column (joined (now schema) s (now proof) r) k) ≡ true ⌝ }
-    ensures { λ v. ⌜ v ≡ shiftCode (some (column (joined (now (schema .entry)) s (now (proof .entry)) r) k)) ⌝ }
+// A column as a shift.
+fn raised(z: i32) -> usize
+    requires { ⌜ offset z ≡ true ⌝ }
+    ensures { λ v. ⌜ v ≡ shiftCode (some z) ⌝ }
 {
-    natural_in(schema, s, proof, r, k) + 10000 - under_in(schema, s, proof, r, k)
+    signed::natural(z) + 10000 - signed::under(z)
 }
 
 // The same of what it is taken from 0.
-fn mirrored(schema: &[i32], s: usize, proof: &[i32], r: usize, k: usize) -> usize
-    requires { ⌜ (r < 2 ^ 32) × (k < 4) ⌝ }
-    requires { ⌜ offset (column (joined (now schema) s (now proof) r) k) ≡ true ⌝ }
-    ensures { λ v. ⌜ v ≡ shiftCode (some (negℤ (column (joined (now (schema .entry)) s (now (proof .entry)) r) k))) ⌝ }
+fn mirrored(z: i32) -> usize
+    requires { ⌜ offset z ≡ true ⌝ }
+    ensures { λ v. ⌜ v ≡ shiftCode (some (negℤ z)) ⌝ }
 {
-    under_in(schema, s, proof, r, k) + 10000 - natural_in(schema, s, proof, r, k)
+    signed::under(z) + 10000 - signed::natural(z)
 }
 
 fn smaller(p: usize, q: usize) -> usize
@@ -60,7 +53,7 @@ fn smaller(p: usize, q: usize) -> usize
 fn code(forms: &[u32], a: usize, m: usize) -> usize
     requires { ⌜ a < 1024 ⌝ }
     requires { ⌜ (1 ≤ getD (now forms) (4 * a + 1) 0 → m ≤ getD (now forms) (4 * a + 1) 0) ⌝ }
-    ensures { λ v. ⌜ v ≡ getD (now (forms .entry)) (4 * a) 0 + 1024 * above m (getD (now (forms .entry)) (4 * a + 1) 0) ⌝ }
+    ensures { λ v. ⌜ v ≡ keptCode (now (forms .entry)) m a ⌝ }
 {
     let class = kept_at(forms, 4 * a);
     let shift = kept_at(forms, 4 * a + 1);
@@ -70,14 +63,13 @@ fn code(forms: &[u32], a: usize, m: usize) -> usize
     class + 1024 * (shift - m)
 }
 
-fn literal(schema: &[i32], s: usize, proof: &[i32], r: usize) -> Form
-    requires { ⌜ (r < 1024) × ((v : Bool) × (kindOf (joined (now schema) s (now proof) r .kind) ≡ literal v)) ⌝ }
-    requires { ⌜ AllFormed (joined (now schema) s (now proof)) (r + 1) ⌝ }
-    ensures { λ v. ⌜ v ≡ formOf (joined (now (schema .entry)) s (now (proof .entry))) r ⌝ }
+fn literal(w: Cells, r: usize) -> Form
+    requires { ⌜ offset (w .c) ≡ true ⌝ }
+    ensures { λ v. ⌜ v ≡ literalForm r (rowOf w) ⌝ }
 {
-    let symbol = natural_in(schema, s, proof, r, A);
-    let added = raised(schema, s, proof, r, C);
-    if natural_in(schema, s, proof, r, B) == 0 {
+    let symbol = signed::natural(w.a);
+    let added = raised(w.c);
+    if signed::natural(w.b) == 0 {
         return Form {
             shift: 0,
             lead: r,
@@ -94,14 +86,12 @@ fn literal(schema: &[i32], s: usize, proof: &[i32], r: usize) -> Form
 }
 
 // An and or an or: the parts' codes, in order.
-fn junction(schema: &[i32], s: usize, proof: &[i32], r: usize, forms: &[u32]) -> Form
-    requires { ⌜ (r < 1024) × ((o : Op) × (kindOf (joined (now schema) s (now proof) r .kind) ≡ junction o)) ⌝ }
-    requires { ⌜ AllFormed (joined (now schema) s (now proof)) (r + 1) ⌝ }
-    requires { ⌜ AllWorked (joined (now schema) s (now proof)) (now forms) r ⌝ }
-    ensures { λ v. ⌜ v ≡ formOf (joined (now (schema .entry)) s (now (proof .entry))) r ⌝ }
+fn junction(w: Cells, forms: &[u32]) -> Form
+    requires { ⌜ (nat (w .a) < 1024) × (nat (w .b) < 1024) ⌝ }
+    ensures { λ v. ⌜ v ≡ junctionForm (rowOf w) (now (forms .entry)) ⌝ }
 {
-    let a = natural_in(schema, s, proof, r, A);
-    let b = natural_in(schema, s, proof, r, B);
+    let a = signed::natural(w.a);
+    let b = signed::natural(w.b);
     let shift = smaller(kept_at(forms, 4 * a + 1), kept_at(forms, 4 * b + 1));
     let left = code(forms, a, shift);
     let right = code(forms, b, shift);
@@ -122,31 +112,27 @@ fn junction(schema: &[i32], s: usize, proof: &[i32], r: usize, forms: &[u32]) ->
 }
 
 // An iteration: its body's class and shift, and where its range starts.
-fn iteration(schema: &[i32], s: usize, proof: &[i32], r: usize, forms: &[u32]) -> Form
-    requires { ⌜ (r < 1024) × ((o : Op) × (kindOf (joined (now schema) s (now proof) r .kind) ≡ iteration o)) ⌝ }
-    requires { ⌜ AllFormed (joined (now schema) s (now proof)) (r + 1) ⌝ }
-    requires { ⌜ AllWorked (joined (now schema) s (now proof)) (now forms) r ⌝ }
-    ensures { λ v. ⌜ v ≡ formOf (joined (now (schema .entry)) s (now (proof .entry))) r ⌝ }
+fn iteration(w: Cells, r: usize, forms: &[u32]) -> Form
+    requires { ⌜ (nat (w .a) < 1024) × (offset (w .b) ≡ true) × (offset (w .c) ≡ true) ⌝ }
+    ensures { λ v. ⌜ v ≡ iterationForm r (rowOf w) (now (forms .entry)) ⌝ }
 {
-    let body = natural_in(schema, s, proof, r, A);
+    let body = signed::natural(w.a);
     let class = kept_at(forms, 4 * body);
     let shift = kept_at(forms, 4 * body + 1);
     let low = class + 1024 * shift;
-    let high = raised(schema, s, proof, r, B);
+    let high = raised(w.b);
     Form {
-        shift: mirrored(schema, s, proof, r, C),
+        shift: mirrored(w.c),
         lead: r,
         low,
         high,
     }
 }
 
-// Those of row r, whose kind is given.
-pub fn of_row(schema: &[i32], s: usize, proof: &[i32], r: usize, kind: usize, forms: &[u32]) -> Form
-    requires { ⌜ (r < 1024) × (kind ≡ nat (joined (now schema) s (now proof) r .kind)) ⌝ }
-    requires { ⌜ AllFormed (joined (now schema) s (now proof)) (r + 1) ⌝ }
-    requires { ⌜ AllWorked (joined (now schema) s (now proof)) (now forms) r ⌝ }
-    ensures { λ v. ⌜ v ≡ formOf (joined (now (schema .entry)) s (now (proof .entry))) r ⌝ }
+// Those of row r, whose columns are w and whose kind is given.
+pub fn of_row(w: Cells, r: usize, kind: usize, forms: &[u32]) -> Form
+    requires { ⌜ (r < 1024) × (kind ≡ nat (w .kind)) × FormedAt r (rowOf w) ⌝ }
+    ensures { λ v. ⌜ v ≡ keptForm r (rowOf w) (now (forms .entry)) ⌝ }
 {
     if kind < 2 {
         return Form {
@@ -157,10 +143,10 @@ pub fn of_row(schema: &[i32], s: usize, proof: &[i32], r: usize, kind: usize, fo
         };
     }
     if kind < 4 {
-        return literal(schema, s, proof, r);
+        return literal(w, r);
     }
     if kind < 6 {
-        return junction(schema, s, proof, r, forms);
+        return junction(w, forms);
     }
-    iteration(schema, s, proof, r, forms)
+    iteration(w, r, forms)
 }

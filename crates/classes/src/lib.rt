@@ -3,8 +3,7 @@ mod chain;
 pub mod compare;
 mod form;
 
-use formula::KIND;
-use formula::natural_in;
+use formula::cells;
 ghost use mathlib.Core.Path.{_≡_};
 ghost use Prim.Native.Nat.{ℕ, _+_, _*_, _<_, _≤_};
 ghost use lib.ListN.{length, getD};
@@ -21,22 +20,23 @@ fn step(
     r: usize,
     forms: &mut [u32],
     sides: &mut [u32],
-    heads: &mut [u32],
+    heads: &mut [u16],
 )
-    requires { ⌜ (r < 1024) × (4 * r + 3 < length (now forms)) × (2 * r + 1 < length (now sides)) × (1021 ≤ length (now heads)) ⌝ }
+    requires { ⌜ (r < 1024) × (4 * r + 3 < length (now forms)) × (2 * r + 1 < length (now sides)) × (2048 ≤ length (now heads)) ⌝ }
     requires { ⌜ AllFormed (joined (now schema) s (now proof)) (r + 1) ⌝ }
     requires { ⌜ Done (joined (now schema) s (now proof)) (now forms) (now sides) (now heads) r ⌝ }
     ensures { λ _. ⌜ Done (joined (now (schema .entry)) s (now (proof .entry))) (now (forms .exit)) (now (sides .exit)) (now (heads .exit)) (r + 1) ⌝ }
 {
-    let kind = natural_in(schema, s, proof, r, KIND);
-    let f = form::of_row(schema, s, proof, r, kind, forms);
+    let w = cells::of_row(schema, s, proof, r);
+    let kind = signed::natural(w.kind);
+    let f = form::of_row(w, r, kind, forms);
     let h = chain::hash(kind, f.low, f.high);
     let class = chain::class_of(schema, s, proof, r, kind, f, h, forms, sides, heads);
     chain::keep(r, h, class, f, forms, sides, heads);
 }
 
 // The class, the shift and the leading part of each of n well-formed rows. What is lent: four numbers a row, which keep them;
-// two numbers a row and 1,021 numbers, of which the latter are 0.
+// two numbers a row and 2,048 numbers, of which the latter are 0.
 pub fn work_out(
     schema: &[i32],
     s: usize,
@@ -44,10 +44,10 @@ pub fn work_out(
     n: usize,
     forms: &mut [u32],
     sides: &mut [u32],
-    heads: &mut [u32],
+    heads: &mut [u16],
 )
-    requires { ⌜ (n ≤ 1024) × (4 * n ≤ length (now forms)) × (2 * n ≤ length (now sides)) × (1021 ≤ length (now heads)) ⌝ }
-    requires { ⌜ ((h : ℕ) → h < 1021 → getD (now heads) h 0 ≡ 0) ⌝ }
+    requires { ⌜ (n ≤ 1024) × (4 * n ≤ length (now forms)) × (2 * n ≤ length (now sides)) × (2048 ≤ length (now heads)) ⌝ }
+    requires { ⌜ ((h : ℕ) → h < 2048 → getD (now heads) h 0 ≡ 0) ⌝ }
     requires { ⌜ AllFormed (joined (now schema) s (now proof)) n ⌝ }
     ensures { λ _. ⌜ AllWorked (joined (now (schema .entry)) s (now (proof .entry))) (now (forms .exit)) n ⌝ }
 {

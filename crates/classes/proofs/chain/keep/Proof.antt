@@ -48,6 +48,9 @@ mul-forms-4 c = search needs
 slice-read-forms : tie.Need-slice-read-forms
 slice-read-forms c = search needs
 
+cast-forms-4 : tie.Need-cast-forms-4
+cast-forms-4 c = omega (arith, c .slice-known .given (c .before .before .before .args .h))
+
 add-forms-3 : tie.Need-add-forms-3
 add-forms-3 c = search needs
 
@@ -124,6 +127,7 @@ keep-spec =
     slice-write-forms-3
     mul-forms-4
     slice-read-forms
+    cast-forms-4
     add-forms-3
     mul-forms-5
     slice-write-forms-4

@@ -3,6 +3,7 @@ use Prim.Native.Nat.{_+_, _*_}
 use mathlib.Core.Path.{sym, _∙_}
 use borrow.Author.Needs.{needs}
 use lib.ListN.{getD}
+use Rattle.classes.specs.Key.{keptCode}
 use Rattle.classes.proofs.Shifts.{above-none, above-some}
 use Rattle.classes.proofs.form.code.Statement.{statement}
 use Rattle.classes.proofs.form.code.Tie as tie
@@ -29,6 +30,7 @@ add-result : tie.Need-add-result
 add-result c = search needs
 
 returns : tie.Need-returns
+unfolding keptCode
 returns c =
     let e = above-none (c .before .before .before .before .args .m) _ (sym (c .before .kept-at2 .ensures .0) ∙ c .if1 .taken) in
     omega (arith, c .before .before .kept-at .ensures .0)
@@ -45,6 +47,7 @@ add-result-2 : tie.Need-add-result-2
 add-result-2 c = search needs
 
 returns-2 : tie.Need-returns-2
+unfolding keptCode
 returns-2 c =
     let b = c .before .before .before .before .args in
     let e = above-some (b .m) (getD (b .forms .now) (4 * b .a + 1) 0) (omega (arith, c .before .kept-at2 .ensures .0, c .if1 .left)) in

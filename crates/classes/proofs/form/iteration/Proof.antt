@@ -1,23 +1,32 @@
 use native.Mathlib.Omega.{arith}
 use Prim.Native.Nat.{ℕ, _+_, _*_, _<_}
-use mathlib.Core.Path.{refl, _∙_, ap, ap₂}
-use borrow.Author.Needs.{needs}
+use mathlib.Core.Path.{_≡_, refl, _∙_, ap, ap₂}
+use mathlib.Core.Option.{some}
+use lib.IntN.{ℤ, negℤ}
 use lib.ListN.{getD}
-use Rattle.formula.specs.Column.{column}
-use Rattle.classes.proofs.ByKind.{body-less, first-offset, limit-offset}
-use Rattle.classes.proofs.Forms.{iteration-form}
+use borrow.Author.Needs.{needs}
+use Rattle.stab.specs.Basic.{nat}
+use Rattle.signed.proofs.Signs.{read-back}
+use Rattle.formula.specs.Cells.{rowOf}
+use Rattle.classes.specs.Class.{shiftCode}
+use Rattle.classes.specs.Key.{iterationForm}
+use Rattle.classes.proofs.Shifts.{offset-read}
+use Rattle.classes.proofs.Forms.{form-same}
 use Rattle.classes.proofs.form.iteration.Statement.{statement}
 use Rattle.classes.proofs.form.iteration.Tie as tie
 
--- the body is a smaller row
-body-small : (c : tie.After-natural-in) → c .natural-in .result < 1024
-unfolding column
-body-small c =
-    let b = c .before .before in
-    omega (arith, c .natural-in .ensures, body-less _ (b .args .r) (b .pre .1 .0 (b .args .r) (omega arith)) _ (b .pre .0 .1 .1))
+-- where the body has been read
+abbrev start : tie.After-natural → tie.Start
+start c = c .before .before .before
 
-natural-in-requires : tie.Need-natural-in-requires
-natural-in-requires c κs = search needs
+body-is : (c : tie.After-natural) → c .natural .result ≡ nat (start c .args .w .a)
+body-is c = c .natural .ensures ∙ ap nat (read-back (start c .args .w .a) (c .before .struct-told .given .1 .0 .1))
+
+body-small : (c : tie.After-natural) → c .natural .result < 1024
+body-small c = omega (arith, body-is c, start c .pre .0)
+
+natural-requires : tie.Need-natural-requires
+natural-requires c κs = search needs
 
 mul-kept-at : tie.Need-mul-kept-at
 mul-kept-at c = omega (arith, body-small c)
@@ -41,34 +50,30 @@ add-low : tie.Need-add-low
 add-low c = omega (arith, body-small (c .before .before), c .before .kept-at .ensures .1, c .kept-at2 .ensures .1)
 
 raised-requires : tie.Need-raised-requires
-unfolding column
-raised-requires c κs =
-    let b = c .before .before .before .before in
-    ((omega arith, omega arith), first-offset _ _ (b .pre .1 .0 (b .args .r) (omega arith)) _ (b .pre .0 .1 .1))
+raised-requires c κs = search (needs, offset-read)
 
 mirrored-requires : tie.Need-mirrored-requires
-unfolding column
-mirrored-requires c κs =
-    let b = c .before .before .before .before .before in
-    ((omega arith, omega arith), limit-offset _ _ (b .pre .1 .0 (b .args .r) (omega arith)) _ (b .pre .0 .1 .1))
+mirrored-requires c κs = search (needs, offset-read)
 
 returns : tie.Need-returns
-unfolding column
+unfolding iterationForm rowOf
 returns c =
-    let b = c .before .before .before .before .before .before in
-    let a = c .before .before .before .before .natural-in .ensures in
-    iteration-form _ (b .args .r) (b .pre .0 .0) (b .pre .1 .0) _ (b .pre .1 .1) _ (b .pre .0 .1 .1)
-    (c .mirrored .ensures) refl
+    let r = c .before .before in
+    let d = r .before .before .before .before in
+    let b = start d in
+    form-same
+    (c .mirrored .ensures ∙ ap (λ (z : ℤ). shiftCode (some (negℤ z))) (read-back (b .args .w .c) (c .before .struct-told3 .given .1 .1 .1 .0 .1)))
+    refl
     (ap₂ (λ (x y : ℕ). x + 1024 * y)
-    (c .before .before .before .kept-at .ensures .0 ∙ ap (λ (m : ℕ). getD (b .args .forms .now) (4 * m) 0) a)
-    (c .before .before .kept-at2 .ensures .0 ∙ ap (λ (m : ℕ). getD (b .args .forms .now) (4 * m + 1) 0) a))
-    (c .before .raised .ensures)
+    (r .before .before .before .kept-at .ensures .0 ∙ ap (λ (m : ℕ). getD (b .args .forms .now) (4 * m) 0) (body-is d))
+    (r .before .before .kept-at2 .ensures .0 ∙ ap (λ (m : ℕ). getD (b .args .forms .now) (4 * m + 1) 0) (body-is d)))
+    (r .raised .ensures ∙ ap (λ (z : ℤ). shiftCode (some z)) (read-back (b .args .w .b) (r .before .struct-told2 .given .1 .1 .0 .1)))
 
 pub iteration-spec : {M : Type 1} → statement M
 iteration-spec =
     tie.close
     (tie.spec
-    natural-in-requires
+    natural-requires
     mul-kept-at
     kept-at-requires
     mul-kept-at-2

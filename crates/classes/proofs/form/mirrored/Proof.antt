@@ -1,27 +1,35 @@
 use native.Mathlib.Omega.{arith}
 use Prim.Native.Nat.{ℕ, _+_, _-_}
-use mathlib.Core.Path.{_∙_, ap₂}
+use mathlib.Core.Path.{_≡_, _∙_, ap, ap₂}
+use lib.IntN.{ℤ, negℤ}
+use mir.Facts.{toZ-ofZ}
 use borrow.Author.Needs.{needs}
+use Rattle.stab.specs.Basic.{nat}
 use Rattle.formula.proofs.RowLaws.{offset-small}
 use Rattle.classes.proofs.Shifts.{mirrored-is}
 use Rattle.classes.proofs.form.mirrored.Statement.{statement}
 use Rattle.classes.proofs.form.mirrored.Tie as tie
 
-under-in-requires : tie.Need-under-in-requires
-under-in-requires c κs = search needs
+under-is : (c : tie.After-under) → c .under .result ≡ nat (negℤ (c .before .args .z))
+under-is c = c .under .ensures ∙ ap (λ (z : ℤ). nat (negℤ z)) (toZ-ofZ (c .before .fits .z))
+
+natural-is : (c : tie.After-natural) → c .natural .result ≡ nat (c .before .before .args .z)
+natural-is c = c .natural .ensures ∙ ap nat (toZ-ofZ (c .before .before .fits .z))
+
+under-requires : tie.Need-under-requires
+under-requires c κs = search needs
 
 add-result : tie.Need-add-result
-add-result c = omega (arith, c .under-in .ensures, offset-small _ (c .before .pre .1))
+add-result c = omega (arith, under-is c, offset-small _ (c .before .pre))
 
-natural-in-requires : tie.Need-natural-in-requires
-natural-in-requires c κs = search needs
+natural-requires : tie.Need-natural-requires
+natural-requires c κs = search needs
 
 sub-result : tie.Need-sub-result
-sub-result c = omega (arith, c .natural-in .ensures, offset-small _ (c .before .before .pre .1))
+sub-result c = omega (arith, natural-is c, offset-small _ (c .before .before .pre))
 
 returns : tie.Need-returns
-returns c = ap₂ (λ (a b : ℕ). a + 10000 - b) (c .before .under-in .ensures) (c .natural-in .ensures) ∙ mirrored-is _ (c .before .before .pre .1)
+returns c = ap₂ (λ (a b : ℕ). a + 10000 - b) (under-is (c .before)) (natural-is c) ∙ mirrored-is _ (c .before .before .pre)
 
 pub mirrored-spec : {M : Type 1} → statement M
-mirrored-spec =
-    tie.close (tie.spec under-in-requires add-result natural-in-requires sub-result returns)
+mirrored-spec = tie.close (tie.spec under-requires add-result natural-requires sub-result returns)

@@ -1,56 +1,86 @@
 use native.Mathlib.Omega.{arith}
-use mathlib.Core.Path.{_≡_, refl}
-use borrow.Author.Needs.{needs}
-use Prim.Native.Nat.{ℕ}
+use mathlib.Core.Path.{_≡_, sym, _∙_, ap, subst}
+use mathlib.Core.Bool.{Bool, true}
+use Prim.Native.Nat.{ℕ, _<_}
 use Rattle.stab.specs.Basic.{nat}
-use Rattle.stab.specs.Formula.{Row, joined, wellFormed}
-use mathlib.Core.Bool.{true}
-use Rattle.classes.proofs.ByKind.{is-constant, is-literal, is-junction, is-iteration}
-use Rattle.classes.proofs.Forms.{constant-form}
+use Rattle.stab.specs.Formula.{Row, Op, Kind, literal, junction, iteration, kindOf, offset}
+use Rattle.formula.specs.Cells.{rowOf}
+use Rattle.classes.specs.Key.{FormedAt, keptFormAs, keptForm}
+use Rattle.classes.proofs.ByKind.{is-constant, is-literal, is-junction, is-iteration, added-offset, left-less, right-less, body-less, first-offset, limit-offset}
 use Rattle.classes.proofs.form.of_row.Statement.{statement}
 use Rattle.classes.proofs.form.of_row.Tie as tie
 
-abbrev rows : tie.Start → ℕ → Row
-rows b = let a = b .args in joined (a .schema .now) (a .s) (a .proof .now)
+-- the rows that it is one of
+abbrev among : (b : tie.Start) → FormedAt (b .args .r) (rowOf (b .args .w))
+among b = b .pre .2
 
-kind-is : (b : tie.Start) → b .args .kind ≡ nat (rows b (b .args .r) .kind)
-kind-is b = b .pre .0 .1
+abbrev kindIn : tie.Start → Kind
+kindIn b = kindOf (among b .rows (b .args .r) .kind)
 
-formed : (b : tie.Start) → wellFormed (rows b) (b .args .r) ≡ true
-formed b = b .pre .1 .0 (b .args .r) (omega (arith, b .pre .0 .0))
+kind-is : (b : tie.Start) → b .args .kind ≡ nat (among b .rows (b .args .r) .kind)
+unfolding rowOf
+kind-is b = b .pre .1 ∙ ap (λ (u : Row). nat (u .kind)) (sym (among b .row))
+
+-- its numbers by its kind
+kept-as : (b : tie.Start) {k : Kind} → kindIn b ≡ k → let a = b .args in keptFormAs (a .r) (rowOf (a .w)) (a .forms .now) k ≡ keptForm (a .r) (rowOf (a .w)) (a .forms .now)
+kept-as b e = let a = b .args in ap (keptFormAs (a .r) (rowOf (a .w)) (a .forms .now)) (sym e ∙ ap (λ (u : Row). kindOf (u .kind)) (among b .row))
+
+literal-is : (c : tie.Then2) → (v : Bool) × (kindIn (c .before .before .before) ≡ literal v)
+literal-is c =
+    let b = c .before .before .before in
+    is-literal _ _ (among b .formed) (omega (arith, kind-is b, c .before .if1 .left)) (omega (arith, kind-is b, c .if2 .taken))
+
+junction-is : (c : tie.Then3) → (o : Op) × (kindIn (c .before .before .before .before) ≡ junction o)
+junction-is c =
+    let b = c .before .before .before .before in
+    is-junction _ _ (among b .formed) (omega (arith, kind-is b, c .before .if2 .left)) (omega (arith, kind-is b, c .if3 .taken))
+
+iteration-is : (c : tie.Else3) → (o : Op) × (kindIn (c .before .before .before .before) ≡ iteration o)
+iteration-is c =
+    let b = c .before .before .before .before in
+    is-iteration _ _ (among b .formed) (omega (arith, kind-is b, c .if3 .left))
 
 returns : tie.Need-returns
+unfolding keptFormAs
 returns c =
-    let r = c .before .before in
-    let k = is-constant _ _ (formed r) (omega (arith, kind-is r, c .if1 .taken)) in
-    constant-form _ (r .args .r) (k .0) (k .1) refl refl refl refl
+    let b = c .before .before in
+    kept-as b (is-constant _ _ (among b .formed) (omega (arith, kind-is b, c .if1 .taken)) .1)
 
 literal-requires : tie.Need-literal-requires
+unfolding rowOf
 literal-requires c κs =
-    let r = c .before .before .before in
-    let k = is-literal _ _ (formed r) (omega (arith, kind-is r, c .before .if1 .left)) (omega (arith, kind-is r, c .if2 .taken)) in
-    ((r .pre .0 .0, k), r .pre .1 .0)
+    let b = c .before .before .before in
+    subst (λ (u : Row). offset (u .c) ≡ true) (among b .row) (added-offset _ _ (among b .formed) _ (literal-is c .1))
 
 returns-2 : tie.Need-returns-2
-returns-2 c = search needs
+unfolding keptFormAs
+returns-2 c = c .literal .ensures ∙ kept-as (c .before .before .before .before) (literal-is (c .before) .1)
 
 junction-requires : tie.Need-junction-requires
+unfolding rowOf
 junction-requires c κs =
-    let r = c .before .before .before .before in
-    let k = is-junction _ _ (formed r) (omega (arith, kind-is r, c .before .if2 .left)) (omega (arith, kind-is r, c .if3 .taken)) in
-    ((r .pre .0 .0, k), r .pre .1)
+    let b = c .before .before .before .before in
+    let o = junction-is c in
+    let few : (n : ℕ) → n < b .args .r → n < 1024 = λ n l. omega (arith, b .pre .0) in
+    subst (λ (u : Row). (nat (u .a) < 1024) × (nat (u .b) < 1024)) (among b .row)
+    (few _ (left-less _ _ (among b .formed) _ (o .1)), few _ (right-less _ _ (among b .formed) _ (o .1)))
 
 returns-3 : tie.Need-returns-3
-returns-3 c = search needs
+unfolding keptFormAs
+returns-3 c = c .junction .ensures ∙ kept-as (c .before .before .before .before .before) (junction-is (c .before) .1)
 
 iteration-requires : tie.Need-iteration-requires
+unfolding rowOf
 iteration-requires c κs =
-    let r = c .before .before .before .before in
-    let k = is-iteration _ _ (formed r) (omega (arith, kind-is r, c .if3 .left)) in
-    ((r .pre .0 .0, k), r .pre .1)
+    let b = c .before .before .before .before in
+    let o = iteration-is c in
+    let h = among b .formed in
+    subst (λ (u : Row). (nat (u .a) < 1024) × (offset (u .b) ≡ true) × (offset (u .c) ≡ true)) (among b .row)
+    (omega (arith, body-less _ _ h _ (o .1), b .pre .0), first-offset _ _ h _ (o .1), limit-offset _ _ h _ (o .1))
 
 returns-4 : tie.Need-returns-4
-returns-4 c = search needs
+unfolding keptFormAs
+returns-4 c = c .iteration .ensures ∙ kept-as (c .before .before .before .before .before) (iteration-is (c .before) .1)
 
 pub of-row-spec : {M : Type 1} → statement M
 of-row-spec =
