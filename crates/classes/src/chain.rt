@@ -2,6 +2,7 @@
 use crate::form::Form;
 use formula::KIND;
 use formula::kept::kept_at;
+use formula::kept::number_at;
 use formula::natural_in;
 use formula::spread::spread;
 ghost use mathlib.Core.Path.{_≡_};
@@ -42,16 +43,6 @@ fn has_key(
         return false;
     }
     kept_at(sides, 2 * q + 1) == high
-}
-
-// What is kept at i, and 0 past the end.
-fn number_at(t: &[u16], i: usize) -> usize
-    ensures { λ r. ⌜ r ≡ getD (now (t .entry)) i 0 ⌝ }
-{
-    if i < t.len() {
-        return t[i] as usize;
-    }
-    0
 }
 
 // The class of row r, whose kind is given, whose numbers are f and whose hash is h: that of an earlier row with its key, else its

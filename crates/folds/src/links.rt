@@ -1,5 +1,6 @@
 // The earliest row with the columns of another, looked for among the rows of its place.
 use formula::cells;
+use formula::kept::number_at;
 use repeats::places;
 use repeats::row::same;
 ghost use mathlib.Core.Path.{_≡_};
@@ -27,13 +28,13 @@ pub fn first(
     ensures { λ v. ⌜ v ≡ rowOr r (earliest (joined (now (schema .entry)) s (now (table .entry))) r (joined (now (schema .entry)) s (now (table .entry)) r)) ⌝ }
 {
     let mut best = r;
-    let mut rest = places::number_at(heads, h);
+    let mut rest = number_at(heads, h);
     while 0 < rest {
         let q = rest - 1;
         if same(schema, s, table, q, r) {
             best = q;
         }
-        rest = places::number_at(next, q);
+        rest = number_at(next, q);
     }
     best
 }

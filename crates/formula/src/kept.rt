@@ -14,6 +14,16 @@ pub fn kept_at(t: &[u32], i: usize) -> usize
     0
 }
 
+// The same of a table of smaller numbers.
+pub fn number_at(t: &[u16], i: usize) -> usize
+    ensures { λ r. ⌜ r ≡ getD (now (t .entry)) i 0 ⌝ }
+{
+    if i < t.len() {
+        return t[i] as usize;
+    }
+    0
+}
+
 // Four numbers are kept for i.
 pub fn keep(t: &mut [u32], i: usize, a: u32, b: u32, c: u32, d: u32)
     requires { ⌜ 4 * i + 3 < length (now t) ⌝ }

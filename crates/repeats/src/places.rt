@@ -1,6 +1,7 @@
 // Rows of one place, each with the one before it: among them an equal row is looked for.
 use crate::row;
 use formula::cells::Cells;
+use formula::kept::number_at;
 use formula::spread::spread;
 use signed::rank;
 ghost use mathlib.Core.Path.{_≡_};
@@ -16,16 +17,6 @@ pub fn place(w: Cells) -> usize
     ensures { λ v. ⌜ v ≡ placeOf (rowOf w) ⌝ }
 {
     spread(rank(w.kind), rank(w.a), rank(w.b), rank(w.c)) / 262144
-}
-
-// What is kept at i, and 0 past the end.
-pub fn number_at(t: &[u16], i: usize) -> usize
-    ensures { λ r. ⌜ r ≡ getD (now (t .entry)) i 0 ⌝ }
-{
-    if i < t.len() {
-        return t[i] as usize;
-    }
-    0
 }
 
 // A row with the columns of row r, whose place is h, stands before it.
