@@ -1,41 +1,39 @@
 -- What joining answers and leaves, by what is found.
-use Prim.Native.Nat.{ℕ, suc, _+_, _<_, _≤_}
+use Prim.Native.Nat.{suc, _+_, _<_, _≤_}
 use native.Mathlib.Omega.{arith}
 use mathlib.Core.Path.{_≡_, sym, _∙_, ap, subst}
-use mathlib.Core.Bool.{Bool, true, false}
+use mathlib.Core.Logic.{⊎-elim}
+use mathlib.Core.Bool.{true, false}
 use mathlib.Core.List.{List, []}
 use mathlib.Core.Option.{Option, none, some}
-use lib.Dec.{leb}
+use lib.Dec.{leb, ltb}
 use lib.IntN.{ℤ, pos}
 use lib.ListN.{length}
-use borrow.Author.Tests.{leb-true, le-leb, lt-leb}
-use Rattle.stab.specs.Basic.{_and_, nat, below, eqZ, _otherwise_}
-use Rattle.stab.specs.Formula as F
-use Rattle.stab.specs.Formula.{Formula, joined, disj, tree, smallEnough}
-use Rattle.stab.specs.Node.{Tableau, rows, rowCount, formula}
-use Rattle.stab.specs.Check.{wholeUnless, atUnless, check, formulasRefusal}
-use Rattle.stab.specs.Keeps.{KeepsOlder, Keeps}
+use borrow.Author.Tests.{leb-true, le-leb, lt-leb, ltb-false}
+use Rattle.stab.specs.Basic.{nat, eqZ, _otherwise_}
+use Rattle.stab.specs.Formula.{smallEnough}
+use Rattle.stab.specs.Node.{Tableau, rows, rowCount}
+use Rattle.stab.specs.Check.{wholeUnless, atUnless, check}
+use Rattle.stab.specs.Keeps.{KeepsOlder}
 use Rattle.stab.specs.Text.{padded}
 use Rattle.stab.specs.declared.Place.{Place}
 use Rattle.stab.specs.declared.Place.the-variants.{Whole, At}
 use Rattle.stab.specs.declared.Refusal.{Refusal}
 use Rattle.stab.specs.declared.Refusal.the-variants.{TableTooShort, Leasts, Joint}
 use Rattle.stab.specs.declared.Verdict.{Verdict}
-use Rattle.stab.specs.declared.Verdict.the-variants.{Accepted, Refused}
-use Rattle.stab.proofs.Bools.{and-left, and-right, and-both, and-first-false, and-second-false, none-unless, some-unless, otherwise-none, otherwise-some}
+use Rattle.stab.specs.declared.Verdict.the-variants.{Refused}
+use Rattle.stab.proofs.Bools.{decide, and-left, and-right, and-both, and-first-true, and-first-false, and-second-false, none-unless, some-unless, otherwise-none, otherwise-some}
 use Rattle.stab.proofs.Formed.{formed-tests}
 use Rattle.stab.proofs.Tests.{below-tests}
-use Rattle.stab.proofs.Exactness.Formulas.{formulas-clears}
-use Rattle.formula.specs.Facts.{AllFormed}
 use Rattle.tidied.specs.Tidied.{foldingOf, tidied}
-use Rattle.tidied.proofs.Tidying.{rules-of}
 use Rattle.joint.specs.Joint.{schemaCount, orRow, jointSchema, untidied, joint, jointFits, Rooms, refusalOf, joinRefusal, joinedBy, join, joinedTable, joinedSchema, joinedProof, joinedNodes, joinedMembers}
 use Rattle.joint.specs.declared.Joined.{Joined}
 use Rattle.joint.specs.declared.Joined.the-variants.{Record, Refused as JoinRefused}
-use Rattle.joint.proofs.Accepted.{or-tidied}
-use Rattle.joint.proofs.Joining.{or-tree}
+use Rattle.jointrows.specs.Kept.{plain, Joinable}
 use Rattle.jointrows.proofs.Rows.{few-stay}
-use Rattle.join.specs.Kept.{tooLarge, afterFirst, Answers}
+use Rattle.jointrefusal.specs.Before.{fitsBefore, foundBefore}
+use Rattle.jointrefusal.proofs.Before.{few-rows, first-passes, second-passes, leasts-pass}
+use Rattle.join.specs.Kept.{roomy, Answers}
 
 -- what holds of four numbers holds of their equals
 pub four : (P : ℤ → ℤ → ℤ → ℤ → Type 0) {a b c d a′ b′ c′ d′ : ℤ} → a ≡ a′ → b ≡ b′ → c ≡ c′ → d ≡ d′ → P a b c d → P a′ b′ c′ d′
@@ -43,42 +41,25 @@ four P {a} {b} {c} {d} {a′} {b′} {c′} {d′} p q r s x =
     subst (λ (z : ℤ). P a′ b′ c′ z) s (subst (λ (z : ℤ). P a′ b′ z d) r (subst (λ (z : ℤ). P a′ z c d) q (subst (λ (z : ℤ). P z b c d) p x)))
 
 -- the result tables have room
-pub full-room : (a b c d : ℕ) → (leb 4096 a and leb 4096 b and leb 9216 c and leb 8192 d) ≡ true → (4096 ≤ a) × (4096 ≤ b) × (9216 ≤ c) × (8192 ≤ d)
-full-room a b c d h =
-    let g = and-right (leb 4096 a) _ h in
-    let k = and-right (leb 4096 b) _ g in
-    (leb-true 4096 a (and-left _ _ h), leb-true 4096 b (and-left _ _ g), leb-true 9216 c (and-left _ _ k), leb-true 8192 d (and-right (leb 9216 c) _ k))
+pub full-room : (R : Rooms) → roomy R ≡ true → (4096 ≤ R .schema) × (4096 ≤ R .proof) × (9216 ≤ R .nodes) × (8192 ≤ R .members)
+full-room R h =
+    let g = and-right (leb 4096 (R .schema)) _ h in
+    let k = and-right (leb 4096 (R .proof)) _ g in
+    (leb-true 4096 _ (and-left _ _ h), leb-true 4096 _ (and-left _ _ g), leb-true 9216 _ (and-left _ _ k), leb-true 8192 _ (and-right (leb 9216 (R .nodes)) _ k))
 
--- ---- what is known of the rows of an accepted record
+-- ---- the formula rows of an accepted record
 
-pub few-rows : (A : Tableau) → KeepsOlder A → A .schemaRows + A .proofRows ≤ 1024
-unfolding rowCount
-few-rows A K = K .tables .rowLimit
-
-pub all-formed : (A : Tableau) → KeepsOlder A → AllFormed (joined (A .schema) (A .schemaRows) (A .proof)) (A .schemaRows + A .proofRows)
+pub joinable : (A : Tableau) → KeepsOlder A → Joinable (plain (A .schema) (A .schemaRows) (A .proof) (A .proofRows) (A .root))
 unfolding rows rowCount
-all-formed A K r h = formed-tests (rows A) r .1 (K .formulas .each r h .formed)
-
-pub root-below : (A : Tableau) → KeepsOlder A → below (A .schemaRows) (A .root) ≡ true
-root-below A K = below-tests (A .schemaRows) (A .root) .1 (K .formulas .rootRow)
+joinable A K = record {
+  few = few-rows A K;
+  formed = λ r h. formed-tests (rows A) r .1 (K .formulas .each r h .formed);
+  root = below-tests (A .schemaRows) (A .root) .1 (K .formulas .rootRow);
+}
 
 pub few-folded : (A B : Tableau) → foldingOf (untidied A B) .count ≤ A .proofRows + B .proofRows
 unfolding foldingOf untidied
 few-folded A B = few-stay _ _ _ (A .proofRows + B .proofRows)
-
--- the schema rows pass by themselves
-pub schema-passes : (A : Tableau) → KeepsOlder A → formulasRefusal (joined (A .schema) (A .schemaRows) (A .proof)) (A .schemaRows) (A .schemaRows) (A .root) (A .least) ≡ none
-unfolding rows rowCount
-schema-passes A K =
-    formulas-clears (joined (A .schema) (A .schemaRows) (A .proof)) (A .schemaRows) (A .schemaRows) (A .root) (A .least) .1
-    (record { rootRow = K .formulas .rootRow; leastRange = K .formulas .leastRange; each = λ r h. K .formulas .each r (omega arith); rootOuter = K .formulas .rootOuter })
-
--- how large the or is
-pub or-is : (A B : Tableau) → Keeps A → Keeps B → A .least ≡ B .least → smallEnough (rows (joint A B)) (orRow A B) ≡ (leb (F.size (F.join disj (tree (joined (A .schema) (A .schemaRows) (A .proof)) (nat (A .root))) (tree (joined (B .schema) (B .schemaRows) (B .proof)) (nat (B .root))))) 4096 and leb (F.depth (F.join disj (tree (joined (A .schema) (A .schemaRows) (A .proof)) (nat (A .root))) (tree (joined (B .schema) (B .schemaRows) (B .proof)) (nat (B .root))))) 64)
-unfolding smallEnough formula rows
-or-is A B KA KB e =
-    ap (λ (f : Formula). leb (F.size f) 4096 and leb (F.depth f) 64)
-    (or-tidied A B ∙ or-tree A B (rules-of A (KA .older)) (rules-of B (KB .older)) (KA .older .hasNode) (KB .older .hasNode) (KA .older .tables .membersHeld) (KB .older .tables .membersHeld) e)
 
 -- ---- the tests of 29
 
@@ -87,11 +68,11 @@ module _ (A B : Tableau) where
   unfolding jointFits rowCount joint tidied untidied
   rows-over h = and-first-false _ _ (lt-leb _ 1024 h)
 
-  pub schema-over : 1024 ≤ A .schemaRows + B .schemaRows → jointFits (joint A B) ≡ false
+  schema-over : 1024 ≤ A .schemaRows + B .schemaRows → jointFits (joint A B) ≡ false
   unfolding schemaCount
   schema-over h = rows-over (omega arith)
 
-  pub nodes-over : 1024 ≤ A .nodeRows + B .nodeRows → jointFits (joint A B) ≡ false
+  nodes-over : 1024 ≤ A .nodeRows + B .nodeRows → jointFits (joint A B) ≡ false
   unfolding jointFits joint tidied untidied
   nodes-over h = and-second-false (leb (rowCount (joint A B)) 1024) _ (and-first-false _ _ (lt-leb (suc (A .nodeRows + B .nodeRows)) 1024 (omega arith)))
 
@@ -100,7 +81,7 @@ module _ (A B : Tableau) where
   members-over h =
       and-second-false (leb (rowCount (joint A B)) 1024) _ (and-second-false (leb (joint A B .nodeRows) 1024) _ (and-first-false _ _ (lt-leb _ 8192 h)))
 
-  pub or-over : smallEnough (rows (joint A B)) (orRow A B) ≡ false → jointFits (joint A B) ≡ false
+  or-over : smallEnough (rows (joint A B)) (orRow A B) ≡ false → jointFits (joint A B) ≡ false
   unfolding jointFits joint tidied untidied nat
   or-over h =
       and-second-false (leb (rowCount (joint A B)) 1024) _
@@ -110,13 +91,60 @@ module _ (A B : Tableau) where
   unfolding jointFits rowCount joint tidied untidied nat
   all-fit a b c d = and-both _ _ (le-leb _ 1024 a) (and-both _ _ (le-leb (suc (A .nodeRows + B .nodeRows)) 1024 (omega arith)) (and-both _ _ (le-leb _ 8192 c) d))
 
--- ---- the answer and the tables
+  over-before : fitsBefore A B ≡ false → jointFits (joint A B) ≡ false
+  unfolding fitsBefore
+  over-before h =
+      ⊎-elim
+      (λ s.
+      ⊎-elim
+      (λ n. or-over (sym (and-first-true (ltb (A .nodeRows + B .nodeRows) 1024) _ n) ∙ sym (and-first-true (ltb (A .schemaRows + B .schemaRows) 1024) _ s) ∙ h))
+      (λ n. nodes-over (ltb-false (A .nodeRows + B .nodeRows) 1024 n))
+      (decide (ltb (A .nodeRows + B .nodeRows) 1024)))
+      (λ s. schema-over (ltb-false (A .schemaRows + B .schemaRows) 1024 s))
+      (decide (ltb (A .schemaRows + B .schemaRows) 1024))
+
+-- ---- what is found
+
+-- what a later part finds is found by what takes its place
+otherwise-carries : (x y z : Option Verdict) (v : Verdict) → (y ≡ some v → z ≡ some v) → (x otherwise y) ≡ some v → (x otherwise z) ≡ some v
+unfolding _otherwise_
+otherwise-carries none y z v f h = f h
+otherwise-carries (some w) y z v f h = h
+
+limit-carries : (A B : Tableau) (v : Verdict) → wholeUnless (fitsBefore A B) Joint ≡ some v → wholeUnless (jointFits (joint A B)) Joint ≡ some v
+unfolding wholeUnless
+limit-carries A B v h =
+    ⊎-elim
+    (λ t. absurd (mathlib.Core.Option.Option·none-ne-some v (sym (none-unless (fitsBefore A B) (Refused Joint Whole) t) ∙ h)))
+    (λ t. some-unless _ (Refused Joint Whole) (over-before A B t) ∙ sym (some-unless (fitsBefore A B) (Refused Joint Whole) t) ∙ h)
+    (decide (fitsBefore A B))
 
 module _ (R : Rooms) (A B : Tableau) where
+  pub short-found : roomy R ≡ false → joinRefusal R A B ≡ some (Refused TableTooShort (At 0))
+  unfolding joinRefusal atUnless
+  short-found h = otherwise-some _ _ (Refused TableTooShort (At 0)) (some-unless _ (Refused TableTooShort (At 0)) h)
+
+  pub found-before : roomy R ≡ true → (v : Verdict) → foundBefore A B ≡ some v → joinRefusal R A B ≡ some v
+  unfolding joinRefusal atUnless foundBefore
+  found-before f v h =
+      otherwise-none _ _ (none-unless _ (Refused TableTooShort (At 0)) f)
+      ∙ otherwise-carries (refusalOf (check A)) _ _ v
+      (otherwise-carries (refusalOf (check B)) _ _ v (otherwise-carries (wholeUnless (eqZ (A .least) (B .least)) Leasts) _ _ v (limit-carries A B v))) h
+
+  limit-left : roomy R ≡ true → foundBefore A B ≡ none → joinRefusal R A B ≡ wholeUnless (jointFits (joint A B)) Joint
+  unfolding joinRefusal atUnless
+  limit-left f h =
+      otherwise-none _ _ (none-unless _ (Refused TableTooShort (At 0)) f)
+      ∙ otherwise-none _ _ (first-passes A B h)
+      ∙ otherwise-none _ _ (second-passes A B h)
+      ∙ otherwise-none _ _ (leasts-pass A B h)
+
+  -- ---- the answer and the tables
+
   module _ {r : Joined} {schema proof nodes members : List ℤ} where
-    pub refused-by : {found : Option Verdict} {why : Refusal} {p : Place} → found ≡ some (Refused why p) → r ≡ JoinRefused why p → schema ≡ padded (pos 0) (R .schema) [] → proof ≡ padded (pos 0) (R .proof) [] → nodes ≡ padded (pos 0) (R .nodes) [] → members ≡ padded (pos 0) (R .members) [] → Answers R A B found r schema proof nodes members
-    unfolding joinedBy joinedTable
-    refused-by e a b c d f = record {
+    answered : {found : Option Verdict} → joinRefusal R A B ≡ found → r ≡ joinedBy found (joint A B) → schema ≡ joinedTable found (R .schema) (joint A B .schema) → proof ≡ joinedTable found (R .proof) (joint A B .proof) → nodes ≡ joinedTable found (R .nodes) (joint A B .nodes) → members ≡ joinedTable found (R .members) (joint A B .members) → Answers R A B r schema proof nodes members
+    unfolding join joinedSchema joinedProof joinedNodes joinedMembers
+    answered e a b c d f = record {
       answer = a ∙ sym (ap (λ (o : Option Verdict). joinedBy o (joint A B)) e);
       schemaTable = b ∙ sym (ap (λ (o : Option Verdict). joinedTable o (R .schema) (joint A B .schema)) e);
       proofTable = c ∙ sym (ap (λ (o : Option Verdict). joinedTable o (R .proof) (joint A B .proof)) e);
@@ -124,57 +152,19 @@ module _ (R : Rooms) (A B : Tableau) where
       memberTable = f ∙ sym (ap (λ (o : Option Verdict). joinedTable o (R .members) (joint A B .members)) e);
     }
 
+    pub refused-by : {why : Refusal} {p : Place} → joinRefusal R A B ≡ some (Refused why p) → r ≡ JoinRefused why p → schema ≡ padded (pos 0) (R .schema) [] → proof ≡ padded (pos 0) (R .proof) [] → nodes ≡ padded (pos 0) (R .nodes) [] → members ≡ padded (pos 0) (R .members) [] → Answers R A B r schema proof nodes members
+    unfolding joinedBy joinedTable
+    refused-by e a b c d f = answered e a b c d f
+
     -- 29
-    pub too-large : jointFits (joint A B) ≡ false → r ≡ JoinRefused Joint Whole → schema ≡ padded (pos 0) (R .schema) [] → proof ≡ padded (pos 0) (R .proof) [] → nodes ≡ padded (pos 0) (R .nodes) [] → members ≡ padded (pos 0) (R .members) [] → Answers R A B (tooLarge A B) r schema proof nodes members
-    unfolding tooLarge wholeUnless
-    too-large h = refused-by (some-unless (jointFits (joint A B)) (Refused Joint Whole) h)
+    pub too-large : roomy R ≡ true → foundBefore A B ≡ none → jointFits (joint A B) ≡ false → r ≡ JoinRefused Joint Whole → schema ≡ padded (pos 0) (R .schema) [] → proof ≡ padded (pos 0) (R .proof) [] → nodes ≡ padded (pos 0) (R .nodes) [] → members ≡ padded (pos 0) (R .members) [] → Answers R A B r schema proof nodes members
+    unfolding wholeUnless
+    too-large f n h = refused-by (limit-left f n ∙ some-unless (jointFits (joint A B)) (Refused Joint Whole) h)
 
     -- the joined record
-    pub record-made : jointFits (joint A B) ≡ true → r ≡ Record (pos (orRow A B)) (A .least) (schemaCount A B) (foldingOf (untidied A B) .count) (suc (A .nodeRows + B .nodeRows)) (length (joint A B .members)) → schema ≡ padded (pos 0) (R .schema) (jointSchema A B) → proof ≡ padded (pos 0) (R .proof) (foldingOf (untidied A B) .table) → nodes ≡ padded (pos 0) (R .nodes) (joint A B .nodes) → members ≡ padded (pos 0) (R .members) (joint A B .members) → Answers R A B (tooLarge A B) r schema proof nodes members
-    unfolding tooLarge wholeUnless joinedBy joinedTable joint tidied untidied
-    record-made h a b c d f =
-        let e = none-unless (jointFits (joint A B)) (Refused Joint Whole) h in
-        record {
-          answer = a ∙ sym (ap (λ (o : Option Verdict). joinedBy o (joint A B)) e);
-          schemaTable = b ∙ sym (ap (λ (o : Option Verdict). joinedTable o (R .schema) (joint A B .schema)) e);
-          proofTable = c ∙ sym (ap (λ (o : Option Verdict). joinedTable o (R .proof) (joint A B .proof)) e);
-          nodeTable = d ∙ sym (ap (λ (o : Option Verdict). joinedTable o (R .nodes) (joint A B .nodes)) e);
-          memberTable = f ∙ sym (ap (λ (o : Option Verdict). joinedTable o (R .members) (joint A B .members)) e);
-        }
+    pub record-made : roomy R ≡ true → foundBefore A B ≡ none → jointFits (joint A B) ≡ true → r ≡ Record (pos (orRow A B)) (A .least) (schemaCount A B) (foldingOf (untidied A B) .count) (suc (A .nodeRows + B .nodeRows)) (length (joint A B .members)) → schema ≡ padded (pos 0) (R .schema) (jointSchema A B) → proof ≡ padded (pos 0) (R .proof) (foldingOf (untidied A B) .table) → nodes ≡ padded (pos 0) (R .nodes) (joint A B .nodes) → members ≡ padded (pos 0) (R .members) (joint A B .members) → Answers R A B r schema proof nodes members
+    unfolding wholeUnless joinedBy joinedTable joint tidied untidied
+    record-made f n h a b c d e = answered (limit-left f n ∙ none-unless (jointFits (joint A B)) (Refused Joint Whole) h) a b c d e
 
-    found-same : {x y : Option Verdict} → x ≡ y → Answers R A B y r schema proof nodes members → Answers R A B x r schema proof nodes members
-    found-same e a = subst (λ (o : Option Verdict). Answers R A B o r schema proof nodes members) (sym e) a
-
-    pub after-second : {n l : ℕ} → check B ≡ Accepted n l → eqZ (A .least) (B .least) ≡ true → Answers R A B (tooLarge A B) r schema proof nodes members → Answers R A B (afterFirst A B) r schema proof nodes members
-    unfolding afterFirst refusalOf wholeUnless
-    after-second e s =
-        found-same (otherwise-none (refusalOf (check B)) _ (ap refusalOf e) ∙ otherwise-none _ _ (none-unless (eqZ (A .least) (B .least)) (Refused Leasts Whole) s))
-
-    pub after-first : {n l : ℕ} → (leb 4096 (R .schema) and leb 4096 (R .proof) and leb 9216 (R .nodes) and leb 8192 (R .members)) ≡ true → check A ≡ Accepted n l → Answers R A B (afterFirst A B) r schema proof nodes members → Answers R A B (joinRefusal R A B) r schema proof nodes members
-    unfolding joinRefusal afterFirst tooLarge refusalOf atUnless
-    after-first f e =
-        found-same (otherwise-none _ _ (none-unless _ (Refused TableTooShort (At 0)) f) ∙ otherwise-none (refusalOf (check A)) _ (ap refusalOf e))
-
-    pub joins : Answers R A B (joinRefusal R A B) r schema proof nodes members → (r ≡ join R A B) × ((schema ≡ joinedSchema R A B) × ((proof ≡ joinedProof R A B) × ((nodes ≡ joinedNodes R A B) × (members ≡ joinedMembers R A B))))
-    unfolding join joinedSchema joinedProof joinedNodes joinedMembers
-    joins a = (a .answer, (a .schemaTable, (a .proofTable, (a .nodeTable, a .memberTable))))
-
-  -- ---- what is found
-
-  pub second-found : {why : Refusal} {p : Place} → check B ≡ Refused why p → afterFirst A B ≡ some (Refused why p)
-  unfolding afterFirst refusalOf
-  second-found {why} {p} e = otherwise-some (refusalOf (check B)) _ (Refused why p) (ap refusalOf e)
-
-  pub leasts-found : {n l : ℕ} → check B ≡ Accepted n l → eqZ (A .least) (B .least) ≡ false → afterFirst A B ≡ some (Refused Leasts Whole)
-  unfolding afterFirst refusalOf wholeUnless
-  leasts-found e d =
-      otherwise-none (refusalOf (check B)) _ (ap refusalOf e) ∙ otherwise-some _ _ (Refused Leasts Whole) (some-unless (eqZ (A .least) (B .least)) (Refused Leasts Whole) d)
-
-  pub short-found : (leb 4096 (R .schema) and leb 4096 (R .proof) and leb 9216 (R .nodes) and leb 8192 (R .members)) ≡ false → joinRefusal R A B ≡ some (Refused TableTooShort (At 0))
-  unfolding joinRefusal atUnless
-  short-found h = otherwise-some _ _ (Refused TableTooShort (At 0)) (some-unless _ (Refused TableTooShort (At 0)) h)
-
-  pub first-found : {why : Refusal} {p : Place} → (leb 4096 (R .schema) and leb 4096 (R .proof) and leb 9216 (R .nodes) and leb 8192 (R .members)) ≡ true → check A ≡ Refused why p → joinRefusal R A B ≡ some (Refused why p)
-  unfolding joinRefusal refusalOf atUnless
-  first-found {why} {p} f e =
-      otherwise-none _ _ (none-unless _ (Refused TableTooShort (At 0)) f) ∙ otherwise-some (refusalOf (check A)) _ (Refused why p) (ap refusalOf e)
+    pub answers : Answers R A B r schema proof nodes members → (r ≡ join R A B) × ((schema ≡ joinedSchema R A B) × ((proof ≡ joinedProof R A B) × ((nodes ≡ joinedNodes R A B) × (members ≡ joinedMembers R A B))))
+    answers a = (a .answer, (a .schemaTable, (a .proofTable, (a .nodeTable, a .memberTable))))

@@ -1,23 +1,24 @@
 -- The nodes and sets that are put are those of the joined record, tidied.
-use Prim.Native.Nat.{ℕ, zero, suc, _+_, _*_, _-_, _<_, _≤_}
+use Prim.Native.Nat.{ℕ, zero, suc, _+_, _<_, _≤_}
 use native.Mathlib.Omega.{arith}
 use native.Mathlib.Nat.{add-zero}
 use mathlib.Core.Path.{_≡_, refl, sym, _∙_, ap, ap₂}
 use mathlib.Core.Logic.{⊎-elim}
-use mathlib.Core.Bool.{Bool, true, false, true≢false, false≢true}
+use mathlib.Core.Bool.{true, false, false≢true}
 use mathlib.Core.List.{List, [], _∷_, _++_, append-assoc, append-nil, List·Memᴰ, List·Memᴰ·head, List·Memᴰ·tail}
 use lib.IntN.{ℤ, pos, negℤ}
 use lib.ListN.{length, getD, take, drop, length-append}
 use Rattle.stab.specs.Basic.{nat, below, eqZ}
-use Rattle.stab.specs.Node.{Tableau, Node, rows, rowCount, nodeAt, node, set, setOf}
+use Rattle.stab.specs.Node.{Tableau, Node, rowCount, nodeAt, node, set, setOf}
 use Rattle.stab.specs.Rule.{unused, entry, ruleTable, ruleOf, rule}
-use Rattle.stab.specs.Keeps.{Below, Ascending, KeepsKind, KeepsStep, KeepsSet, KeepsNode, KeepsOlder, Keeps}
+use Rattle.stab.specs.Keeps.{Below, Ascending, KeepsKind, KeepsStep, KeepsSet, KeepsOlder, Keeps}
+use Rattle.stab.specs.Text.{padded}
 use Rattle.stab.proofs.Bools.{decide}
 use Rattle.stab.proofs.Whole.{atom, of-lt, ltZ-of, leZ-of, plus-nat, nonneg-minus, eqZ-true, not-eqZ}
 use Rattle.stab.proofs.Trees.{below-nat, below-pos}
 use Rattle.stab.proofs.Tests.{below-tests}
 use Rattle.branch.proofs.Ascending.{part-length}
-use Rattle.tidied.specs.Tidied.{through, newNumber, foldingOf, newOf, insertMember, tidySet, tidyMembers, tidyNode, tidyNodes, tidied}
+use Rattle.tidied.specs.Tidied.{through, newNumber, Folding, foldingOf, newOf, insertMember, tidySet, tidyMembers, tidyNode, tidyNodes, tidied}
 use Rattle.tidied.proofs.Moves.{through-pos, through-below}
 use Rattle.tidied.proofs.Foldings.{new-schema}
 use Rattle.tidied.proofs.Carried.{through-unused}
@@ -27,9 +28,9 @@ use Rattle.joint.specs.Joint.{schemaCount, orRow, ofFirst, ofSecond, theOr, par
 use Rattle.joint.proofs.Lists.{movedOf}
 use Rattle.joint.proofs.Blocks.{up-cases}
 use Rattle.joint.proofs.Nodes.{node-zero, node-first, node-second, set-first, set-second}
-use Rattle.jointrows.specs.Kept.{Gives, plain}
+use Rattle.jointrows.specs.Kept.{plain, Gives, RowsFilled}
 use Rattle.jointrows.proofs.Moves.{table-number}
-use Rattle.jointnodes.specs.Kept.{setAt, orNode, placedNode, placedSets, placedNodes, bothNodes, bothSets, Readable, AllReadable}
+use Rattle.jointnodes.specs.Kept.{setAt, orNode, placedNode, placedSets, placedNodes, bothNodes, bothSets, AllReadable}
 
 -- ---- nodes can be read
 
@@ -207,21 +208,32 @@ module _ (A B : Tableau) where
   abbrev PB : Tableau
   PB = plain (B .schema) (B .schemaRows) (B .proof) (B .proofRows) (B .root)
 
-  pub plain-schema : jointSchema PA PB ≡ jointSchema A B
+  plain-schema : jointSchema PA PB ≡ jointSchema A B
   unfolding jointSchema ofFirst ofSecond schemaCount theOr
   plain-schema = refl
 
-  pub plain-folding : foldingOf (untidied PA PB) ≡ foldingOf (untidied A B)
+  plain-folding : foldingOf (untidied PA PB) ≡ foldingOf (untidied A B)
   unfolding foldingOf untidied jointSchema jointProof ofFirst ofSecond schemaCount theOr
   plain-folding = refl
 
-  pub plain-first : (r : ℕ) → newOf (untidied PA PB) (ofFirst PA PB r) ≡ newOf (untidied A B) (ofFirst A B r)
+  plain-first : (r : ℕ) → newOf (untidied PA PB) (ofFirst PA PB r) ≡ newOf (untidied A B) (ofFirst A B r)
   unfolding newOf foldingOf untidied jointSchema jointProof ofFirst ofSecond schemaCount theOr
   plain-first r = refl
 
-  pub plain-second : (r : ℕ) → newOf (untidied PA PB) (ofSecond PA PB r) ≡ newOf (untidied A B) (ofSecond A B r)
+  plain-second : (r : ℕ) → newOf (untidied PA PB) (ofSecond PA PB r) ≡ newOf (untidied A B) (ofSecond A B r)
   unfolding newOf foldingOf untidied jointSchema jointProof ofFirst ofSecond schemaCount theOr
   plain-second r = refl
+
+  pub of-plain : {schema₀ proof₀ : List ℤ} {count : ℕ} {first second : List ℕ} {schema proof : List ℤ} → RowsFilled PA PB schema₀ proof₀ count first second schema proof → RowsFilled A B schema₀ proof₀ count first second schema proof
+  of-plain {schema₀} {proof₀} P = record {
+    counted = P .counted ∙ ap (λ (F : Folding). F .count) plain-folding;
+    firstNumbers = λ r h. P .firstNumbers r h ∙ plain-first r;
+    firstSmall = P .firstSmall;
+    secondNumbers = λ r h. P .secondNumbers r h ∙ plain-second r;
+    secondSmall = P .secondSmall;
+    schemaTable = P .schemaTable ∙ ap (padded (pos 0) (length schema₀)) plain-schema;
+    proofTable = λ h. P .proofTable h ∙ ap (λ (F : Folding). padded (pos 0) (length proof₀) (F .table)) plain-folding;
+  }
 
 -- ---- node 0, the first's nodes, the second's
 

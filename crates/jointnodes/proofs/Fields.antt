@@ -5,7 +5,7 @@ use mathlib.Core.Path.{_≡_, sym, _∙_, ap}
 use mathlib.Core.Bool.{true, false}
 use lib.IntN.{ℤ, pos, _+ℤ_}
 use lib.Signed.{leZ, ltZ}
-use Rattle.stab.specs.Basic.{if_then_else_, nat}
+use Rattle.stab.specs.Basic.{nat}
 use Rattle.stab.proofs.Bools.{if-true, if-false}
 use Rattle.stab.proofs.Whole.{atom, num, of-lt, of-not-lt, le-of, not-le-of, nat-pos}
 use Rattle.joint.specs.Joint.{parentOf, further}

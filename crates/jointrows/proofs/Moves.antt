@@ -1,14 +1,13 @@
 -- The rows of two records under the numbers that were worked out for them are the rows of the joined record.
-use Prim.Native.Nat.{ℕ, zero, suc, _+_, _*_, _-_, _<_, _≤_}
+use Prim.Native.Nat.{ℕ, zero, suc, _+_, _<_, _≤_}
 use native.Mathlib.Omega.{arith}
-use mathlib.Core.Path.{_≡_, refl, sym, _∙_, ap, ap₂, subst}
-use mathlib.Core.Bool.{true}
+use mathlib.Core.Path.{_≡_, refl, sym, _∙_, ap, ap₂}
 use mathlib.Core.List.{List, _++_}
 use lib.Dec.{ltb}
 use lib.IntN.{ℤ, pos}
-use lib.ListN.{length, getD}
-use Rattle.stab.specs.Basic.{if_then_else_, nat, below}
-use Rattle.stab.specs.Formula.{Row, rowAt, joined, wellFormed}
+use lib.ListN.{getD}
+use Rattle.stab.specs.Basic.{if_then_else_, nat}
+use Rattle.stab.specs.Formula.{Row, rowAt, joined}
 use Rattle.stab.specs.Node.{Tableau}
 use Rattle.stab.specs.Text.{padded}
 use Rattle.stab.proofs.Trees.{below-nat}
@@ -20,7 +19,7 @@ use Rattle.tidied.proofs.Foldings.{joined-below, joined-above, new-schema, new-
 use Rattle.folds.proofs.Numbers.{new-padded}
 use Rattle.joint.specs.Joint.{schemaCount, ofFirst, ofSecond, movedRows, theOr, jointSchema, jointProof, untidied}
 use Rattle.joint.proofs.Rows.{schema-length}
-use Rattle.jointrows.specs.Kept.{placed, Gives, orOf, bothSchemata, bothProofs}
+use Rattle.jointrows.specs.Kept.{placed, Gives, orOf, bothSchemata, bothProofs, Joinable}
 use Rattle.jointrows.proofs.Numbers.{placed-small}
 use Rattle.jointrows.proofs.Rows.{folding-same}
 
@@ -79,31 +78,31 @@ module _ (rows : ℕ → Row) (t : List ℤ) (m : ℕ) (new new′ : ℕ → ℕ
       ∙ renumbered-agrees rows new new′ (m + n) (f (m + n) (omega arith)) (λ x h. agree x (omega arith))
       ∙ ap (renumbered new′) (sym (e n (omega arith)))))
 
-module _ (A : Tableau) (formed : AllFormed (joined (A .schema) (A .schemaRows) (A .proof)) (A .schemaRows + A .proofRows)) (few : A .schemaRows + A .proofRows ≤ 1024) (N : List ℕ) (f : ℕ → ℕ) (g : Gives N f) where
+module _ (A : Tableau) (J : Joinable A) (N : List ℕ) (f : ℕ → ℕ) (g : Gives N f) where
   agree : (x : ℕ) → x < 1024 → newNumber 0 N x ≡ f x
   agree x h = table-number N x ∙ g x h
 
   schema-agree : movedRows (newNumber 0 N) (A .schema) (A .schemaRows) ≡ movedRows f (A .schema) (A .schemaRows)
   schema-agree =
-      moved-agree (joined (A .schema) (A .schemaRows) (A .proof)) (A .schema) 0 (newNumber 0 N) f agree (A .schemaRows) (omega arith)
+      moved-agree (joined (A .schema) (A .schemaRows) (A .proof)) (A .schema) 0 (newNumber 0 N) f agree (A .schemaRows) (omega (arith, J .few))
       (λ k h. let e : k ≡ 0 + k = omega arith in sym (joined-below (A .schema) (A .schemaRows) (A .proof) k h) ∙ ap (joined (A .schema) (A .schemaRows) (A .proof)) e)
-      (λ r h. formed r (omega arith))
+      (λ r h. J .formed r (omega arith))
 
   proof-agree : movedRows (newNumber 0 N) (A .proof) (A .proofRows) ≡ movedRows f (A .proof) (A .proofRows)
   proof-agree =
-      moved-agree (joined (A .schema) (A .schemaRows) (A .proof)) (A .proof) (A .schemaRows) (newNumber 0 N) f agree (A .proofRows) few
+      moved-agree (joined (A .schema) (A .schemaRows) (A .proof)) (A .proof) (A .schemaRows) (newNumber 0 N) f agree (A .proofRows) (J .few)
       (λ k h. sym (joined-above (A .schema) (A .schemaRows) (A .proof) k))
-      formed
+      (J .formed)
 
-  root-agree : below (A .schemaRows) (A .root) ≡ true → through (newNumber 0 N) (A .root) ≡ through f (A .root)
-  root-agree h =
-      through-below (newNumber 0 N) (A .schemaRows) (A .root) h
-      ∙ ap pos (agree (nat (A .root)) (omega (arith, below-nat (A .schemaRows) (A .root) h)))
-      ∙ sym (through-below f (A .schemaRows) (A .root) h)
+  root-agree : through (newNumber 0 N) (A .root) ≡ through f (A .root)
+  root-agree =
+      through-below (newNumber 0 N) (A .schemaRows) (A .root) (J .root)
+      ∙ ap pos (agree (nat (A .root)) (omega (arith, J .few, below-nat (A .schemaRows) (A .root) (J .root))))
+      ∙ sym (through-below f (A .schemaRows) (A .root) (J .root))
 
 -- ---- both records
 
-module _ (A B : Tableau) (formedA : AllFormed (joined (A .schema) (A .schemaRows) (A .proof)) (A .schemaRows + A .proofRows)) (fewA : A .schemaRows + A .proofRows ≤ 1024) (rootA : below (A .schemaRows) (A .root) ≡ true) (formedB : AllFormed (joined (B .schema) (B .schemaRows) (B .proof)) (B .schemaRows + B .proofRows)) (fewB : B .schemaRows + B .proofRows ≤ 1024) (rootB : below (B .schemaRows) (B .root) ≡ true) (N M : List ℕ) (gN : Gives N (ofFirst A B)) (gM : Gives M (ofSecond A B)) where
+module _ (A B : Tableau) (JA : Joinable A) (JB : Joinable B) (N M : List ℕ) (gN : Gives N (ofFirst A B)) (gM : Gives M (ofSecond A B)) where
   abbrev schemata : List ℤ
   schemata = bothSchemata (newNumber 0 N) (A .schema) (A .schemaRows) (A .root) (newNumber 0 M) (B .schema) (B .schemaRows) (B .root)
 
@@ -114,13 +113,13 @@ module _ (A B : Tableau) (formedA : AllFormed (joined (A .schema) (A .schemaRows
   unfolding bothSchemata jointSchema theOr orOf
   schemata-are =
       ap₂ (λ (x y : List ℤ). x ++ y)
-      (ap₂ (λ (x y : List ℤ). x ++ y) (schema-agree A formedA fewA N (ofFirst A B) gN) (schema-agree B formedB fewB M (ofSecond A B) gM))
-      (ap₂ (λ (a b : ℤ). columns (orOf a b)) (root-agree A formedA fewA N (ofFirst A B) gN rootA) (root-agree B formedB fewB M (ofSecond A B) gM rootB))
+      (ap₂ (λ (x y : List ℤ). x ++ y) (schema-agree A JA N (ofFirst A B) gN) (schema-agree B JB M (ofSecond A B) gM))
+      (ap₂ (λ (a b : ℤ). columns (orOf a b)) (root-agree A JA N (ofFirst A B) gN) (root-agree B JB M (ofSecond A B) gM))
 
   proofs-are : proofs ≡ jointProof A B
   unfolding bothProofs jointProof
   proofs-are =
-      ap₂ (λ (x y : List ℤ). x ++ y) (proof-agree A formedA fewA N (ofFirst A B) gN) (proof-agree B formedB fewB M (ofSecond A B) gM)
+      ap₂ (λ (x y : List ℤ). x ++ y) (proof-agree A JA N (ofFirst A B) gN) (proof-agree B JB M (ofSecond A B) gM)
 
   pub folding-is : (out : List ℤ) (k : ℕ) → out ≡ padded (pos 0) k schemata → folding out (A .schemaRows + B .schemaRows + 1) proofs (A .proofRows + B .proofRows) ≡ foldingOf (untidied A B)
   unfolding foldingOf untidied schemaCount

@@ -1,15 +1,13 @@
 -- The new number of each row of one record.
 use Prim.Native.Nat.{ℕ, zero, suc, _+_, _-_, _<_, _≤_}
 use native.Mathlib.Omega.{arith}
-use native.Mathlib.Numerals.{add-one}
-use mathlib.Core.Path.{_≡_, refl, sym, _∙_, ap, subst}
+use mathlib.Core.Path.{_≡_, refl, sym, _∙_, ap}
 use mathlib.Core.Logic.{⊎-elim}
 use mathlib.Core.List.{List, [], _∷_}
 use lib.Dec.{ltb}
 use lib.ListN.{length, getD, set}
 use lib.Seq.{getD-set-same, getD-set-other}
-use borrow.Author.Tests.{ltb-true, ltb-false, le-ltb}
-use Rattle.stab.specs.Basic.{if_then_else_}
+use borrow.Author.Tests.{ltb-true, ltb-false}
 use Rattle.stab.proofs.Bools.{decide, if-true, if-false}
 use Rattle.stab.proofs.Scans.{below-suc}
 use Rattle.tidied.specs.Tidied.{newNumber}

@@ -1,15 +1,19 @@
 -- What the passes over the formula rows of two records put.
-use Prim.Native.Nat.{ℕ, _+_, _-_, _<_}
+use Prim.Native.Nat.{ℕ, _+_, _-_, _<_, _≤_}
 use mathlib.Core.Path.{_≡_}
+use mathlib.Core.Bool.{true}
 use mathlib.Core.List.{List, [], _++_}
 use lib.Dec.{ltb}
 use lib.IntN.{ℤ, pos}
-use lib.ListN.{getD}
-use Rattle.stab.specs.Basic.{if_then_else_}
-use Rattle.stab.specs.Formula.{Row}
+use lib.ListN.{length, getD}
+use Rattle.stab.specs.Basic.{if_then_else_, below}
+use Rattle.stab.specs.Formula.{Row, joined}
 use Rattle.stab.specs.Node.{Tableau}
-use Rattle.tidied.specs.Tidied.{through, columns}
-use Rattle.joint.specs.Joint.{movedRows}
+use Rattle.stab.specs.Text.{padded}
+use Rattle.formula.specs.Facts.{AllFormed}
+use Rattle.tidied.specs.Tidied.{through, columns, foldingOf, newOf}
+use Rattle.folds.specs.Folds.{AllSmall}
+use Rattle.joint.specs.Joint.{ofFirst, ofSecond, movedRows, jointSchema, untidied}
 
 -- the formula rows of a record alone
 abbrev pub plain : List ℤ → ℕ → List ℤ → ℕ → ℤ → Tableau
@@ -35,3 +39,19 @@ bothSchemata f s n a g t m b = movedRows f s n ++ movedRows g t m ++ columns (or
 -- the proof rows of two records, each under its new numbers
 unfoldable pub bothProofs : (ℕ → ℕ) → List ℤ → ℕ → (ℕ → ℕ) → List ℤ → ℕ → List ℤ
 bothProofs f s n g t m = movedRows f s n ++ movedRows g t m
+
+-- a record's rows can be joined: they are few and well formed, and its root is one of the schema's
+pub record Joinable (A : Tableau) : Type 0 where
+  pub few : A .schemaRows + A .proofRows ≤ 1024
+  pub formed : AllFormed (joined (A .schema) (A .schemaRows) (A .proof)) (A .schemaRows + A .proofRows)
+  pub root : below (A .schemaRows) (A .root) ≡ true
+
+-- how many proof rows stay, the new numbers of the rows of both records, and the two tables, which were schema₀ and proof₀
+pub record RowsFilled (A B : Tableau) (schema₀ proof₀ : List ℤ) (count : ℕ) (first second : List ℕ) (schema proof : List ℤ) : Type 0 where
+  pub counted : count ≡ foldingOf (untidied A B) .count
+  pub firstNumbers : Gives first (λ r. newOf (untidied A B) (ofFirst A B r))
+  pub firstSmall : AllSmall first
+  pub secondNumbers : Gives second (λ r. newOf (untidied A B) (ofSecond A B r))
+  pub secondSmall : AllSmall second
+  pub schemaTable : schema ≡ padded (pos 0) (length schema₀) (jointSchema A B)
+  pub proofTable : A .schemaRows + B .schemaRows + 1 + count ≤ 1024 → proof ≡ padded (pos 0) (length proof₀) (foldingOf (untidied A B) .table)

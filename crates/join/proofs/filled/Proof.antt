@@ -1,18 +1,16 @@
-use mir.Syntax.{w32}
-use mir.Val.{toZ, ofZ}
-use Rattle.join.proofs.Answers.{few-rows, all-formed, root-below, few-folded, rows-over, members-over, all-fit, too-large, record-made}
-use Rattle.join.proofs.Placed.{readable, plain-schema, plain-folding, plain-first, plain-second, members-are, nodes-are}
+use Rattle.join.proofs.Answers.{four, full-room, joinable, few-folded, rows-over, members-over, all-fit, too-large, record-made}
+use Rattle.join.proofs.Placed.{readable, of-plain, members-are, nodes-are}
 use Rattle.join.specs.Kept.{rooms}
-use Rattle.jointrows.specs.Kept.{plain, Gives}
+use Rattle.jointrows.specs.Kept.{plain, Joinable, RowsFilled}
+use Rattle.jointrefusal.proofs.Before.{first-keeps, second-keeps, few-rows, few-schema, few-nodes, small-or}
+use Rattle.stab.specs.Keeps.{Keeps}
 use Rattle.joint.specs.declared.Joined.the-variants.{Record}
-use Rattle.joint.specs.Joint.{schemaCount, orRow, ofFirst, ofSecond, jointSchema, untidied, joint}
-use Rattle.tidied.specs.Tidied.{Folding, foldingOf, newOf}
+use Rattle.joint.specs.Joint.{schemaCount, orRow, joint}
 use Rattle.signed.proofs.Signs.{read-back}
 use Rattle.stab.specs.Text.{padded}
-use Rattle.stab.specs.Basic.{below}
 use lib.ListN.{length}
-use mathlib.Core.Path.{_≡_, sym, _∙_, ap, ap₂}
-use Prim.Native.Nat.{ℕ, suc, _+_, _<_, _≤_}
+use mathlib.Core.Path.{_≡_, sym, _∙_, ap, subst}
+use Prim.Native.Nat.{ℕ, suc, _+_, _≤_}
 use Rattle.joint.specs.Joint.{Rooms}
 use Rattle.branch.specs.Work.{tableau}
 use Rattle.stab.specs.Node.{Tableau}
@@ -64,45 +62,21 @@ PA b root = let a = b .args in plain (a .first-schema .now) (a .first-schema-row
 abbrev PB : tie.Start → ℤ → Tableau
 PB b root = let a = b .args in plain (a .second-schema .now) (a .second-schema-rows) (a .second-proof .now) (a .second-proof-rows) root
 
-is-folded : (c : tie.After-fill-rows) →
+rows-are : (c : tie.After-fill-rows) →
     let b = start c in
-    foldingOf (untidied (PA b (toZ w32 (ofZ w32 (b .args .first-root)))) (PB b (toZ w32 (ofZ w32 (b .args .second-root))))) ≡ foldingOf (untidied (TA b) (TB b))
+    RowsFilled (TA b) (TB b) (b .args .out-schema .now) (b .args .out-proof .now) (c .fill-rows .result) (first-numbers c) (second-numbers c) (c .fill-rows .last .1 .1 .1 .1 .1 .1 .1 .1 .1 .1 .1 .1 .0) (c .fill-rows .last .1 .1 .1 .1 .1 .1 .1 .1 .1 .1 .1 .1 .1 .0)
 unfolding tableau
-is-folded c =
+rows-are c =
     let b = start c in
-    ap₂ (λ (x y : ℤ). foldingOf (untidied (PA b x) (PB b y))) (toZ-ofZ (b .fits .first-root)) (toZ-ofZ (b .fits .second-root)) ∙ plain-folding (TA b) (TB b)
+    of-plain (TA b) (TB b)
+    (four (λ x y z w. RowsFilled (PA b x) (PB b z) (b .args .out-schema .now) (b .args .out-proof .now) (c .fill-rows .result) (first-numbers c) (second-numbers c) (c .fill-rows .last .1 .1 .1 .1 .1 .1 .1 .1 .1 .1 .1 .1 .0) (c .fill-rows .last .1 .1 .1 .1 .1 .1 .1 .1 .1 .1 .1 .1 .1 .0)) (toZ-ofZ (b .fits .first-root)) (toZ-ofZ (b .fits .first-least)) (toZ-ofZ (b .fits .second-root)) (toZ-ofZ (b .fits .second-least)) (c .fill-rows .ensures))
 
-count-is : (c : tie.After-fill-rows) → let b = start c in c .fill-rows .result ≡ foldingOf (untidied (TA b) (TB b)) .count
-count-is c = c .fill-rows .ensures .0 ∙ ap (λ (F : Folding). F .count) (is-folded c)
+-- both keep the rules
+keepsA : (b : tie.Start) → Keeps (TA b)
+keepsA b = first-keeps (TA b) (TB b) (b .pre .1)
 
-schema-is : (c : tie.After-fill-rows) → let b = start c in c .fill-rows .last .1 .1 .1 .1 .1 .1 .1 .1 .1 .1 .1 .1 .0 ≡ padded (pos 0) (length (b .args .out-schema .now)) (jointSchema (TA b) (TB b))
-unfolding tableau
-schema-is c =
-    let b = start c in
-    c .fill-rows .ensures .1 .0
-    ∙ ap (padded (pos 0) (length (b .args .out-schema .now))) (ap₂ (λ (x y : ℤ). jointSchema (PA b x) (PB b y)) (toZ-ofZ (b .fits .first-root)) (toZ-ofZ (b .fits .second-root)) ∙ plain-schema (TA b) (TB b))
-
-proof-is : (c : tie.After-fill-rows) →
-    let b = start c in
-    b .args .first-schema-rows + b .args .second-schema-rows + 1 + c .fill-rows .result ≤ 1024 → c .fill-rows .last .1 .1 .1 .1 .1 .1 .1 .1 .1 .1 .1 .1 .1 .0 ≡ padded (pos 0) (length (b .args .out-proof .now)) (foldingOf (untidied (TA b) (TB b)) .table)
-proof-is c h =
-    c .fill-rows .ensures .1 .1 .0 h ∙ ap (λ (F : Folding). padded (pos 0) (length (start c .args .out-proof .now)) (F .table)) (is-folded c)
-
-gives-first : (c : tie.After-fill-rows) → let b = start c in Gives (first-numbers c) (λ r. newOf (untidied (TA b) (TB b)) (ofFirst (TA b) (TB b) r))
-unfolding tableau
-gives-first c r h =
-    let b = start c in
-    c .fill-rows .ensures .1 .1 .1 .0 .0 r h
-    ∙ ap₂ (λ (x y : ℤ). newOf (untidied (PA b x) (PB b y)) (ofFirst (PA b x) (PB b y) r)) (toZ-ofZ (b .fits .first-root)) (toZ-ofZ (b .fits .second-root))
-    ∙ plain-first (TA b) (TB b) r
-
-gives-second : (c : tie.After-fill-rows) → let b = start c in Gives (second-numbers c) (λ r. newOf (untidied (TA b) (TB b)) (ofSecond (TA b) (TB b) r))
-unfolding tableau
-gives-second c r h =
-    let b = start c in
-    c .fill-rows .ensures .1 .1 .1 .1 .0 r h
-    ∙ ap₂ (λ (x y : ℤ). newOf (untidied (PA b x) (PB b y)) (ofSecond (PA b x) (PB b y) r)) (toZ-ofZ (b .fits .first-root)) (toZ-ofZ (b .fits .second-root))
-    ∙ plain-second (TA b) (TB b) r
+keepsB : (b : tie.Start) → Keeps (TB b)
+keepsB b = second-keeps (TA b) (TB b) (b .pre .1)
 
 member-count : (c : tie.After-fill-nodes) → let b = start (rows-of c) in c .fill-nodes .result ≡ length (joint (TA b) (TB b) .members)
 unfolding tableau orRow
@@ -110,10 +84,11 @@ member-count c =
     let f = rows-of c in
     let b = start f in
     c .fill-nodes .ensures .0
-    ∙ ap length (members-are (TA b) (TB b) (b .pre .1 .1 .0) (b .pre .1 .1 .1) (first-numbers f) (second-numbers f) (gives-first f) (gives-second f))
+    ∙ ap length (members-are (TA b) (TB b) (keepsA b) (keepsB b) (first-numbers f) (second-numbers f) (rows-are f .firstNumbers) (rows-are f .secondNumbers))
 
 add-or-row : tie.Need-add-or-row
-add-or-row c = search needs
+unfolding tableau
+add-or-row b = omega (arith, few-schema (TA b) (TB b) (b .pre .1))
 
 slice-aggregate-fill-rows : tie.Need-slice-aggregate-fill-rows
 slice-aggregate-fill-rows c = search needs
@@ -125,25 +100,25 @@ fill-rows-requires : tie.Need-fill-rows-requires
 unfolding tableau
 fill-rows-requires c κs =
     let b = c .before .before .before .before in
-    let a = b .args in
-    let K = b .pre .1 .1 .0 .older in
-    let L = b .pre .1 .1 .1 .older in (
-      (few-rows (TA b) K, few-rows (TB b) L, b .pre .1 .0 .0, omega arith, omega arith, b .pre .0 .0, b .pre .0 .1),
+    let room = full-room (R b) (b .pre .0) in (
       (
-        (all-formed (TA b) K, ap (below (a .first-schema-rows)) (toZ-ofZ (b .fits .first-root)) ∙ root-below (TA b) K),
-        (all-formed (TB b) L, ap (below (a .second-schema-rows)) (toZ-ofZ (b .fits .second-root)) ∙ root-below (TB b) L),
+        subst (λ (x : ℤ). Joinable (PA b x)) (sym (toZ-ofZ (b .fits .first-root))) (joinable (TA b) (keepsA b .older)),
+        subst (λ (x : ℤ). Joinable (PB b x)) (sym (toZ-ofZ (b .fits .second-root))) (joinable (TB b) (keepsB b .older)),
+        few-schema (TA b) (TB b) (b .pre .1),
       ),
+      (omega arith, omega arith, room .0, room .1),
     )
 
 add-if1 : tie.Need-add-if1
-add-if1 c = search needs
+unfolding tableau
+add-if1 c = let b = start (c .before .before .before .before) in omega (arith, few-schema (TA b) (TB b) (b .pre .1))
 
 add-if1-2 : tie.Need-add-if1-2
 unfolding tableau
 add-if1-2 c =
     let f = c .before .before .before .before in
     let b = start f in
-    omega (arith, count-is f, few-folded (TA b) (TB b), few-rows (TA b) (b .pre .1 .1 .0 .older), few-rows (TB b) (b .pre .1 .1 .1 .older))
+    omega (arith, rows-are f .counted, few-folded (TA b) (TB b), few-rows (TA b) (keepsA b .older), few-rows (TB b) (keepsB b .older))
 
 refuse-requires : tie.Need-refuse-requires
 refuse-requires c κs = search needs
@@ -168,7 +143,7 @@ returns c =
     let f = i .before .before .before .before .before in
     let b = start f in
     let e = r .refuse .ensures in
-    too-large (R b) (TA b) (TB b) (rows-over (TA b) (TB b) (omega (arith, i .if1 .taken, count-is f))) (e .0) (e .1 .0 ∙ ap (λ (n : ℕ). padded (pos 0) n []) (f .fill-rows .kept .1 .1 .1 .1 .1 .1 .1 .1 .1 .1 .1 .1 .0)) (e .1 .1 .0 ∙ ap (λ (n : ℕ). padded (pos 0) n []) (f .fill-rows .kept .1 .1 .1 .1 .1 .1 .1 .1 .1 .1 .1 .1 .1 .0)) (e .1 .1 .1 .0) (e .1 .1 .1 .1)
+    too-large (R b) (TA b) (TB b) (b .pre .0) (b .pre .1) (rows-over (TA b) (TB b) (omega (arith, i .if1 .taken, rows-are f .counted))) (e .0) (e .1 .0 ∙ ap (λ (n : ℕ). padded (pos 0) n []) (f .fill-rows .kept .1 .1 .1 .1 .1 .1 .1 .1 .1 .1 .1 .1 .0)) (e .1 .1 .0 ∙ ap (λ (n : ℕ). padded (pos 0) n []) (f .fill-rows .kept .1 .1 .1 .1 .1 .1 .1 .1 .1 .1 .1 .1 .1 .0)) (e .1 .1 .1 .0) (e .1 .1 .1 .1)
 
 slice-aggregate-fill-nodes : tie.Need-slice-aggregate-fill-nodes
 slice-aggregate-fill-nodes c = search needs
@@ -181,9 +156,10 @@ unfolding tableau
 fill-nodes-requires c κs =
     let f = c .before .before .before .before .before .before .before .before .before in
     let b = start f in
-    let k = f .fill-rows .ensures .1 .1 .1 in (
-      (b .pre .1 .0 .0, b .pre .1 .0 .1, b .pre .0 .2, b .pre .0 .3, k .0 .1, k .1 .1),
-      (readable (TA b) (b .pre .1 .1 .0 .older), readable (TB b) (b .pre .1 .1 .1 .older)),
+    let room = full-room (R b) (b .pre .0) in
+    let P = rows-are f in (
+      (few-schema (TA b) (TB b) (b .pre .1), few-nodes (TA b) (TB b) (b .pre .1), room .2, room .3, P .firstSmall, P .secondSmall),
+      (readable (TA b) (keepsA b .older), readable (TB b) (keepsB b .older)),
     )
 
 refuse-requires-2 : tie.Need-refuse-requires-2
@@ -210,7 +186,7 @@ returns-2 c =
     let f = rows-of n in
     let b = start f in
     let e = r .refuse2 .ensures in
-    too-large (R b) (TA b) (TB b) (members-over (TA b) (TB b) (omega (arith, i .if2 .taken, member-count n))) (e .0) (e .1 .0 ∙ ap (λ (n : ℕ). padded (pos 0) n []) (f .fill-rows .kept .1 .1 .1 .1 .1 .1 .1 .1 .1 .1 .1 .1 .0)) (e .1 .1 .0 ∙ ap (λ (n : ℕ). padded (pos 0) n []) (f .fill-rows .kept .1 .1 .1 .1 .1 .1 .1 .1 .1 .1 .1 .1 .1 .0)) (e .1 .1 .1 .0 ∙ ap (λ (n : ℕ). padded (pos 0) n []) (n .fill-nodes .kept .1 .1 .1 .1 .1 .1 .1 .1 .1 .0)) (e .1 .1 .1 .1 ∙ ap (λ (n : ℕ). padded (pos 0) n []) (n .fill-nodes .kept .1 .1 .1 .1 .1 .1 .1 .1 .1 .1 .0))
+    too-large (R b) (TA b) (TB b) (b .pre .0) (b .pre .1) (members-over (TA b) (TB b) (omega (arith, i .if2 .taken, member-count n))) (e .0) (e .1 .0 ∙ ap (λ (n : ℕ). padded (pos 0) n []) (f .fill-rows .kept .1 .1 .1 .1 .1 .1 .1 .1 .1 .1 .1 .1 .0)) (e .1 .1 .0 ∙ ap (λ (n : ℕ). padded (pos 0) n []) (f .fill-rows .kept .1 .1 .1 .1 .1 .1 .1 .1 .1 .1 .1 .1 .1 .0)) (e .1 .1 .1 .0 ∙ ap (λ (n : ℕ). padded (pos 0) n []) (n .fill-nodes .kept .1 .1 .1 .1 .1 .1 .1 .1 .1 .0)) (e .1 .1 .1 .1 ∙ ap (λ (n : ℕ). padded (pos 0) n []) (n .fill-nodes .kept .1 .1 .1 .1 .1 .1 .1 .1 .1 .1 .0))
 
 of-requires : tie.Need-of-requires
 of-requires c κs = search needs
@@ -219,10 +195,12 @@ add-t38 : tie.Need-add-t38
 add-t38 c = search needs
 
 add-t39 : tie.Need-add-t39
-add-t39 c = let b = c .before .before .before .before .before .before .before .before .before .before .before .before .before .before .before .before .before .before .before in omega (arith, b .pre .1 .0 .1)
+unfolding tableau
+add-t39 c = let b = c .before .before .before .before .before .before .before .before .before .before .before .before .before .before .before .before .before .before .before in omega (arith, few-nodes (TA b) (TB b) (b .pre .1))
 
 add-t70 : tie.Need-add-t70
-add-t70 c = let b = c .before .before .before .before .before .before .before .before .before .before .before .before .before .before .before .before .before .before .before in omega (arith, b .pre .1 .0 .1)
+unfolding tableau
+add-t70 c = let b = c .before .before .before .before .before .before .before .before .before .before .before .before .before .before .before .before .before .before .before in omega (arith, few-nodes (TA b) (TB b) (b .pre .1))
 
 same-length-9 : tie.Need-same-length-9
 same-length-9 c = search needs
@@ -246,15 +224,16 @@ returns-3 c =
     let a = b .args in
     let fits : a .first-schema-rows + a .second-schema-rows + 1 + f .fill-rows .result ≤ 1024 = omega (arith, n .before .before .before .before .before .if1 .left) in
     let few = i .if2 .left in
+    let P = rows-are f in
     let e : a .first-schema-rows + a .second-schema-rows + 1 ≡ suc (a .first-schema-rows + a .second-schema-rows) = omega arith in
     let k : 1 + a .first-node-rows + a .second-node-rows ≡ suc (a .first-node-rows + a .second-node-rows) = omega arith in
-    record-made (R b) (TA b) (TB b)
-    (all-fit (TA b) (TB b) (omega (arith, fits, count-is f)) (b .pre .1 .0 .1) (omega (arith, few, member-count n)) (b .pre .1 .0 .2))
-    (λ x. Record ((read-back _ (c .of .ok) ∙ c .of .ensures) x) (toZ-ofZ (b .fits .first-least) x) (e x) (count-is f x) (k x) (member-count n x))
-    (schema-is f)
-    (proof-is f fits)
-    (n .fill-nodes .ensures .1 .0 few ∙ ap (padded (pos 0) (length (a .out-nodes .now))) (nodes-are (TA b) (TB b) (b .pre .1 .1 .0) (b .pre .1 .1 .1) (first-numbers f) (second-numbers f) (gives-first f) (gives-second f)))
-    (n .fill-nodes .ensures .1 .1 few ∙ ap (padded (pos 0) (length (a .out-members .now))) (members-are (TA b) (TB b) (b .pre .1 .1 .0) (b .pre .1 .1 .1) (first-numbers f) (second-numbers f) (gives-first f) (gives-second f)))
+    record-made (R b) (TA b) (TB b) (b .pre .0) (b .pre .1)
+    (all-fit (TA b) (TB b) (omega (arith, fits, P .counted)) (few-nodes (TA b) (TB b) (b .pre .1)) (omega (arith, few, member-count n)) (small-or (TA b) (TB b) (b .pre .1)))
+    (λ x. Record ((read-back _ (c .of .ok) ∙ c .of .ensures) x) (toZ-ofZ (b .fits .first-least) x) (e x) (P .counted x) (k x) (member-count n x))
+    (P .schemaTable)
+    (P .proofTable fits)
+    (n .fill-nodes .ensures .1 .0 few ∙ ap (padded (pos 0) (length (a .out-nodes .now))) (nodes-are (TA b) (TB b) (keepsA b) (keepsB b) (first-numbers f) (second-numbers f) (rows-are f .firstNumbers) (rows-are f .secondNumbers)))
+    (n .fill-nodes .ensures .1 .1 few ∙ ap (padded (pos 0) (length (a .out-members .now))) (members-are (TA b) (TB b) (keepsA b) (keepsB b) (first-numbers f) (second-numbers f) (rows-are f .firstNumbers) (rows-are f .secondNumbers)))
 
 pub filled-spec : {M : Type 1} → statement M
 filled-spec =

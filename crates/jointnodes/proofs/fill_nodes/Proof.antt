@@ -5,8 +5,8 @@ use Rattle.signed.proofs.Tables.{cleared-padded}
 use Rattle.stab.specs.Text.{padded}
 use lib.ListN.{length}
 use lib.IntN.{pos}
-use mathlib.Core.Path.{_≡_, refl, sym, _∙_, ap}
-use Prim.Native.Nat.{ℕ, _+_, _*_, _≤_}
+use mathlib.Core.Path.{_≡_, _∙_, ap}
+use Prim.Native.Nat.{_+_, _*_}
 use native.Mathlib.Omega.{arith}
 use borrow.Author.Needs.{needs}
 use Rattle.jointnodes.proofs.fill_nodes.Statement.{statement}

@@ -2,7 +2,7 @@ use Rattle.jointrows.proofs.Moves.{first-number, second-number, first-n
 use Rattle.jointrows.specs.Kept.{Gives, plain, bothSchemata, bothProofs}
 use Rattle.joint.specs.Joint.{ofFirst, ofSecond, jointSchema, untidied}
 use Rattle.folds.proofs.Numbers.{getD-zeros}
-use Rattle.tidied.specs.Tidied.{newNumber, Folding, folding, foldingOf, newOf}
+use Rattle.tidied.specs.Tidied.{newNumber, Folding, folding, foldingOf}
 use Rattle.stab.proofs.Trees.{below-nat}
 use Rattle.stab.specs.Text.{padded}
 use Rattle.stab.specs.Node.{Tableau}
@@ -10,8 +10,8 @@ use mir.Facts.{toZ-ofZ}
 use lib.ListN.{length}
 use lib.IntN.{ℤ, pos}
 use mathlib.Core.List.{List}
-use mathlib.Core.Path.{_≡_, refl, sym, _∙_, ap, ap₂}
-use Prim.Native.Nat.{ℕ, _+_, _*_, _<_, _≤_}
+use mathlib.Core.Path.{_≡_, refl, _∙_, ap, ap₂}
+use Prim.Native.Nat.{ℕ, _+_}
 use native.Mathlib.Omega.{arith}
 use borrow.Author.Needs.{needs}
 use Rattle.jointrows.proofs.fill_rows.Statement.{statement}
@@ -42,12 +42,12 @@ second-numbers c = fill2-of c .fill2 .last .1 .1 .1 .1 .1 .0
 gives-first : (c : tie.After-fold-rows) → Gives (first-numbers c) (ofFirst (A (start c)) (B (start c)))
 gives-first c r l =
     let b = start c in
-    fill-of c .fill .ensures .0 r l ∙ first-number (A b) (B b) (b .pre .0 .2) (b .pre .0 .0) _ r l
+    fill-of c .fill .ensures .0 r l ∙ first-number (A b) (B b) (b .pre .0 .2) (b .pre .0 .0 .few) _ r l
 
 gives-second : (c : tie.After-fold-rows) → Gives (second-numbers c) (ofSecond (A (start c)) (B (start c)))
 gives-second c r l =
     let b = start c in
-    fill2-of c .fill2 .ensures .0 r l ∙ second-number (A b) (B b) (b .pre .0 .2) (b .pre .0 .0) _ r l
+    fill2-of c .fill2 .ensures .0 r l ∙ second-number (A b) (B b) (b .pre .0 .2) (b .pre .0 .0 .few) _ r l
 
 -- the schema rows as they were put
 abbrev schema : tie.After-fold-rows → List ℤ
@@ -68,7 +68,7 @@ schema-is c =
     let b = start c in
     put-is c
     ∙ ap (padded (pos 0) (length (b .args .out-schema .now)))
-    (schemata-are (A b) (B b) (b .pre .1 .0 .0) (b .pre .0 .0) (b .pre .1 .0 .1) (b .pre .1 .1 .0) (b .pre .0 .1) (b .pre .1 .1 .1) (first-numbers c) (second-numbers c) (gives-first c) (gives-second c))
+    (schemata-are (A b) (B b) (b .pre .0 .0) (b .pre .0 .1) (first-numbers c) (second-numbers c) (gives-first c) (gives-second c))
 
 is-folded : (c : tie.After-fold-rows) →
     let b = start c in
@@ -76,7 +76,7 @@ is-folded : (c : tie.After-fold-rows) →
     folding (schema c) (a .first-schema-rows + a .second-schema-rows + 1) (bothProofs (newNumber 0 (first-numbers c)) (a .first-proof .now) (a .first-proof-rows) (newNumber 0 (second-numbers c)) (a .second-proof .now) (a .second-proof-rows)) (a .first-proof-rows + a .second-proof-rows) ≡ foldingOf (untidied (A b) (B b))
 is-folded c =
     let b = start c in
-    folding-is (A b) (B b) (b .pre .1 .0 .0) (b .pre .0 .0) (b .pre .1 .0 .1) (b .pre .1 .1 .0) (b .pre .0 .1) (b .pre .1 .1 .1) (first-numbers c) (second-numbers c) (gives-first c) (gives-second c) (schema c) (length (b .args .out-schema .now)) (put-is c)
+    folding-is (A b) (B b) (b .pre .0 .0) (b .pre .0 .1) (first-numbers c) (second-numbers c) (gives-first c) (gives-second c) (schema c) (length (b .args .out-schema .now)) (put-is c)
 
 add-s : tie.Need-add-s
 add-s c = search needs
@@ -93,7 +93,7 @@ slice-aggregate-fill c = search needs
 fill-requires : tie.Need-fill-requires
 fill-requires c κs =
     let b = c .before .before .before .before in
-    (omega arith, omega (arith, b .pre .0 .2), b .pre .0 .3, λ i. omega (arith, getD-zeros 2049 i))
+    (omega arith, omega (arith, b .pre .0 .2), b .pre .1 .0, λ i. omega (arith, getD-zeros 2049 i))
 
 slice-aggregate-fill-2 : tie.Need-slice-aggregate-fill-2
 slice-aggregate-fill-2 c = search needs
@@ -101,7 +101,7 @@ slice-aggregate-fill-2 c = search needs
 fill-requires-2 : tie.Need-fill-requires-2
 fill-requires-2 c κs =
     let b = c .before .before .before .before .before .before .before .before .before in
-    (omega (arith, b .pre .0 .2), omega (arith, b .pre .0 .0, b .pre .0 .2), b .pre .0 .4, λ i. omega (arith, getD-zeros 2049 i))
+    (omega (arith, b .pre .0 .2), omega (arith, b .pre .0 .0 .few, b .pre .0 .2), b .pre .1 .1, λ i. omega (arith, getD-zeros 2049 i))
 
 put-schema-requires : tie.Need-put-schema-requires
 put-schema-requires c κs = search needs
@@ -115,7 +115,7 @@ fold-rows-requires c κs =
     let f = g .before .before .before .before .before in
     let b = f .before .before .before .before .before in
     let a = b .args in
-    ((omega (arith, b .pre .0 .0, below-nat (a .first-schema-rows) (a .first-root) (b .pre .1 .0 .1)), omega (arith, b .pre .0 .1, below-nat (a .second-schema-rows) (a .second-root) (b .pre .1 .1 .1)), omega (arith, b .pre .0 .0, b .pre .0 .1), b .pre .0 .6, omega arith, f .fill .ensures .1, g .fill2 .ensures .1), refl)
+    ((omega (arith, b .pre .0 .0 .few, below-nat (a .first-schema-rows) (a .first-root) (b .pre .0 .0 .root)), omega (arith, b .pre .0 .1 .few, below-nat (a .second-schema-rows) (a .second-root) (b .pre .0 .1 .root)), omega (arith, b .pre .0 .0 .few, b .pre .0 .1 .few), b .pre .1 .3, omega arith, f .fill .ensures .1, g .fill2 .ensures .1), refl)
 
 slice-aggregate-fill-3 : tie.Need-slice-aggregate-fill-3
 slice-aggregate-fill-3 c = search needs
@@ -125,7 +125,7 @@ fill-requires-3 c κs =
     let r = c .before .before .before .before in
     let f = r .before .before .before .before .before .before .before .before .before .before .before .before .before .before .before .before .before .before in
     let b = f .before .before .before .before .before in
-    (omega arith, omega (arith, b .pre .0 .2), f .fill .kept .1 .1 .1 .1 .1 .0 ∙ b .pre .0 .3, r .fold-rows .ensures .1 .1 .1)
+    (omega arith, omega (arith, b .pre .0 .2), f .fill .kept .1 .1 .1 .1 .1 .0 ∙ b .pre .1 .0, r .fold-rows .ensures .1 .1 .1)
 
 slice-aggregate-fill-4 : tie.Need-slice-aggregate-fill-4
 slice-aggregate-fill-4 c = search needs
@@ -135,7 +135,7 @@ fill-requires-4 c κs =
     let r = c .before .before .before .before .before .before .before .before .before in
     let g = r .before .before .before .before .before .before .before .before .before .before .before .before .before in
     let b = g .before .before .before .before .before .before .before .before .before .before in
-    (omega (arith, b .pre .0 .2), omega (arith, b .pre .0 .0, b .pre .0 .2), g .fill2 .kept .1 .1 .1 .1 .1 .0 ∙ b .pre .0 .4, r .fold-rows .ensures .1 .1 .1)
+    (omega (arith, b .pre .0 .2), omega (arith, b .pre .0 .0 .few, b .pre .0 .2), g .fill2 .kept .1 .1 .1 .1 .1 .0 ∙ b .pre .1 .1, r .fold-rows .ensures .1 .1 .1)
 
 same-length : tie.Need-same-length
 same-length c =
@@ -157,22 +157,18 @@ returns c =
     let k = c .before .before in
     let h = k .before .before .before .before .before in
     let r = h .before .before .before .before .before in
-    let p = r .before .before .before .before .before .before .before in
     let b = start r in
     let a = b .args in
-    let e = is-folded r in (
-      r .fold-rows .ensures .0 ∙ ap (λ (F : Folding). F .count) e,
-      (
-        schema-is r,
-        (
-          λ l. r .fold-rows .ensures .1 .0 l ∙ ap (λ (F : Folding). padded (pos 0) (length (a .out-proof .now)) (F .table)) e,
-          (
-            (λ q l. h .fill3 .ensures .0 q l ∙ first-new (A b) (B b) _ _ _ (r .fold-rows .ensures .1 .1 .0) e q, h .fill3 .ensures .1),
-            (λ q l. k .fill4 .ensures .0 q l ∙ second-new (A b) (B b) _ _ _ (r .fold-rows .ensures .1 .1 .0) e q, k .fill4 .ensures .1),
-          ),
-        ),
-      ),
-    )
+    let e = is-folded r in
+    record {
+      counted = r .fold-rows .ensures .0 ∙ ap (λ (F : Folding). F .count) e;
+      firstNumbers = λ q l. h .fill3 .ensures .0 q l ∙ first-new (A b) (B b) _ _ _ (r .fold-rows .ensures .1 .1 .0) e q;
+      firstSmall = h .fill3 .ensures .1;
+      secondNumbers = λ q l. k .fill4 .ensures .0 q l ∙ second-new (A b) (B b) _ _ _ (r .fold-rows .ensures .1 .1 .0) e q;
+      secondSmall = k .fill4 .ensures .1;
+      schemaTable = schema-is r;
+      proofTable = λ l. r .fold-rows .ensures .1 .0 l ∙ ap (λ (F : Folding). padded (pos 0) (length (a .out-proof .now)) (F .table)) e;
+    }
 
 pub fill-rows-spec : {M : Type 1} → statement M
 fill-rows-spec =

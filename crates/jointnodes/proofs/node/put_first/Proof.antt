@@ -4,7 +4,7 @@ use Rattle.signed.proofs.Signs.{read-back}
 use lib.Seq.{sets, take-suc-set}
 use lib.ListN.{take}
 use lib.IntN.{ℤ, pos, negℤ}
-use mathlib.Core.List.{List, _∷_, []}
+use mathlib.Core.List.{_∷_, []}
 use mathlib.Core.Path.{_∙_, ap}
 use native.Mathlib.Omega.{arith}
 use borrow.Author.Needs.{needs}

@@ -2,7 +2,7 @@ use Rattle.jointrows.proofs.Numbers.{filled-more, gives-small}
 use Rattle.jointrows.specs.Kept.{placed, Gives}
 use Rattle.tidied.specs.Tidied.{newNumber}
 use lib.ListN.{length, getD, length-set}
-use mathlib.Core.Path.{_≡_, refl, sym, _∙_, ap, subst}
+use mathlib.Core.Path.{_≡_, refl, _∙_, ap}
 use Prim.Native.Nat.{ℕ, _-_, _<_, _≤_}
 use native.Mathlib.Omega.{arith}
 use Rattle.jointrows.proofs.number.fill.Statement.{statement}

@@ -3,7 +3,6 @@ use Rattle.stab.proofs.Bools.{if-true, if-false}
 use borrow.Author.Tests.{lt-ltb, le-ltb}
 use lib.Dec.{ltb}
 use mathlib.Core.Path.{sym}
-use Prim.Native.Nat.{_≤_}
 use native.Mathlib.Omega.{arith}
 use borrow.Author.Needs.{needs}
 use Rattle.jointrows.proofs.number.place.Statement.{statement}

@@ -1,12 +1,11 @@
 use Rattle.jointrows.proofs.Rows.{two-blocks, rowAt-front, folding-same, few-stay, held-stay, front-padded}
 use Rattle.jointrows.specs.Kept.{bothProofs}
-use Rattle.joint.specs.Joint.{movedRows}
 use Rattle.tidied.specs.Tidied.{newNumber, Folding, folding}
 use Rattle.stab.specs.Text.{padded}
 use lib.Seq.{length-take-le}
-use lib.ListN.{length, take, replicate}
+use lib.ListN.{length, replicate}
 use lib.IntN.{ℤ, pos}
-use mathlib.Core.List.{List, _++_}
+use mathlib.Core.List.{List}
 use mathlib.Core.Path.{_≡_, refl, sym, _∙_, ap}
 use Prim.Native.Nat.{ℕ, _+_, _*_, _≤_}
 use native.Mathlib.Omega.{arith}

@@ -3,8 +3,8 @@ use Rattle.joint.specs.Joint.{movedRows}
 use Rattle.tidied.specs.Tidied.{newNumber}
 use lib.ListN.{length, take}
 use mathlib.Core.List.{_++_}
-use mathlib.Core.Path.{_≡_, refl, sym, _∙_, ap, subst}
-use Prim.Native.Nat.{ℕ, _+_, _*_, _-_, _<_, _≤_}
+use mathlib.Core.Path.{_≡_, refl, _∙_, subst}
+use Prim.Native.Nat.{ℕ, _+_, _*_, _-_, _≤_}
 use native.Mathlib.Omega.{arith}
 use Rattle.jointrows.proofs.row.put_rows.Statement.{statement}
 use Rattle.jointrows.proofs.row.put_rows.Tie as tie

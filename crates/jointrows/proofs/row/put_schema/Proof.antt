@@ -6,10 +6,10 @@ use Rattle.signed.proofs.Signs.{read-back}
 use mir.Facts.{toZ-ofZ}
 use lib.Seq.{sets}
 use lib.ListN.{length}
-use lib.IntN.{ℤ, pos}
-use mathlib.Core.List.{List, [], _∷_, _++_}
-use mathlib.Core.Path.{_≡_, refl, _∙_, ap}
-use Prim.Native.Nat.{ℕ, _+_, _*_, _≤_}
+use lib.IntN.{pos}
+use mathlib.Core.List.{[], _∷_, _++_}
+use mathlib.Core.Path.{refl, _∙_, ap}
+use Prim.Native.Nat.{_+_, _*_}
 use native.Mathlib.Omega.{arith}
 use borrow.Author.Needs.{needs}
 use Rattle.jointrows.proofs.row.put_schema.Statement.{statement}

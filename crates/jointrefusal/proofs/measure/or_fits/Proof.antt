@@ -8,11 +8,12 @@ use lib.Dec.{leb}
 use lib.IntN.{ℤ}
 use mathlib.Core.Bool.{Bool}
 use mathlib.Core.Path.{_≡_, sym, _∙_, ap, ap₂}
-use Prim.Native.Nat.{ℕ, _+_, _<_, max}
+use Prim.Native.Nat.{ℕ, _+_, max}
 use native.Mathlib.Omega.{arith}
 use borrow.Author.Needs.{needs}
-use Rattle.join.proofs.measure.or_fits.Statement.{statement}
-use Rattle.join.proofs.measure.or_fits.Tie as tie
+use Rattle.jointrefusal.specs.Before.{orSmall}
+use Rattle.jointrefusal.proofs.measure.or_fits.Statement.{statement}
+use Rattle.jointrefusal.proofs.measure.or_fits.Tie as tie
 
 -- where both roots are known
 abbrev start : tie.After-root-facts2 → tie.Start
@@ -47,7 +48,7 @@ add-if1-2 : tie.Need-add-if1-2
 add-if1-2 c = search needs
 
 returns : tie.Need-returns
-unfolding F.size
+unfolding orSmall F.size
 returns c =
     let g = c .before .before .before in
     let b = start g in
@@ -60,7 +61,7 @@ add-result : tie.Need-add-result
 add-result c = search needs
 
 returns-2 : tie.Need-returns-2
-unfolding F.size F.depth _and_
+unfolding orSmall F.size F.depth _and_
 returns-2 c =
     let i = c .before in
     let g = i .before .before .before in

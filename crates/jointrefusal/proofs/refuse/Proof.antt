@@ -3,8 +3,8 @@ use Rattle.signed.proofs.Tables.{cleared-all}
 use lib.IntN.{pos}
 use mathlib.Core.Path.{_∙_, refl}
 use borrow.Author.Needs.{needs}
-use Rattle.join.proofs.refuse.Statement.{statement}
-use Rattle.join.proofs.refuse.Tie as tie
+use Rattle.jointrefusal.proofs.refuse.Statement.{statement}
+use Rattle.jointrefusal.proofs.refuse.Tie as tie
 
 clear-requires : tie.Need-clear-requires
 clear-requires c κs = search needs

@@ -11,13 +11,12 @@ use borrow.Author.Tests.{leb-true}
 use lib.Dec.{leb}
 use lib.ListN.{getD}
 use mathlib.Core.List.{List}
-use mathlib.Core.Bool.{true}
-use mathlib.Core.Path.{_≡_, _∙_, ap, ap₂}
+use mathlib.Core.Path.{_∙_, ap, ap₂}
 use Prim.Native.Nat.{ℕ, _+_, _*_, _<_}
 use native.Mathlib.Omega.{arith}
 use borrow.Author.Needs.{needs}
-use Rattle.join.proofs.measure.root_facts.Statement.{statement}
-use Rattle.join.proofs.measure.root_facts.Tie as tie
+use Rattle.jointrefusal.proofs.measure.root_facts.Statement.{statement}
+use Rattle.jointrefusal.proofs.measure.root_facts.Tie as tie
 
 -- where the rows are passed
 abbrev start : tie.After-formulas → tie.Start

@@ -1,14 +1,15 @@
-// How large the or of two roots is.
+// How much there is of two records, and how large the or of their roots is.
 use formula::rows::Facts;
 use formula::rows::known;
 ghost use mathlib.Core.Path.{_≡_};
 ghost use mathlib.Core.Option.{none};
-ghost use Prim.Native.Nat.{_≤_, max};
-ghost use lib.Dec.{leb};
+ghost use Prim.Native.Nat.{_+_, _≤_, max};
+ghost use lib.Dec.{ltb};
 ghost use Rattle.stab.specs.Basic.{_and_, nat};
 ghost use Rattle.stab.specs.Formula as F;
-ghost use Rattle.stab.specs.Formula.{joined, tree, disj};
+ghost use Rattle.stab.specs.Formula.{joined, tree};
 ghost use Rattle.stab.specs.Check.{formulasRefusal};
+ghost use Rattle.jointrefusal.specs.Before.{orSmall};
 
 fn larger(a: u32, b: u32) -> u32
     ensures { λ v. ⌜ v ≡ max a b ⌝ }
@@ -28,7 +29,7 @@ fn root_facts(schema: &[i32], s: usize, proof: &[i32], root: i32, least: i32) ->
 }
 
 // The or of two roots is small enough.
-pub fn or_fits(
+fn or_fits(
     first_schema: &[i32],
     first_rows: usize,
     first_proof: &[i32],
@@ -42,7 +43,7 @@ pub fn or_fits(
 ) -> bool
     requires { ⌜ («first_rows» ≤ 1024) × (formulasRefusal (joined (now «first_schema») «first_rows» (now «first_proof»)) «first_rows» «first_rows» «first_root» «first_least» ≡ none) ⌝ }
     requires { ⌜ («second_rows» ≤ 1024) × (formulasRefusal (joined (now «second_schema») «second_rows» (now «second_proof»)) «second_rows» «second_rows» «second_root» «second_least» ≡ none) ⌝ }
-    ensures { λ v. ⌜ v ≡ (leb (F.size (F.join disj (tree (joined (now («first_schema» .entry)) «first_rows» (now («first_proof» .entry))) (nat «first_root»)) (tree (joined (now («second_schema» .entry)) «second_rows» (now («second_proof» .entry))) (nat «second_root»)))) 4096 and leb (F.depth (F.join disj (tree (joined (now («first_schema» .entry)) «first_rows» (now («first_proof» .entry))) (nat «first_root»)) (tree (joined (now («second_schema» .entry)) «second_rows» (now («second_proof» .entry))) (nat «second_root»)))) 64) ⌝ }
+    ensures { λ v. ⌜ v ≡ orSmall (tree (joined (now («first_schema» .entry)) «first_rows» (now («first_proof» .entry))) (nat «first_root»)) (tree (joined (now («second_schema» .entry)) «second_rows» (now («second_proof» .entry))) (nat «second_root»)) ⌝ }
 {
     let f = root_facts(
         first_schema,
@@ -62,4 +63,43 @@ pub fn or_fits(
         return false;
     }
     1 + larger(f.depth, g.depth) <= 64
+}
+
+// Two records have few enough schema rows and nodes, and their or is small enough.
+pub fn both_fit(
+    first_schema: &[i32],
+    first_rows: usize,
+    first_proof: &[i32],
+    first_root: i32,
+    first_least: i32,
+    first_nodes: usize,
+    second_schema: &[i32],
+    second_rows: usize,
+    second_proof: &[i32],
+    second_root: i32,
+    second_least: i32,
+    second_nodes: usize,
+) -> bool
+    requires { ⌜ («first_rows» ≤ 1024) × («first_nodes» ≤ 1024) × (formulasRefusal (joined (now «first_schema») «first_rows» (now «first_proof»)) «first_rows» «first_rows» «first_root» «first_least» ≡ none) ⌝ }
+    requires { ⌜ («second_rows» ≤ 1024) × («second_nodes» ≤ 1024) × (formulasRefusal (joined (now «second_schema») «second_rows» (now «second_proof»)) «second_rows» «second_rows» «second_root» «second_least» ≡ none) ⌝ }
+    ensures { λ v. ⌜ v ≡ (ltb («first_rows» + «second_rows») 1024 and ltb («first_nodes» + «second_nodes») 1024 and orSmall (tree (joined (now («first_schema» .entry)) «first_rows» (now («first_proof» .entry))) (nat «first_root»)) (tree (joined (now («second_schema» .entry)) «second_rows» (now («second_proof» .entry))) (nat «second_root»))) ⌝ }
+{
+    if 1024 <= first_rows + second_rows {
+        return false;
+    }
+    if 1024 <= first_nodes + second_nodes {
+        return false;
+    }
+    or_fits(
+        first_schema,
+        first_rows,
+        first_proof,
+        first_root,
+        first_least,
+        second_schema,
+        second_rows,
+        second_proof,
+        second_root,
+        second_least,
+    )
 }

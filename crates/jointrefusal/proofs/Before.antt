@@ -1,0 +1,95 @@
+-- Two records in which nothing is found before their rows are tidied.
+use Prim.Native.Nat.{_+_, _<_, _≤_}
+use native.Mathlib.Omega.{arith}
+use mathlib.Core.Path.{_≡_, ap, _∙_}
+use mathlib.Core.Bool.{true}
+use mathlib.Core.Option.{Option, none}
+use lib.Dec.{leb, ltb}
+use borrow.Author.Tests.{ltb-true}
+use Rattle.stab.specs.Basic.{_and_, nat, eqZ}
+use Rattle.stab.specs.Formula.{Formula, size, depth, joined, tree, smallEnough}
+use Rattle.stab.specs.Node.{Tableau, rows, rowCount, formula}
+use Rattle.stab.specs.Check.{wholeUnless, check, formulasRefusal}
+use Rattle.stab.specs.Keeps.{KeepsOlder, Keeps}
+use Rattle.stab.specs.declared.Place.the-variants.{Whole}
+use Rattle.stab.specs.declared.Refusal.the-variants.{Leasts, Joint}
+use Rattle.stab.specs.declared.Verdict.{Verdict}
+use Rattle.stab.specs.declared.Verdict.the-variants.{Accepted, Refused}
+use Rattle.stab.proofs.Bools.{and-left, and-right, unless-none, otherwise-first, otherwise-second}
+use Rattle.stab.proofs.Exactness.{accepts-exactly}
+use Rattle.stab.proofs.Exactness.Formulas.{formulas-clears}
+use Rattle.tidied.proofs.Tidying.{rules-of}
+use Rattle.joint.specs.Joint.{orRow, joint, refusalOf}
+use Rattle.joint.proofs.Accepted.{or-tidied}
+use Rattle.joint.proofs.Joining.{or-tree}
+use Rattle.jointrefusal.specs.Before.{orSmall, fitsBefore, foundBefore}
+
+-- what is not refused is accepted, and keeps the rules
+accepted-keeps : (T : Tableau) (v : Verdict) → check T ≡ v → refusalOf v ≡ none → Keeps T
+unfolding refusalOf
+accepted-keeps T (Accepted n l) e h = accepts-exactly T n l .0 e .0
+accepted-keeps T (Refused why p) e h = absurd (mathlib.Core.Option.Option·some-ne-none (Refused why p) h)
+
+-- ---- one record
+
+pub keeps : (T : Tableau) → refusalOf (check T) ≡ none → Keeps T
+keeps T h = accepted-keeps T (check T) (λ i. check T) h
+
+pub few-rows : (A : Tableau) → KeepsOlder A → A .schemaRows + A .proofRows ≤ 1024
+unfolding rowCount
+few-rows A K = K .tables .rowLimit
+
+-- the schema rows pass by themselves
+pub schema-passes : (A : Tableau) → KeepsOlder A → formulasRefusal (joined (A .schema) (A .schemaRows) (A .proof)) (A .schemaRows) (A .schemaRows) (A .root) (A .least) ≡ none
+unfolding rows rowCount
+schema-passes A K =
+    formulas-clears (joined (A .schema) (A .schemaRows) (A .proof)) (A .schemaRows) (A .schemaRows) (A .root) (A .least) .1
+    (record { rootRow = K .formulas .rootRow; leastRange = K .formulas .leastRange; each = λ r h. K .formulas .each r (omega arith); rootOuter = K .formulas .rootOuter })
+
+-- ---- both
+
+-- how large the or is
+pub or-is : (A B : Tableau) → Keeps A → Keeps B → A .least ≡ B .least → smallEnough (rows (joint A B)) (orRow A B) ≡ orSmall (tree (joined (A .schema) (A .schemaRows) (A .proof)) (nat (A .root))) (tree (joined (B .schema) (B .schemaRows) (B .proof)) (nat (B .root)))
+unfolding smallEnough orSmall formula rows
+or-is A B KA KB e =
+    ap (λ (f : Formula). leb (size f) 4096 and leb (depth f) 64)
+    (or-tidied A B ∙ or-tree A B (rules-of A (KA .older)) (rules-of B (KB .older)) (KA .older .hasNode) (KB .older .hasNode) (KA .older .tables .membersHeld) (KB .older .tables .membersHeld) e)
+
+-- ---- nothing is found
+
+module _ (A B : Tableau) (h : foundBefore A B ≡ none) where
+  pub first-passes : refusalOf (check A) ≡ none
+  unfolding foundBefore
+  first-passes = otherwise-first _ _ h
+
+  pub second-passes : refusalOf (check B) ≡ none
+  unfolding foundBefore
+  second-passes = otherwise-first _ _ (otherwise-second (refusalOf (check A)) _ h)
+
+  pub leasts-pass : wholeUnless (eqZ (A .least) (B .least)) Leasts ≡ none
+  unfolding foundBefore
+  leasts-pass = otherwise-first _ _ (otherwise-second (refusalOf (check B)) _ (otherwise-second (refusalOf (check A)) _ h))
+
+  before-fits : fitsBefore A B ≡ true
+  unfolding foundBefore wholeUnless
+  before-fits =
+      unless-none _ (Refused Joint Whole)
+      (otherwise-second (wholeUnless (eqZ (A .least) (B .least)) Leasts) _ (otherwise-second (refusalOf (check B)) _ (otherwise-second (refusalOf (check A)) _ h)))
+
+  pub first-keeps : Keeps A
+  first-keeps = keeps A first-passes
+
+  pub second-keeps : Keeps B
+  second-keeps = keeps B second-passes
+
+  pub few-schema : A .schemaRows + B .schemaRows < 1024
+  unfolding fitsBefore
+  few-schema = ltb-true _ 1024 (and-left _ _ before-fits)
+
+  pub few-nodes : A .nodeRows + B .nodeRows < 1024
+  unfolding fitsBefore
+  few-nodes = ltb-true _ 1024 (and-left _ _ (and-right (ltb (A .schemaRows + B .schemaRows) 1024) _ before-fits))
+
+  pub small-or : smallEnough (rows (joint A B)) (orRow A B) ≡ true
+  unfolding fitsBefore
+  small-or = and-right (ltb (A .nodeRows + B .nodeRows) 1024) _ (and-right (ltb (A .schemaRows + B .schemaRows) 1024) _ before-fits)
