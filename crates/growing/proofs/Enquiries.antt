@@ -1,56 +1,33 @@
 -- 02, No. 8: the rows are those of the successful commits, additions and take-backs alone, and a commit succeeds exactly when a row waits.
-use Prim.Native.Nat.{ℕ, zero, suc, _+_, _-_, _<_, _≤_}
+use Prim.Native.Nat.{_-_, _≤_}
 use native.Mathlib.Omega.{arith}
 use mathlib.Core.Path.{_≡_, refl, sym, _∙_, ap, ap₂, subst}
 use mathlib.Core.Logic.{_↔_}
-use mathlib.Core.Bool.{Bool, true, false, true≢false}
-use mathlib.Core.List.{List, [], _∷_, _++_, List·Memᴰ, List·Memᴰ·head, List·Memᴰ·tail}
-use mathlib.Core.Option.{Option, none, some, Option·none-ne-some}
-use lib.IntN.{ℤ, pos}
+use mathlib.Core.Bool.{true, false, true≢false}
+use mathlib.Core.List.{List, [], _∷_, _++_}
+use mathlib.Core.Option.{Option, none, some}
+use lib.IntN.{pos}
 use lib.Signed.{leZ}
-use lib.ListN.{length, getD, take, drop, replicate}
+use lib.ListN.{length, replicate}
 use lib.Seq.{take-append-seam}
-use Rattle.stab.specs.Basic.{_and_, eqZ, within, nat, _otherwise_, unless}
+use Rattle.stab.specs.Basic.{_and_, eqZ, within, nat, _otherwise_}
 use Rattle.stab.specs.Node.{Tableau, rowCount, set}
 use Rattle.stab.specs.Check.{wholeUnless}
-use Rattle.stab.specs.Keeps.{Below, Ascending, KeepsSet}
 use Rattle.stab.specs.Text.{padded}
 use Rattle.stab.specs.declared.Place.the-variants.{Whole}
 use Rattle.stab.specs.declared.Refusal.the-variants.{Waiting}
 use Rattle.stab.specs.declared.Verdict.{Verdict}
 use Rattle.stab.specs.declared.Verdict.the-variants.{Refused}
 use Rattle.stab.proofs.Bools.{and-both, unless-none, none-unless, some-unless, otherwise-first, otherwise-second, otherwise-none, otherwise-some}
-use Rattle.stab.proofs.Whole.{atom, num, le-of, of-lt, ltZ-of, leZ-of, plus-nat, nonneg-minus}
-use Rattle.stab.proofs.Trees.{below-nat}
-use Rattle.stab.proofs.Tests.{below-tests}
-use Rattle.growing.specs.Growing.{heldRefusal, NodeRow, holding, added, newRefusal, addRefusal, shortened, takeBackRefusal, growthBy, leftBy, begun, beginRefusal, rowsHeld, firstRows, withoutLast, done, Call, add, takeBack}
+use Rattle.stab.proofs.Whole.{num, le-of}
+use Rattle.tidied.proofs.Sets.{few}
+use Rattle.growing.specs.Growing.{heldRefusal, NodeRow, holding, added, newRefusal, addRefusal, growthBy, leftBy, begun, beginRefusal, rowsHeld, firstRows, done, add, takeBack}
 use Rattle.growing.specs.Enquiry.{stored, nothingWaits, waits, waitingRow, Editor, EditorCall, enquire, commit, grow, commitRefusal, editorRefusal, spokenOf, editorAnswer, heldAfter, waitingAfter, waitingRefused, waitingBy, edited, editedAll, opened, pendingAfter, pendingRefused, pendingBy, committed, doneEditing, doneEditingIf, pending, leaveEditing}
 use Rattle.growing.proofs.States.{Holds, held-clears, added-last}
-use Rattle.growing.proofs.Held.{room, new-set, holds-added, holds-shortened}
+use Rattle.growing.proofs.Held.{room, new-set, holds-shortened}
 use Rattle.growing.proofs.Grown.{added-holds, added-ok, add-holds, add-rows, back-holds, some-row, back-rows}
 
 -- ---- a set that is accepted has room in the waiting row
-
--- ascending numbers below n, from m on
-few-from : (n m : ℕ) (x : ℤ) (xs : List ℤ) → m ≤ nat x → Ascending (x ∷ xs) → ((z : ℤ) → List·Memᴰ z (x ∷ xs) → Below n z) → m + length (x ∷ xs) ≤ n
-few-from n m x [] h a b = omega (arith, below-nat n x (below-tests n x .1 (b x (List·Memᴰ·head refl))))
-few-from n m x (y ∷ ys) h a b =
-    let rest = few-from n (suc m) y ys larger (a .1) (λ z k. b z (List·Memᴰ·tail k)) in omega arith
-  where
-    larger : suc m ≤ nat y
-    larger =
-        omega (
-          arith,
-          of-lt (atom x) (atom y) (ltZ-of (a .0)),
-          plus-nat x,
-          plus-nat y,
-          nonneg-minus x (leZ-of (b x (List·Memᴰ·head refl) .0)),
-          nonneg-minus y (leZ-of (b y (List·Memᴰ·tail (List·Memᴰ·head refl)) .0)),
-        )
-
-few : (n : ℕ) (xs : List ℤ) → Ascending xs → ((z : ℤ) → List·Memᴰ z xs → Below n z) → length xs ≤ n
-few n [] a b = omega arith
-few n (x ∷ xs) a b = omega (arith, few-from n 0 x xs (omega arith) a b)
 
 pub accepted-few : (T : Tableau) (w : NodeRow) → addRefusal T w ≡ none → length (w .members) ≤ 1024
 accepted-few T w ok =

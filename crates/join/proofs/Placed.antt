@@ -11,10 +11,10 @@ use lib.ListN.{length, getD, take, drop, length-append}
 use Rattle.stab.specs.Basic.{nat, below, eqZ}
 use Rattle.stab.specs.Node.{Tableau, Node, rowCount, nodeAt, node, set, setOf}
 use Rattle.stab.specs.Rule.{unused, entry, ruleTable, ruleOf, rule}
-use Rattle.stab.specs.Keeps.{Below, Ascending, KeepsKind, KeepsStep, KeepsSet, KeepsOlder, Keeps}
+use Rattle.stab.specs.Keeps.{KeepsKind, KeepsStep, KeepsSet, KeepsOlder, Keeps}
 use Rattle.stab.specs.Text.{padded}
 use Rattle.stab.proofs.Bools.{decide}
-use Rattle.stab.proofs.Whole.{atom, of-lt, ltZ-of, leZ-of, plus-nat, nonneg-minus, eqZ-true, not-eqZ}
+use Rattle.stab.proofs.Whole.{eqZ-true, not-eqZ}
 use Rattle.stab.proofs.Trees.{below-nat, below-pos}
 use Rattle.stab.proofs.Tests.{below-tests}
 use Rattle.branch.proofs.Ascending.{part-length}
@@ -22,6 +22,7 @@ use Rattle.tidied.specs.Tidied.{through, newNumber, Folding, foldingOf, newOf, 
 use Rattle.tidied.proofs.Moves.{through-pos, through-below}
 use Rattle.tidied.proofs.Foldings.{new-schema}
 use Rattle.tidied.proofs.Carried.{through-unused}
+use Rattle.tidied.proofs.Sets.{few}
 use Rattle.tidied.proofs.Tables.{set-within}
 use Rattle.tidied.proofs.Tidying.{rules-of}
 use Rattle.joint.specs.Joint.{schemaCount, orRow, ofFirst, ofSecond, theOr, parentOf, further, movedMembers, jointSchema, jointProof, jointMembers, untidied, joint}
@@ -33,27 +34,6 @@ use Rattle.jointrows.proofs.Moves.{table-number}
 use Rattle.jointnodes.specs.Kept.{setAt, orNode, placedNode, placedSets, placedNodes, bothNodes, bothSets, AllReadable}
 
 -- ---- nodes can be read
-
--- ascending numbers below n, from m on
-few-from : (n m : ℕ) (x : ℤ) (xs : List ℤ) → m ≤ nat x → Ascending (x ∷ xs) → ((z : ℤ) → List·Memᴰ z (x ∷ xs) → Below n z) → m + length (x ∷ xs) ≤ n
-few-from n m x [] h a b = omega (arith, below-nat n x (below-tests n x .1 (b x (List·Memᴰ·head refl))))
-few-from n m x (y ∷ ys) h a b =
-    let rest = few-from n (suc m) y ys larger (a .1) (λ z k. b z (List·Memᴰ·tail k)) in omega arith
-  where
-    larger : suc m ≤ nat y
-    larger =
-        omega (
-          arith,
-          of-lt (atom x) (atom y) (ltZ-of (a .0)),
-          plus-nat x,
-          plus-nat y,
-          nonneg-minus x (leZ-of (b x (List·Memᴰ·head refl) .0)),
-          nonneg-minus y (leZ-of (b y (List·Memᴰ·tail (List·Memᴰ·head refl)) .0)),
-        )
-
-few : (n : ℕ) (xs : List ℤ) → Ascending xs → ((z : ℤ) → List·Memᴰ z xs → Below n z) → length xs ≤ n
-few n [] a b = omega arith
-few n (x ∷ xs) a b = omega (arith, few-from n 0 x xs (omega arith) a b)
 
 -- rule 8 alone has a link
 link-is : (k : ℕ) → getD ruleTable k (entry unused unused false false false 0) .link ≡ true → k ≡ 8
