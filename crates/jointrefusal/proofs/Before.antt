@@ -1,7 +1,7 @@
 -- Two records in which nothing is found before their rows are tidied.
 use Prim.Native.Nat.{_+_, _<_, _≤_}
 use native.Mathlib.Omega.{arith}
-use mathlib.Core.Path.{_≡_, ap, _∙_}
+use mathlib.Core.Path.{_≡_, refl, ap, _∙_}
 use mathlib.Core.Bool.{true}
 use mathlib.Core.Option.{Option, none}
 use lib.Dec.{leb, ltb}
@@ -24,16 +24,16 @@ use Rattle.joint.proofs.Accepted.{or-tidied}
 use Rattle.joint.proofs.Joining.{or-tree}
 use Rattle.jointrefusal.specs.Before.{orSmall, fitsBefore, foundBefore}
 
+-- ---- one record
+
 -- what is not refused is accepted, and keeps the rules
 accepted-keeps : (T : Tableau) (v : Verdict) → check T ≡ v → refusalOf v ≡ none → Keeps T
 unfolding refusalOf
 accepted-keeps T (Accepted n l) e h = accepts-exactly T n l .0 e .0
 accepted-keeps T (Refused why p) e h = absurd (mathlib.Core.Option.Option·some-ne-none (Refused why p) h)
 
--- ---- one record
-
 pub keeps : (T : Tableau) → refusalOf (check T) ≡ none → Keeps T
-keeps T h = accepted-keeps T (check T) (λ i. check T) h
+keeps T h = accepted-keeps T (check T) refl h
 
 pub few-rows : (A : Tableau) → KeepsOlder A → A .schemaRows + A .proofRows ≤ 1024
 unfolding rowCount
