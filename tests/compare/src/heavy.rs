@@ -85,6 +85,10 @@ pub fn none_twice() -> Vec<(&'static str, Tables)> {
         ("1,024 rows of one class", one_class()),
         ("1,024 rows of one key", one_key()),
         ("1,024 rows, no two of one class", no_two_of_one_class()),
+        ("1,024 rows, literals at random", literals_at_random()),
+        ("1,024 rows, ors of neighbours", ors_of_one_class()),
+        ("1,024 rows, ors with one row on the right", ors_with_one(|row, one| [OR, row, one, 0])),
+        ("1,024 rows, ors with one row on the left", ors_with_one(|row, one| [OR, one, row, 0])),
         ("1,024 rows, 1,024 nodes, 8,192 members", largest()),
     ]
 }
@@ -458,6 +462,38 @@ fn no_two_of_one_class() -> Tables {
     filled(|b| {
         for at in 0..1023 {
             b.row([LITERAL + at % 2, at % 256, PLAIN, at]);
+        }
+    })
+}
+
+/// Literals of two symbols that differ in what is added to n, and literals of all sorts, none of them twice.
+fn literals_at_random() -> Tables {
+    filled(|b| {
+        let mut seen = std::collections::HashSet::new();
+        while b.rows.len() < 1024 {
+            let row = if b.rng.chance(50) {
+                [LITERAL, b.rng.range(0, 1), ON_N, b.rng.range(-1000, 1000)]
+            } else {
+                [
+                    b.rng.pick(&[LITERAL, NEGATED]),
+                    b.rng.range(0, 255),
+                    b.rng.pick(&[PLAIN, ON_N]),
+                    b.rng.range(-9999, 9999),
+                ]
+            };
+            if seen.insert(row) {
+                b.row(row);
+            }
+        }
+    })
+}
+
+/// Ors of each of 511 literals with one.
+fn ors_with_one(or: impl Fn(i32, i32) -> Row) -> Tables {
+    filled(|b| {
+        let literals: Vec<i32> = (0..512).map(|at| b.row([LITERAL, at % 256, ON_N, at / 256])).collect();
+        for row in &literals[1..] {
+            b.row(or(*row, literals[0]));
         }
     })
 }
