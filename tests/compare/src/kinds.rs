@@ -37,7 +37,9 @@ impl Kinds {
     pub fn close(self, tally: &mut Tally) {
         println!("{:66}{:>9}", self.entry, "cases");
         for (kind, count) in &self.counts {
-            println!("{:66}{count:>9}", format!("{}: {kind}", self.entry));
+            let name = format!("{}: {kind}", self.entry);
+            println!("{name:66}{count:>9}");
+            tally.count_cases(&name, *count);
             tally.test(&format!("{}, {kind}", self.entry), fits(*count > 0, || "no case".to_string()));
         }
     }

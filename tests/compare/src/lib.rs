@@ -13,6 +13,7 @@
 //! * [`heavy`]: the largest and slowest inputs
 //! * [`soundness`]: accepted records evaluated
 //! * [`kinds`]: how often cases of each kind were compared, for entries that are compared by themselves
+//! * [`least`]: the least numbers of cases, so that a group or a kind left out is noticed
 //! * [`small`]: all small schemata, one after another
 //! * [`tidy`]: older records tidied
 //! * [`join`]: two records joined
@@ -28,6 +29,7 @@ pub mod grow;
 pub mod heavy;
 pub mod join;
 pub mod kinds;
+pub mod least;
 pub mod paper;
 pub mod records;
 pub mod sides;

@@ -66,6 +66,17 @@ impl Soundness {
         Ok(())
     }
 
+    /// What was tried, by name.
+    pub fn counts(&self) -> [(String, u64); 4] {
+        [
+            ("soundness: accepted records", self.records),
+            ("soundness: evaluations", self.evaluations),
+            ("soundness: searches for a model", self.searches),
+            ("soundness: models put to the model check", self.models),
+        ]
+        .map(|(name, count)| (name.to_string(), count))
+    }
+
     pub fn print(&self) {
         println!(
             "soundness: {} accepted records; their roots evaluated {} times under random assignments, {} searches \

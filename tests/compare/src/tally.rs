@@ -51,6 +51,8 @@ pub struct Tally {
     /// Generated tableaux that are made to show one thing, by their sort and kind.
     aimed: BTreeMap<(&'static str, &'static str), Aimed>,
     pub soundness: Soundness,
+    /// How often something was compared, by what it was, for the least numbers.
+    counted: BTreeMap<String, u64>,
 }
 
 fn group(input: &Input) -> Option<usize> {
@@ -86,6 +88,33 @@ impl Tally {
                 }
             }
         }
+    }
+
+    /// A group of tests: its counts are printed, and there is at least one test in it.
+    pub fn test_group(&mut self, name: &str, tests: impl FnOnce(&mut Tally)) {
+        let (passed, failed) = (self.passed, self.failed);
+        tests(self);
+        let (passed, failed) = (self.passed - passed, self.failed - failed);
+        println!("group {name}: {passed} passed, {failed} failed");
+        self.count_cases(name, passed + failed);
+    }
+
+    /// So many cases of this name were compared.
+    pub fn count_cases(&mut self, name: &str, cases: u64) {
+        *self.counted.entry(name.to_string()).or_default() += cases;
+    }
+
+    /// How often something was compared, by what it was.
+    pub fn counts(&self) -> BTreeMap<String, u64> {
+        let mut counts = self.counted.clone();
+        for (sort, of_sort) in &self.tableaux {
+            counts.insert(format!("generated tableaux: {sort}"), of_sort.cases);
+        }
+        for ((sort, kind), of_kind) in &self.aimed {
+            counts.insert(format!("{sort}: {kind}"), of_kind.cases);
+        }
+        counts.extend(self.soundness.counts());
+        counts
     }
 
     /// The answer and its place are those that are expected.
@@ -285,6 +314,9 @@ impl Tally {
             println!("{:66}{}", format!("{sort}: {kind}"), numbers.concat());
         }
         self.soundness.print();
+        for (name, cases) in self.counts() {
+            println!("counted {cases} {name}");
+        }
         println!("{} passed, {} failed", self.passed, self.failed);
     }
 }
