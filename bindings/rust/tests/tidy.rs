@@ -25,7 +25,10 @@ fn shipped_records() {
                 (Ok(proof), Verdict::Accepted { .. }) if check(&record).is_accepted() => {
                     assert_eq!(proof, record.proof)
                 }
-                (Ok(_), Verdict::Accepted { .. }) => {}
+                (Ok(proof), verdict @ Verdict::Accepted { .. }) => {
+                    assert!(proof.rows.len() < record.proof.rows.len());
+                    assert_eq!(check(&Record { proof, ..record }), verdict);
+                }
                 (Err(Refused { refusal, place }), verdict) => assert_eq!(verdict, Verdict::Refused { refusal, place }),
                 (tidied, verdict) => panic!("{tidied:?} {verdict:?}"),
             }
