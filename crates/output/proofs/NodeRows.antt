@@ -1,12 +1,12 @@
 -- Node rows as lines, one more at a time, and the sets that follow one another.
 use Prim.Native.Nat.{ℕ, zero, suc, _+_, _-_, _*_, _<_, _≤_}
 use native.Mathlib.Omega.{arith}
-use native.Mathlib.Nat.{add-zero, zero-add}
+use native.Mathlib.Nat.{zero-add}
 use native.Mathlib.Numerals.{add-one}
 use mathlib.Core.Path.{_≡_, refl, sym, _∙_, ap, ap₂}
 use mathlib.Core.Logic.{⊎-elim}
 use mathlib.Core.Bool.{Bool, true, false, true≢false}
-use mathlib.Core.List.{List, _++_, append-assoc, append-nil}
+use mathlib.Core.List.{List, _++_, append-nil}
 use lib.Dec.{eqb}
 use lib.IntN.{ℤ, pos, negsuc, negℤ}
 use lib.Signed.{leZ}
@@ -19,6 +19,7 @@ use Rattle.stab.specs.Text.{fiveDigits, bytes, rowLine, headingLine, rowHeading
 use Rattle.stab.specs.Write.{rowLines, proofText, nodeValues, nodeLines, nodeWritable, nodesWritable}
 use Rattle.stab.proofs.Bools.{and-both, and-first-false, and-second-false, decide}
 use Rattle.stab.proofs.Whole.{eqZ-of, eqZ-not, nat-pos, pos-injective}
+use Rattle.stab.proofs.RowLines.{nodes-split}
 use Rattle.stab.proofs.Texts.Nodes.{Follows, follows, writable-at, node-values}
 use Rattle.digits.specs.Over.{spread}
 use Rattle.output.specs.NodeTexts.{columnsWidth, NodesWritable}
@@ -28,22 +29,6 @@ use Rattle.output.proofs.RowTexts.{all-within, rows-length}
 use Rattle.output.proofs.HeadedTexts.{four-length}
 
 -- ---- lines
-
-pub nodes-split : (nodes members : List ℤ) (i n k : ℕ) → nodeLines nodes members i (n + k) ≡ nodeLines nodes members i n ++ nodeLines nodes members (i + n) k
-unfolding nodeLines
-nodes-split nodes members i zero k =
-    ap₂ (λ (a b : ℕ). nodeLines nodes members a b) (sym (add-zero i)) (zero-add k)
-nodes-split nodes members i (suc n) k =
-    ap (λ (m : ℕ). nodeLines nodes members i m) more
-    ∙ ap (λ (l : List ℕ). rowLine (nodeValues nodes members i) ++ l) (nodes-split nodes members (suc i) n k)
-    ∙ sym (append-assoc (rowLine (nodeValues nodes members i)) (nodeLines nodes members (suc i) n) (nodeLines nodes members (suc i + n) k))
-    ∙ ap (λ (m : ℕ). nodeLines nodes members i (suc n) ++ nodeLines nodes members m k) next
-  where
-    more : suc n + k ≡ suc (n + k)
-    more = omega arith
-
-    next : suc i + n ≡ i + suc n
-    next = omega arith
 
 pub nodes-next : (nodes members : List ℤ) (j : ℕ) → nodeLines nodes members 0 (j + 1) ≡ nodeLines nodes members 0 j ++ rowLine (nodeValues nodes members j)
 unfolding nodeLines

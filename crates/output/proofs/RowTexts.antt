@@ -1,16 +1,17 @@
 -- Rows of a table as lines, one more at a time.
 use Prim.Native.Nat.{ℕ, zero, suc, _+_, _-_, _*_, _<_, _≤_}
 use native.Mathlib.Omega.{arith}
-use native.Mathlib.Nat.{mul-zero, mul-le-mul-left, zero-add}
+use native.Mathlib.Nat.{mul-zero, mul-le-mul-left}
 use mathlib.Core.Path.{_≡_, sym, _∙_, ap, ap₂, subst}
 use mathlib.Core.Bool.{Bool, true}
-use mathlib.Core.List.{List, _++_, append-assoc, append-nil}
+use mathlib.Core.List.{List, _++_, append-nil}
 use lib.IntN.{ℤ}
 use lib.ListN.{length, take, drop, length-append, length-drop}
-use lib.Seq.{take-add, drop-drop, length-take-le}
+use lib.Seq.{take-add, length-take-le}
 use Rattle.stab.specs.Basic.{allOf}
 use Rattle.stab.specs.Text.{fiveDigits, rowLine}
 use Rattle.stab.specs.Write.{rowLines}
+use Rattle.stab.proofs.RowLines.{rows-split}
 use Rattle.stab.proofs.Texts.Rows.{all-front, all-back, take-row}
 use Rattle.digits.specs.Over.{spread}
 use Rattle.output.specs.Headed.{Writable}
@@ -31,22 +32,6 @@ all-within {A} p a b m t h e =
         ap (λ (k : ℕ). take k t) sum
         ∙ take-add a (b + (m - (a + b))) t
         ∙ ap (λ (l : List A). take a t ++ l) (take-add b (m - (a + b)) (drop a t))
-
-pub rows-split : (w i k : ℕ) (t : List ℤ) → rowLines w (i + k) t ≡ rowLines w i t ++ rowLines w k (drop (w * i) t)
-unfolding rowLines
-rows-split w zero k t =
-    ap (λ (n : ℕ). rowLines w n t) (zero-add k) ∙ ap (λ (n : ℕ). rowLines w k (drop n t)) (sym (mul-zero w))
-rows-split w (suc i) k t =
-    ap (λ (n : ℕ). rowLines w n t) more
-    ∙ ap (λ (l : List ℕ). rowLine (take w t) ++ l) (rows-split w i k (drop w t))
-    ∙ sym (append-assoc (rowLine (take w t)) (rowLines w i (drop w t)) (rowLines w k (drop (w * i) (drop w t))))
-    ∙ ap (λ (l : List ℤ). rowLines w (suc i) t ++ rowLines w k l) (drop-drop (w * i) w t ∙ ap (λ (n : ℕ). drop n t) next)
-  where
-    more : suc i + k ≡ suc (i + k)
-    more = omega arith
-
-    next : w + w * i ≡ w * suc i
-    next = omega arith
 
 pub rows-next : (w i : ℕ) (t : List ℤ) → rowLines w (i + 1) t ≡ rowLines w i t ++ rowLine (take w (drop (w * i) t))
 rows-next w i t = rows-split w i 1 t ∙ ap (λ (l : List ℕ). rowLines w i t ++ l) (unfold rowLines in append-nil (rowLine (take w (drop (w * i) t))))

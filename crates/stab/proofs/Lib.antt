@@ -23,6 +23,7 @@ pub mod InOrders
 pub mod OneValues
 pub mod Wires
 pub mod Texts
+pub mod RowLines
 pub mod Audit
 pub mod Packed
 pub mod Entries

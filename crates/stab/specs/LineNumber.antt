@@ -1,9 +1,10 @@
 -- 01, "Model, texts, lines": a line asked for by its number, and the numbers of lines.
-use Prim.Native.Nat.{ℕ, zero, suc, _+_, _-_}
-use mathlib.Core.List.{List, [], _∷_}
+use Prim.Native.Nat.{ℕ, zero, suc, _+_, _-_, _<_}
+use mathlib.Core.Path.{_≡_}
+use mathlib.Core.List.{List, [], _∷_, _++_}
 use lib.ListN.{length, take, drop}
 use Rattle.stab.specs.Basic.{if_then_else_}
-use Rattle.stab.specs.Text.{Line, lines}
+use Rattle.stab.specs.Text.{Line, newline, lines}
 
 -- A part of a text: where it starts, and its length.
 pub record Span : Type 0 where
@@ -44,3 +45,12 @@ nodeLine P j = 3 + P + j
 -- pairs start on the fourth line of a model text: "Model: `n`, one line, `symbol index`, rows."
 unfoldable pub pairLine : ℕ → ℕ
 pairLine r = 4 + r
+
+-- Line k of a text is there, and with its byte 10 it is this row's text.
+pub record LineIs (text : List ℕ) (k : ℕ) (row : List ℕ) : Type 0 where
+  -- what is handed over, and byte 10
+  pub bytes : lineOf text k ++ newline ∷ [] ≡ row
+  -- that byte 10 is the text's own, right behind what is handed over
+  pub ended : take (suc (lineSpan text k .len)) (drop (lineSpan text k .start) text) ≡ row
+  -- it is not the text's empty start
+  pub there : 0 < lineSpan text k .start
