@@ -1,7 +1,10 @@
-// What the programs do with files: a text is read whole. What is read no contract can say.
+// What the programs do with files: a text is read whole, and the line at fault is shown. What is read and what is written no contract can say.
+use libc::STDERR_FILENO;
+use stab::Fault;
 ghost use mathlib.Core.Path.{_≡_};
 ghost use lib.ListN.{length, replicate};
 ghost use Rattle.io.specs.Counts.{Counts};
+ghost use Rattle.shown.specs.Told.{toldAt};
 ghost use Rattle.files.specs.Loaded.{Loaded};
 
 // Room for a text and 64 bytes more: for its longest line with a file's name and a number. A text that goes on past 65,536 bytes is refused as too long.
@@ -39,5 +42,16 @@ pub fn load(path: &[u8], buf: &mut [u8]) -> usize
 {
     let n = fetch(path, buf);
     output::clear(&mut buf[n..]);
+    n
+}
+
+// The line at fault to standard error, and how many bytes it takes. Its room is made here, after the check has returned, so that the stack of
+// the one and of the other do not add up.
+pub fn show<'a>(name: &[u8], schema: &'a [u8], proof: &'a [u8], fault: Fault) -> usize
+    ensures { λ r. ⌜ r ≡ length (toldAt 65600 (now (name .entry)) (now (schema .entry)) (now (proof .entry)) fault) ⌝ }
+{
+    let mut out = room();
+    let n = shown::tell(name, schema, proof, fault, &mut out);
+    io::write_all(STDERR_FILENO, &out[..n]);
     n
 }

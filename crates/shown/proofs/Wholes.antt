@@ -20,7 +20,7 @@ use Rattle.stab.proofs.Bools.{decide}
 use Rattle.stab.proofs.Entries.{check-fault-fits, model-fault-fits}
 use Rattle.line.specs.LineParts.{named}
 use Rattle.output.proofs.Spreads.{decimal-most}
-use Rattle.shown.specs.Told.{told, toldIn}
+use Rattle.shown.specs.Told.{told, toldIn, toldAt}
 use Rattle.shown.proofs.Tellings.{told-length, whole-told}
 
 -- ---- a text with a line at fault has at most 65,536 bytes
@@ -72,12 +72,12 @@ module _ (name : List ℕ) (named-short : length name ≤ 10) where
 
   pub check-whole : (older : Bool) (schema proof : List ℕ) →
       let f = checkFault older schema proof in
-      let line = lineOf (named (f .second) schema proof) (f .line) in
-      1 ≤ f .line → toldIn 65600 name (f .line) line ≡ told name (f .line) line
+      1 ≤ f .line → toldAt 65600 name schema proof f ≡ told name (f .line) (lineOf (named (f .second) schema proof) (f .line))
+  unfolding toldAt
   check-whole older schema proof l = line-whole _ _ (unfold checkFault readSchema readProof in fault-short _ _ _ schema proof (limited _ _ schema) (limited _ _ proof) l) l (check-fault-fits older schema proof)
 
   pub model-whole : (schema model : List ℕ) →
       let f = modelFault schema model in
-      let line = lineOf (named (f .second) schema model) (f .line) in
-      1 ≤ f .line → toldIn 65600 name (f .line) line ≡ told name (f .line) line
+      1 ≤ f .line → toldAt 65600 name schema model f ≡ told name (f .line) (lineOf (named (f .second) schema model) (f .line))
+  unfolding toldAt
   model-whole schema model l = line-whole _ _ (unfold modelFault readSchema readModel in fault-short _ _ _ schema model (limited _ _ schema) (limited _ _ model) l) l (model-fault-fits schema model)

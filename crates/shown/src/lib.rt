@@ -4,6 +4,7 @@ use digits::width;
 use line::line;
 use output::clear;
 use output::put_heading;
+use stab::Fault;
 ghost use mathlib.Core.Path.{_≡_};
 ghost use mathlib.Core.List.{_++_};
 ghost use Prim.Native.Nat.{_+_, _≤_};
@@ -11,10 +12,9 @@ ghost use lib.Dec.{leb};
 ghost use lib.IntN.{pos};
 ghost use lib.ListN.{length};
 ghost use Rattle.stab.specs.Text.{bytes, decimal, padded};
-ghost use Rattle.stab.specs.LineNumber.{lineOf};
 ghost use Rattle.digits.specs.Over.{over};
 ghost use Rattle.printing.specs.Printing.{Counts};
-ghost use Rattle.shown.specs.Told.{told, toldIn};
+ghost use Rattle.shown.specs.Told.{told, toldIn, toldAt};
 
 // Three parts of these lengths fit into n bytes. Their sum may be no number of the type.
 fn has_room(n: usize, a: usize, b: usize, c: usize) -> bool
@@ -79,11 +79,18 @@ fn tell_line(name: &[u8], k: usize, line: &[u8], out: &mut [u8]) -> usize
     put_told(out, name, k, line)
 }
 
-// Line k of the text, as that of the file with this name: how many bytes, and those, with 0 past them. One text stands for both that a line may be of.
-pub fn tell(name: &[u8], text: &[u8], k: usize, out: &mut [u8]) -> usize
-    ensures count { λ r. ⌜ r ≡ length (toldIn (length (now (out .entry))) (now (name .entry)) k (lineOf (now (text .entry)) k)) ⌝ }
-    ensures text { λ r. ⌜ now (out .exit) ≡ padded 0 (length (now (out .entry))) (toldIn (length (now (out .entry))) (now (name .entry)) k (lineOf (now (text .entry)) k)) ⌝ }
+// The line at fault in either text, as that of the file with this name: how many bytes, and those, with 0 past them.
+pub fn tell<'a>(
+    name: &[u8],
+    schema: &'a [u8],
+    proof: &'a [u8],
+    fault: Fault,
+    out: &mut [u8],
+) -> usize
+    ensures count { λ r. ⌜ r ≡ length (toldAt (length (now (out .entry))) (now (name .entry)) (now (schema .entry)) (now (proof .entry)) fault) ⌝ }
+    ensures text { λ r. ⌜ now (out .exit) ≡ padded 0 (length (now (out .entry))) (toldAt (length (now (out .entry))) (now (name .entry)) (now (schema .entry)) (now (proof .entry)) fault) ⌝ }
     ensures within { λ r. ⌜ Counts r (now (out .exit)) ⌝ }
 {
-    tell_line(name, k, line(text, text, false, k), out)
+    let k = fault.line;
+    tell_line(name, k, line(schema, proof, fault.second, k), out)
 }
