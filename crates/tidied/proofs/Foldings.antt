@@ -16,7 +16,7 @@ use Rattle.stab.specs.Formula.{Row, rowAt, joined, Op, Kind, constant, literal,
 use Rattle.stab.specs.Check.{sameRow}
 use Rattle.stab.proofs.Bools.{decide, and-left, and-right, if-true, if-false}
 use Rattle.stab.proofs.Trees.{below-nat}
-use Rattle.stab.proofs.Scans.{below-suc, none-scan}
+use Rattle.stab.proofs.Scans.{below-suc, none-scan, scan-same}
 use Rattle.stab.proofs.Tests.{same-row-tests}
 use Rattle.stab.proofs.Whole.{pos-injective}
 use Rattle.stab.proofs.Decoded.{formed-as}
@@ -337,3 +337,25 @@ module _ (schema : List ℤ) (s : ℕ) (proof : List ℤ) where
           let m = same-part r (o .0) q h (o .1) (sym e) p in
           omega (arith, o .3 (m .0) (m .1), m .2);
     }
+
+-- ---- folding looks at the rows alone
+
+module _ (schema schema′ : List ℤ) (s : ℕ) (same : (r : ℕ) → r < s → rowAt schema r ≡ rowAt schema′ r) where
+  joined-same : (t : List ℤ) (q : ℕ) → joined schema s t q ≡ joined schema′ s t q
+  joined-same t q =
+      ⊎-elim
+      (λ l. joined-below schema s t q l ∙ same q l ∙ sym (joined-below schema′ s t q l))
+      (λ m. ap (joined schema s t) (m .1) ∙ joined-above schema s t (m .0) ∙ sym (joined-above schema′ s t (m .0)) ∙ ap (joined schema′ s t) (sym (m .1)))
+      (schema-or-proof s q)
+
+  row-same : (w : Row) (F : Folding) → foldRow schema s w F ≡ foldRow schema′ s w F
+  unfolding foldRow earliest
+  row-same w F =
+      ap (foldedInto s F w) (scan-same _ _ (s + F .count) (λ k l _. ap (λ (v : Row). if sameRow v w then some k else none) (joined-same (F .table) k)))
+
+  pub folding-agrees : (proof proof′ : List ℤ) (n : ℕ) → ((k : ℕ) → k < n → rowAt proof k ≡ rowAt proof′ k) → folding schema s proof n ≡ folding schema′ s proof′ n
+  unfolding folding foldNext
+  folding-agrees proof proof′ zero h = refl
+  folding-agrees proof proof′ (suc n) h =
+      ap₂ (λ (w : Row) (F : Folding). foldRow schema s (renumbered (newNumber s (F .numbers)) w) F) (h n (omega arith)) (folding-agrees proof proof′ n (λ k l. h k (omega arith)))
+      ∙ row-same _ _

@@ -1,7 +1,7 @@
--- 02, No. 10: what stands in lent memory is accepted; refusals, and what stands there after them.
-use Prim.Native.Nat.{ℕ, _≤_, _<_}
+-- 02, No. 10: what stands in lent memory is accepted, and stays as it is when it is tidied again; refusals, and what stands there after them.
+use Prim.Native.Nat.{ℕ, _*_, _≤_, _<_}
 use native.Mathlib.Omega.{arith}
-use mathlib.Core.Path.{_≡_, refl, sym, _∙_, ap}
+use mathlib.Core.Path.{_≡_, refl, sym, _∙_, ap, ap₂}
 use mathlib.Core.Bool.{Bool, true, false}
 use mathlib.Core.List.{List, []}
 use lib.Dec.{leb}
@@ -10,6 +10,7 @@ use lib.ListN.{length, take}
 use Rattle.stab.specs.Basic.{_and_, unless}
 use Rattle.stab.specs.Node.{Tableau, rowCount}
 use Rattle.stab.specs.Check.{atUnless, check, checkOlder, verdict}
+use Rattle.stab.specs.Keeps.{Keeps}
 use Rattle.stab.specs.Text.{padded}
 use Rattle.stab.specs.Answer.{Packs}
 use Rattle.stab.specs.declared.Place.{Place}
@@ -24,9 +25,10 @@ use Rattle.stab.proofs.Packed.{older-packs}
 use Rattle.stab.proofs.Entries.{ProofFits}
 use Rattle.stab.proofs.Exactness.{accepts-exactly, older-accepts-exactly}
 use Rattle.tidied.specs.Tidied.{tidied}
-use Rattle.tidied.specs.Tidy.{Rooms, tidyVerdict, tidyAnswer, tidy, tidyTableBy, tidyProof, tidyNodeTable, tidyMemberTable, inTables}
+use Rattle.tidied.specs.Tidy.{Rooms, tidyVerdict, tidyAnswer, tidy, tidyTableBy, tidyProof, tidyNodeTable, tidyMemberTable, inTables, tidiedIn}
 use Rattle.tidied.proofs.Tidying.{tidied-keeps, tidied-accepted}
-use Rattle.tidied.proofs.Longer.{padded-begins, longer-accepted}
+use Rattle.tidied.proofs.Again.{tidy-again}
+use Rattle.tidied.proofs.Longer.{padded-begins, tidied-longer, longer-accepted}
 
 -- the result tables have their full sizes
 abbrev Full : Rooms → Type 0
@@ -46,18 +48,62 @@ pub older-tidied : (R : Rooms) (T : Tableau) (n l : ℕ) → Full R → checkOld
 unfolding tidy tidyAnswer
 older-tidied R T n l h e = ap (λ v. tidyAnswer v (tidied T)) (full-verdict R T h ∙ e)
 
--- what is left in lent memory, with those counts, is accepted by the check
-pub tidied-lent : (R : Rooms) (T : Tableau) (n l : ℕ) → Full R → checkOlder T ≡ Accepted n l → check (inTables (tidied T) (T .schema) (tidyProof R T) (tidyNodeTable R T) (tidyMemberTable R T)) ≡ Accepted n l
-unfolding tidyProof tidyNodeTable tidyMemberTable tidyTableBy tidied
-tidied-lent R T n l h e =
-    let a = tidied-accepted T n l e in
-    let k = accepts-exactly (tidied T) n l .0 a .0 .older .tables in
-    longer-accepted (tidied T) (T .schema) (tidyProof R T) (tidyNodeTable R T) (tidyMemberTable R T) refl
-    (begins (R .rows) (tidied T .proof) (k .proofHeld)) (begins (R .nodes) (tidied T .nodes) (k .nodesHeld)) (begins (R .members) (tidied T .members) (k .membersHeld))
-    n l a
-  where
-    begins : {c : ℕ} (m : ℕ) (xs : List ℤ) → c ≤ length xs → take c (tidyTableBy (tidyVerdict R T) m xs) ≡ take c xs
-    begins {c} m xs held = ap (λ v. take c (tidyTableBy v m xs)) (full-verdict R T h ∙ e) ∙ padded-begins c m xs held
+-- ---- what is left in lent memory, with those counts
+
+module _ (R : Rooms) (T : Tableau) (n l : ℕ) (full : Full R) (older : checkOlder T ≡ Accepted n l) where
+  begins : {c : ℕ} (m : ℕ) (xs : List ℤ) → c ≤ length xs → take c (tidyTableBy (tidyVerdict R T) m xs) ≡ take c xs
+  unfolding tidyTableBy
+  begins {c} m xs held = ap (λ v. take c (tidyTableBy v m xs)) (full-verdict R T full ∙ older) ∙ padded-begins c m xs held
+
+  tidied-kept : Keeps (tidied T)
+  tidied-kept = accepts-exactly (tidied T) n l .0 (tidied-accepted T n l older) .0
+
+  same-proof : take (4 * tidied T .proofRows) (tidyProof R T) ≡ take (4 * tidied T .proofRows) (tidied T .proof)
+  unfolding tidyProof
+  same-proof = begins (R .rows) (tidied T .proof) (tidied-kept .older .tables .proofHeld)
+
+  same-nodes : take (9 * tidied T .nodeRows) (tidyNodeTable R T) ≡ take (9 * tidied T .nodeRows) (tidied T .nodes)
+  unfolding tidyNodeTable
+  same-nodes = begins (R .nodes) (tidied T .nodes) (tidied-kept .older .tables .nodesHeld)
+
+  same-members : take (tidied T .memberCount) (tidyMemberTable R T) ≡ take (tidied T .memberCount) (tidied T .members)
+  unfolding tidyMemberTable
+  same-members = begins (R .members) (tidied T .members) (tidied-kept .older .tables .membersHeld)
+
+  same-schema : take (4 * tidied T .schemaRows) (T .schema) ≡ take (4 * tidied T .schemaRows) (tidied T .schema)
+  unfolding tidied
+  same-schema = refl
+
+  -- it is accepted by the check
+  pub tidied-lent : check (tidiedIn R T) ≡ Accepted n l
+  tidied-lent =
+      longer-accepted (tidied T) (T .schema) (tidyProof R T) (tidyNodeTable R T) (tidyMemberTable R T) same-schema same-proof same-nodes same-members
+      n l (tidied-accepted T n l older)
+
+  lent-older : checkOlder (tidiedIn R T) ≡ Accepted n l
+  lent-older =
+      let a = accepts-exactly (tidiedIn R T) n l .0 tidied-lent in
+      older-accepts-exactly (tidiedIn R T) n l .1 (a .0 .older, a .1, a .2)
+
+  lent-tidied : tidied (tidiedIn R T) ≡ tidied T
+  lent-tidied =
+      tidied-longer (tidied T) (T .schema) (tidyProof R T) (tidyNodeTable R T) (tidyMemberTable R T) same-schema same-proof same-nodes same-members tidied-kept
+      ∙ ap (λ (U : Tableau). inTables U (T .schema) (U .proof) (U .nodes) (U .members)) (tidy-again T n l older)
+      ∙ whole
+    where
+      whole : inTables (tidied T) (T .schema) (tidied T .proof) (tidied T .nodes) (tidied T .members) ≡ tidied T
+      whole = unfold inTables tidied in refl
+
+  -- "tidying again changes nothing": result tables of any length, here those of S, come out as they would of the record itself
+  pub lent-again : (S : Rooms) → (tidy S (tidiedIn R T) ≡ tidy S T) × (tidyProof S (tidiedIn R T) ≡ tidyProof S T) × (tidyNodeTable S (tidiedIn R T) ≡ tidyNodeTable S T) × (tidyMemberTable S (tidiedIn R T) ≡ tidyMemberTable S T)
+  unfolding tidy tidyProof tidyNodeTable tidyMemberTable tidyVerdict
+  lent-again S =
+      let v = ap (verdict (atUnless (leb 4096 (S .rows) and leb 9216 (S .nodes) and leb 8192 (S .members)) TableTooShort 0)) (lent-older ∙ sym older) in (
+        ap₂ tidyAnswer v lent-tidied,
+        ap₂ (λ (w : Verdict) (U : Tableau). tidyTableBy w (S .rows) (U .proof)) v lent-tidied,
+        ap₂ (λ (w : Verdict) (U : Tableau). tidyTableBy w (S .nodes) (U .nodes)) v lent-tidied,
+        ap₂ (λ (w : Verdict) (U : Tableau). tidyTableBy w (S .members) (U .members)) v lent-tidied,
+      )
 
 -- a result table that is too short comes first
 pub short-first : (R : Rooms) (T : Tableau) → (leb 4096 (R .rows) and leb 9216 (R .nodes) and leb 8192 (R .members)) ≡ false → tidy R T ≡ ProofRefused TableTooShort (At 0)

@@ -1,10 +1,11 @@
--- The check accepts a record in longer tables as it accepts the record: no number past those counted matters.
+-- The check accepts a record in longer tables as it accepts the record, and tidying makes the same of it: no number past those counted
+-- matters.
 use Prim.Native.Nat.{ℕ, zero, suc, _+_, _*_, _<_, _≤_}
 use native.Mathlib.Omega.{arith}
-use mathlib.Core.Path.{_≡_, refl, sym, _∙_, ap}
+use mathlib.Core.Path.{_≡_, refl, sym, _∙_, ap, ap₂}
 use mathlib.Core.Logic.{_⊎_, inl, inr}
 use mathlib.Core.Bool.{true}
-use mathlib.Core.List.{List}
+use mathlib.Core.List.{List, _++_}
 use lib.IntN.{ℤ, pos, _+ℤ_}
 use lib.ListN.{length, take, drop}
 use lib.Seq.{take-append-le}
@@ -20,10 +21,10 @@ use Rattle.stab.proofs.Trees.{below-nat}
 use Rattle.stab.proofs.Tests.{below-tests}
 use Rattle.stab.proofs.Formed.{formed-tests}
 use Rattle.stab.proofs.Exactness.{accepts-exactly}
-use Rattle.tidied.specs.Tidied.{through}
+use Rattle.tidied.specs.Tidied.{through, Folding, newNumber, foldingOf, newOf, tidySet, tidyMembers, tidyNode, tidyNodes, tidied}
 use Rattle.tidied.specs.Tidy.{inTables}
 use Rattle.tidied.proofs.Moves.{Moves, through-itself, tree-moved, formed-moved}
-use Rattle.tidied.proofs.Foldings.{joined-below, joined-above, schema-or-proof, renumbered-itself}
+use Rattle.tidied.proofs.Foldings.{joined-below, joined-above, schema-or-proof, renumbered-itself, folding-agrees}
 use Rattle.tidied.proofs.Tables.{set-within, same-rows, same-held, same-nodes, same-slice}
 use Rattle.tidied.proofs.Agreeing.{Agrees, count-same, children-same, rank-same, bound-same}
 use Rattle.tidied.proofs.Carried.{Carries, AllCarried, outer-carried, step-carried, drawn-carried}
@@ -214,6 +215,48 @@ module _ (T : Tableau) (schema proof nodes members : List ℤ)
     same-links : linkCount U ≡ linkCount T
     unfolding linkCount isLink node inTables
     same-links = count-same _ _ (T .nodeRows) (λ j h. ap (ofRule 8) (node-same j h))
+
+    -- ---- tidied
+
+    folding-longer : foldingOf U ≡ foldingOf T
+    unfolding foldingOf inTables
+    folding-longer =
+        folding-agrees schema (T .schema) (T .schemaRows) (λ r h. same-rows (T .schema) schema (4 * T .schemaRows) sameSchema r (omega arith))
+        proof (T .proof) (T .proofRows) (λ k h. same-rows (T .proof) proof (4 * T .proofRows) sameProof k (omega arith))
+
+    new-longer : newOf U ≡ newOf T
+    unfolding newOf inTables
+    new-longer = ap (λ (F : Folding). newNumber (T .schemaRows) (F .numbers)) folding-longer
+
+    members-longer : (j : ℕ) → j ≤ T .nodeRows → tidyMembers U (newOf U) j ≡ tidyMembers T (newOf T) j
+    unfolding tidyMembers
+    members-longer zero h = refl
+    members-longer (suc j) h = ap₂ _++_ (members-longer j (omega arith)) (ap₂ tidySet new-longer (set-same j h))
+
+    nodes-longer : (j : ℕ) → j ≤ T .nodeRows → tidyNodes U (newOf U) j ≡ tidyNodes T (newOf T) j
+    unfolding tidyNodes
+    nodes-longer zero h = refl
+    nodes-longer (suc j) h =
+        ap₂ _++_ (nodes-longer j (omega arith))
+        (λ i. tidyNode (new-longer i) (node-same j h i) (length (members-longer j (omega arith) i)) (length (tidySet (new-longer i) (set-same j h i))))
+
+    -- what is tidied does not rest on what stands past the numbers counted
+    pub tidied-longer : tidied U ≡ inTables (tidied T) schema (tidied T .proof) (tidied T .nodes) (tidied T .members)
+    unfolding tidied inTables
+    tidied-longer i =
+        let m = members-longer (T .nodeRows) (omega arith) in
+        record {
+          schema = schema;
+          schemaRows = T .schemaRows;
+          proof = folding-longer i .table;
+          proofRows = folding-longer i .count;
+          root = T .root;
+          least = T .least;
+          nodes = nodes-longer (T .nodeRows) (omega arith) i;
+          nodeRows = T .nodeRows;
+          members = m i;
+          memberCount = length (m i);
+        }
 
   -- a record that the check accepts is accepted, with the same nodes and links, in all tables that begin with the numbers counted
   pub longer-accepted : (n l : ℕ) → check T ≡ Accepted n l → check (inTables T schema proof nodes members) ≡ Accepted n l

@@ -61,3 +61,7 @@ inTables T schema proof nodes members = record {
   members = members;
   memberCount = T .memberCount;
 }
+
+-- the tidied record as it stands in lent memory
+abbrev pub tidiedIn : Rooms → Tableau → Tableau
+tidiedIn R T = inTables (tidied T) (T .schema) (tidyProof R T) (tidyNodeTable R T) (tidyMemberTable R T)
