@@ -14,6 +14,7 @@ use Rattle.stab.specs.Formula.{Row, rowAt, joined, disj, Formula, join, tree, s
 use Rattle.stab.specs.Meaning.{Assignment, op, value, truth}
 use Rattle.stab.specs.Node.{Tableau, Node, rows, rowCount, formula, nodeAt, node}
 use Rattle.stab.specs.Rule.{ofRule}
+use Rattle.stab.specs.Text.{padded}
 use Rattle.stab.specs.Check.{wholeUnless, atUnless, check, isLink, linkCount}
 use Rattle.stab.specs.Keeps.{KeepsTables, KeepsOlder, Keeps}
 use Rattle.stab.specs.declared.Verdict.{Verdict}
@@ -26,7 +27,7 @@ use Rattle.stab.proofs.Scans.{count-false}
 use Rattle.stab.proofs.Exactness.{accepts-exactly}
 use Rattle.tidied.specs.Tidied.{tidied, newOf}
 use Rattle.tidied.specs.Tidy.{inTables}
-use Rattle.tidied.proofs.Foldings.{joined-below}
+use Rattle.tidied.proofs.Foldings.{joined-below, rowAt-front}
 use Rattle.tidied.proofs.Agreeing.{count-same}
 use Rattle.tidied.proofs.Tables as Tidy
 use Rattle.tidied.proofs.Tidying.{KeepsRules, rules-of, rules-kept, tidied-fresh, fold, same-links}
@@ -211,3 +212,15 @@ module _ (R : Rooms) (A B : Tableau) (nA lA nB lB : ℕ) (first : check A ≡ Ac
   pub joint-means : (σ : Assignment) (n : ℕ) → truth σ n (tree (rowAt (joint A B .schema)) (nat (joint A B .root))) ≡ (truth σ n (tree (rowAt (A .schema)) (nat (A .root))) or truth σ n (tree (rowAt (B .schema)) (nat (B .root))))
   unfolding truth value op
   joint-means σ n = ap (λ (f : Formula). value σ n f (pos 0)) (joint-root A B keepsA keepsB same-least made-fits)
+
+  lent-rows : (r : ℕ) → r ≤ nat (joint A B .root) → rowAt (joinedSchema R A B) r ≡ rowAt (joint A B .schema) r
+  unfolding joinedSchema joinedTable padded joint tidied untidied orRow nat
+  lent-rows r h =
+      ap (λ x. rowAt (joinedTable x (R .schema) (jointSchema A B)) r) join-made
+      ∙ rowAt-front (jointSchema A B) _ r (omega (arith, schema-length A B, first-count A B))
+
+  -- and so of the schema that is left in lent memory
+  pub joint-lent-means : (σ : Assignment) (n : ℕ) → truth σ n (tree (rowAt (joinedSchema R A B)) (nat (joint A B .root))) ≡ (truth σ n (tree (rowAt (A .schema)) (nat (A .root))) or truth σ n (tree (rowAt (B .schema)) (nat (B .root))))
+  joint-lent-means σ n =
+      ap (truth σ n) (tree-agrees (rowAt (joinedSchema R A B)) (rowAt (joint A B .schema)) (nat (joint A B .root)) lent-rows)
+      ∙ joint-means σ n

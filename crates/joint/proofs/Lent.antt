@@ -1,7 +1,7 @@
--- 02, No. 11: what the tool finds packs into the one number, and what it gives is within the limits.
+-- 02, No. 11: what the tool finds packs into the one number and is read back from it, and what it gives is within the limits.
 use Prim.Native.Nat.{ℕ, _+_, _≤_}
 use native.Mathlib.Omega.{arith}
-use mathlib.Core.Path.{_≡_, refl}
+use mathlib.Core.Path.{_≡_, refl, ap}
 use mathlib.Core.Bool.{Bool, true, false}
 use mathlib.Core.Option.{Option, none, some}
 use lib.Dec.{leb}
@@ -9,14 +9,14 @@ use borrow.Author.Tests.{leb-true}
 use Rattle.stab.specs.Basic.{_and_, eqZ, _otherwise_, unless}
 use Rattle.stab.specs.Node.{Tableau, rowCount}
 use Rattle.stab.specs.Check.{wholeUnless, atUnless, check}
-use Rattle.stab.specs.Answer.{Packs}
+use Rattle.stab.specs.Answer.{Numbers, refusedNumbers, verdictNumbers, packed, answerIn, placeIn, numbersIn, Packs}
 use Rattle.stab.specs.declared.Place.the-variants.{Whole, At}
 use Rattle.stab.specs.declared.Refusal.the-variants.{TableTooShort, Leasts, Joint}
 use Rattle.stab.specs.declared.Verdict.{Verdict}
 use Rattle.stab.specs.declared.Verdict.the-variants.{Accepted, Refused}
 use Rattle.stab.proofs.Bools.{and-left, and-right, unless-none, otherwise-second}
-use Rattle.stab.proofs.Packed.{check-packs}
-use Rattle.joint.specs.Joint.{joint, jointFits, Rooms, refusalOf, joinRefusal, joinedBy, join}
+use Rattle.stab.proofs.Packed.{check-packs, read-back}
+use Rattle.joint.specs.Joint.{joint, jointFits, Rooms, refusalOf, joinRefusal, joinedBy, join, joinedNumbers, joinedPacked}
 use Rattle.joint.specs.declared.Joined.{Joined}
 use Rattle.joint.specs.declared.Joined.the-variants.{Record, Refused as JoinRefused}
 
@@ -77,3 +77,14 @@ module _ (R : Rooms) (A B : Tableau) where
       by none e p = counts (fits e)
       by (some (Refused why q)) e p = unfold joinedBy in p
       by (some (Accepted n l)) e p = unfold joinedBy in tt
+
+-- ---- answer and place are read back from the number
+
+answer-back : (v : Verdict) → Packs v → (answerIn (packed v) ≡ verdictNumbers v .answer) × (placeIn (packed v) ≡ verdictNumbers v .place)
+unfolding numbersIn
+answer-back v h = (ap (λ (a : Numbers). a .answer) (read-back v h), ap (λ (a : Numbers). a .place) (read-back v h))
+
+pub joined-read-back : (r : Joined) → JoinedFits r → (answerIn (joinedPacked r) ≡ joinedNumbers r .answer) × (placeIn (joinedPacked r) ≡ joinedNumbers r .place)
+unfolding joinedPacked joinedNumbers packed verdictNumbers refusedNumbers
+joined-read-back (Record root least schema proof nodes members) h = answer-back (Accepted 0 0) (omega arith, omega arith)
+joined-read-back (JoinRefused why p) h = answer-back (Refused why p) h
