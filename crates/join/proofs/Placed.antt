@@ -6,9 +6,10 @@ use mathlib.Core.Path.{_≡_, refl, sym, _∙_, ap, ap₂}
 use mathlib.Core.Logic.{⊎-elim}
 use mathlib.Core.Bool.{true, false, false≢true}
 use mathlib.Core.List.{List, [], _∷_, _++_, append-assoc, append-nil, List·Memᴰ, List·Memᴰ·head, List·Memᴰ·tail}
+use lib.Dec.{leb}
 use lib.IntN.{ℤ, pos, negℤ}
 use lib.ListN.{length, getD, take, drop, length-append}
-use Rattle.stab.specs.Basic.{nat, below, eqZ}
+use Rattle.stab.specs.Basic.{if_then_else_, nat, below, eqZ}
 use Rattle.stab.specs.Node.{Tableau, Node, rowCount, nodeAt, node, set, setOf}
 use Rattle.stab.specs.Rule.{unused, entry, ruleTable, ruleOf, rule}
 use Rattle.stab.specs.Keeps.{KeepsKind, KeepsStep, KeepsSet, KeepsOlder, Keeps}
@@ -30,6 +31,7 @@ use Rattle.joint.proofs.Lists.{movedOf}
 use Rattle.joint.proofs.Blocks.{up-cases}
 use Rattle.joint.proofs.Nodes.{node-zero, node-first, node-second, set-first, set-second}
 use Rattle.jointrows.specs.Kept.{plain, Gives, RowsFilled}
+use Rattle.jointrows.proofs.Numbers.{numbered-same, gives-at}
 use Rattle.jointrows.proofs.Moves.{table-number}
 use Rattle.jointnodes.specs.Kept.{setAt, orNode, placedNode, placedSets, placedNodes, bothNodes, bothSets, AllReadable}
 
@@ -103,7 +105,7 @@ module _ (newT newX : ℕ → ℕ) (n : ℕ) (small : n ≤ 1024) (N : List ℕ)
   row-through z h =
       ap (through newT) (through-below newX n z h)
       ∙ through-pos newT (newX (nat z))
-      ∙ ap pos (sym (table-number N (nat z) ∙ g (nat z) (omega (arith, below-nat n z h))))
+      ∙ ap pos (sym (table-number N (nat z) ∙ gives-at N _ g (nat z) (omega (arith, below-nat n z h))))
       ∙ sym (through-below (newNumber 0 N) n z h)
 
   unused-through : (z : ℤ) → z ≡ unused → through newT (through newX z) ≡ through (newNumber 0 N) z
@@ -205,14 +207,14 @@ module _ (A B : Tableau) where
   plain-second r = refl
 
   pub of-plain : {schema₀ proof₀ : List ℤ} {count : ℕ} {first second : List ℕ} {schema proof : List ℤ} → RowsFilled PA PB schema₀ proof₀ count first second schema proof → RowsFilled A B schema₀ proof₀ count first second schema proof
-  of-plain {schema₀} {proof₀} P = record {
+  of-plain {schema₀} {proof₀} {count} P = record {
     counted = P .counted ∙ ap (λ (F : Folding). F .count) plain-folding;
-    firstNumbers = λ r h. P .firstNumbers r h ∙ plain-first r;
+    firstNumbers = P .firstNumbers ∙ numbered-same _ _ 1024 (λ r h. plain-first r);
     firstSmall = P .firstSmall;
-    secondNumbers = λ r h. P .secondNumbers r h ∙ plain-second r;
+    secondNumbers = P .secondNumbers ∙ numbered-same _ _ 1024 (λ r h. plain-second r);
     secondSmall = P .secondSmall;
     schemaTable = P .schemaTable ∙ ap (padded (pos 0) (length schema₀)) plain-schema;
-    proofTable = λ h. P .proofTable h ∙ ap (λ (F : Folding). padded (pos 0) (length proof₀) (F .table)) plain-folding;
+    proofTable = P .proofTable ∙ ap (λ (F : Folding). padded (pos 0) (length proof₀) (if leb (A .schemaRows + B .schemaRows + 1 + count) 1024 then F .table else [])) plain-folding;
   }
 
 -- ---- node 0, the first's nodes, the second's

@@ -15,13 +15,12 @@ use Rattle.formula.specs.Facts.{AllFormed}
 use Rattle.tidied.specs.Tidied.{through, renumbered, columns, Folding, newNumber, folding, foldingOf, newOf}
 use Rattle.tidied.proofs.Moves.{through-below}
 use Rattle.tidied.proofs.Foldings as Folds
-use Rattle.tidied.proofs.Foldings.{joined-below, joined-above, new-schema, new-proof, renumbered-agrees}
+use Rattle.tidied.proofs.Foldings.{joined-below, joined-above, new-schema, new-proof, renumbered-agrees, folding-agrees}
 use Rattle.folds.proofs.Numbers.{new-padded}
 use Rattle.joint.specs.Joint.{schemaCount, ofFirst, ofSecond, movedRows, theOr, jointSchema, jointProof, untidied}
 use Rattle.joint.proofs.Rows.{schema-length}
 use Rattle.jointrows.specs.Kept.{placed, Gives, orOf, bothSchemata, bothProofs, Joinable}
-use Rattle.jointrows.proofs.Numbers.{placed-small}
-use Rattle.jointrows.proofs.Rows.{folding-same}
+use Rattle.jointrows.proofs.Numbers.{gives-at, placed-small}
 
 -- ---- where rows are placed
 
@@ -80,7 +79,7 @@ module _ (rows : ℕ → Row) (t : List ℤ) (m : ℕ) (new new′ : ℕ → ℕ
 
 module _ (A : Tableau) (J : Joinable A) (N : List ℕ) (f : ℕ → ℕ) (g : Gives N f) where
   agree : (x : ℕ) → x < 1024 → newNumber 0 N x ≡ f x
-  agree x h = table-number N x ∙ g x h
+  agree x h = table-number N x ∙ gives-at N f g x h
 
   schema-agree : movedRows (newNumber 0 N) (A .schema) (A .schemaRows) ≡ movedRows f (A .schema) (A .schemaRows)
   schema-agree =
@@ -126,7 +125,7 @@ module _ (A B : Tableau) (JA : Joinable A) (JB : Joinable B) (N M : List ℕ) (g
   folding-is out k o =
       let e : A .schemaRows + B .schemaRows + 1 ≡ suc (A .schemaRows + B .schemaRows) = omega arith in
       ap₂ (λ (s : ℕ) (p : List ℤ). folding out s p (A .proofRows + B .proofRows)) e proofs-are
-      ∙ folding-same out (jointSchema A B) (suc (A .schemaRows + B .schemaRows)) same-rows (jointProof A B) (jointProof A B) (A .proofRows + B .proofRows) (λ q l. refl)
+      ∙ folding-agrees out (jointSchema A B) (suc (A .schemaRows + B .schemaRows)) same-rows (jointProof A B) (jointProof A B) (A .proofRows + B .proofRows) (λ q l. refl)
     where
       same-rows : (r : ℕ) → r < suc (A .schemaRows + B .schemaRows) → rowAt out r ≡ rowAt (jointSchema A B) r
       same-rows r h = ap (λ (t : List ℤ). rowAt t r) (o ∙ ap (padded (pos 0) k) schemata-are) ∙ front r h

@@ -1,18 +1,47 @@
 -- The new number of each row of one record.
 use Prim.Native.Nat.{ℕ, zero, suc, _+_, _-_, _<_, _≤_}
 use native.Mathlib.Omega.{arith}
-use mathlib.Core.Path.{_≡_, refl, sym, _∙_, ap}
+use mathlib.Core.Path.{_≡_, refl, sym, _∙_, ap, ap₂}
 use mathlib.Core.Logic.{⊎-elim}
-use mathlib.Core.List.{List, [], _∷_}
+use mathlib.Core.List.{List, [], _∷_, _++_}
 use lib.Dec.{ltb}
-use lib.ListN.{length, getD, set}
-use lib.Seq.{getD-set-same, getD-set-other}
+use lib.ListN.{length, getD, set, length-append, List·getD-append}
+use lib.Seq.{getD-set-same, getD-set-other, getD-at, ext-getD}
 use borrow.Author.Tests.{ltb-true, ltb-false}
 use Rattle.stab.proofs.Bools.{decide, if-true, if-false}
 use Rattle.stab.proofs.Scans.{below-suc}
 use Rattle.tidied.specs.Tidied.{newNumber}
 use Rattle.folds.specs.Folds.{AllSmall}
-use Rattle.jointrows.specs.Kept.{placed, Gives}
+use Rattle.jointrows.specs.Kept.{placed, numbered, Gives}
+
+-- ---- a table of numbers by its places
+
+numbered-length : (new : ℕ → ℕ) (n : ℕ) → length (numbered new n) ≡ n
+unfolding numbered
+numbered-length new zero = refl
+numbered-length new (suc n) = omega (arith, length-append (numbered new n) (new n ∷ []), numbered-length new n)
+
+numbered-at : (new : ℕ → ℕ) (n r : ℕ) → r < n → getD (numbered new n) r 0 ≡ new r
+unfolding numbered
+numbered-at new zero r h = absurd (omega arith)
+numbered-at new (suc n) r h =
+    ⊎-elim
+    (λ l. List·getD-append (numbered new n) (new n ∷ []) 0 r (omega (arith, numbered-length new n)) ∙ numbered-at new n r l)
+    (λ e. ap (λ (k : ℕ). getD (numbered new n ++ new n ∷ []) k 0) e ∙ getD-at (numbered new n) (new n) [] 0 n (numbered-length new n) ∙ ap new (sym e))
+    (below-suc r n h)
+
+pub numbered-by : (numbers : List ℕ) (new : ℕ → ℕ) (n : ℕ) → length numbers ≡ n → ((r : ℕ) → r < n → getD numbers r 0 ≡ new r) → numbers ≡ numbered new n
+numbered-by numbers new n l h =
+    ext-getD 0 numbers (numbered new n) (l ∙ sym (numbered-length new n)) (λ r k. let q : r < n = omega arith in h r q ∙ sym (numbered-at new n r q))
+
+pub numbered-same : (new new′ : ℕ → ℕ) (n : ℕ) → ((r : ℕ) → r < n → new r ≡ new′ r) → numbered new n ≡ numbered new′ n
+unfolding numbered
+numbered-same new new′ zero h = refl
+numbered-same new new′ (suc n) h =
+    ap₂ (λ (l : List ℕ) (x : ℕ). l ++ x ∷ []) (numbered-same new new′ n (λ r k. h r (omega arith))) (h n (omega arith))
+
+pub gives-at : (numbers : List ℕ) (new : ℕ → ℕ) → Gives numbers new → (r : ℕ) → r < 1024 → getD numbers r 0 ≡ new r
+gives-at numbers new g r h = ap (λ (l : List ℕ). getD l r 0) g ∙ numbered-at new 1024 r h
 
 -- ---- one number more
 
@@ -46,7 +75,7 @@ past [] i h = refl
 past (x ∷ xs) zero h = absurd (omega arith)
 past (x ∷ xs) (suc i) h = past xs i (omega arith)
 
-pub gives-small : (numbers : List ℕ) (t base after s : ℕ) (new : List ℕ) → length numbers ≡ 1024 → base ≤ 1024 → after ≤ 2049 → AllSmall new → Gives numbers (λ r. newNumber s new (placed t base after r)) → AllSmall numbers
+pub gives-small : (numbers : List ℕ) (t base after s : ℕ) (new : List ℕ) → length numbers ≡ 1024 → base ≤ 1024 → after ≤ 2049 → AllSmall new → ((r : ℕ) → r < 1024 → getD numbers r 0 ≡ newNumber s new (placed t base after r)) → AllSmall numbers
 gives-small numbers t base after s new l b d a g i =
     ⊎-elim
     (λ e.

@@ -4,21 +4,17 @@ use native.Mathlib.Omega.{arith}
 use native.Mathlib.Nat.{add-zero}
 use native.Mathlib.Numerals.{add-one}
 use mathlib.Core.Path.{_≡_, refl, sym, _∙_, ap, ap₂}
-use mathlib.Core.Logic.{⊎-elim}
 use mathlib.Core.List.{List, [], _++_, append-assoc, append-nil}
 use mathlib.Core.Option.{Option, none, some}
 use lib.IntN.{ℤ, pos}
 use lib.ListN.{length, take, length-append}
 use lib.Seq.{sets, length-sets, take-at}
-use Rattle.stab.specs.Basic.{if_then_else_}
 use Rattle.stab.specs.Formula.{Row, rowAt, joined}
 use Rattle.stab.specs.Text.{padded}
-use Rattle.stab.specs.Check.{sameRow}
-use Rattle.stab.proofs.Scans.{scan-same}
 use Rattle.signed.specs.Numbers.{cleared}
 use Rattle.signed.proofs.Tables.{cleared-padded}
-use Rattle.tidied.specs.Tidied.{renumbered, columns, Folding, earliest, foldedInto, foldRow, foldNext, folding, newNumber}
-use Rattle.tidied.proofs.Foldings.{joined-below, joined-above, schema-or-proof, columns-length}
+use Rattle.tidied.specs.Tidied.{renumbered, columns, Folding, foldedInto, foldRow, foldNext, folding}
+use Rattle.tidied.proofs.Foldings.{joined-above, columns-length}
 use Rattle.folds.proofs.Fronts.{sets-more, put-more, joined-front}
 use Rattle.joint.specs.Joint.{movedRows}
 
@@ -54,8 +50,6 @@ row-last t₂ t₃ t₄ Z row n k a b l h g c =
     ∙ cleared-padded t₃ (n + 4) k (omega arith) e
     ∙ ap (padded (pos 0) k) (ap₂ take m b ∙ sets-more t₂ row n (omega arith) ∙ ap (λ (z : List ℤ). z ++ row) a)
 
--- ---- folding looks at the rows alone
-
 -- the rows in front of a table
 pub rowAt-front : (t front : List ℤ) (n : ℕ) → take (4 * n) t ≡ front → (k : ℕ) → k < n → rowAt t k ≡ rowAt front k
 rowAt-front t front n held k h =
@@ -64,26 +58,6 @@ rowAt-front t front n held k h =
     ∙ joined-front [] 0 t front n held k (omega arith)
     ∙ ap (joined [] 0 front) e
     ∙ joined-above [] 0 front k
-
-module _ (schema schema′ : List ℤ) (s : ℕ) (same : (r : ℕ) → r < s → rowAt schema r ≡ rowAt schema′ r) where
-  joined-same : (t : List ℤ) (q : ℕ) → joined schema s t q ≡ joined schema′ s t q
-  joined-same t q =
-      ⊎-elim
-      (λ l. joined-below schema s t q l ∙ same q l ∙ sym (joined-below schema′ s t q l))
-      (λ m. ap (joined schema s t) (m .1) ∙ joined-above schema s t (m .0) ∙ sym (joined-above schema′ s t (m .0)) ∙ ap (joined schema′ s t) (sym (m .1)))
-      (schema-or-proof s q)
-
-  row-same : (w : Row) (F : Folding) → foldRow schema s w F ≡ foldRow schema′ s w F
-  unfolding foldRow earliest
-  row-same w F =
-      ap (foldedInto s F w) (scan-same _ _ (s + F .count) (λ k l _. ap (λ (v : Row). if sameRow v w then some k else none) (joined-same (F .table) k)))
-
-  pub folding-same : (proof proof′ : List ℤ) (n : ℕ) → ((k : ℕ) → k < n → rowAt proof k ≡ rowAt proof′ k) → folding schema s proof n ≡ folding schema′ s proof′ n
-  unfolding folding foldNext
-  folding-same proof proof′ zero h = refl
-  folding-same proof proof′ (suc n) h =
-      ap₂ (λ (w : Row) (F : Folding). foldRow schema s (renumbered (newNumber s (F .numbers)) w) F) (h n (omega arith)) (folding-same proof proof′ n (λ k l. h k (omega arith)))
-      ∙ row-same _ _
 
 -- ---- no more rows stay than there are
 

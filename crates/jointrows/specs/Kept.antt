@@ -1,11 +1,11 @@
 -- What the passes over the formula rows of two records put.
-use Prim.Native.Nat.{ℕ, _+_, _-_, _<_, _≤_}
+use Prim.Native.Nat.{ℕ, zero, suc, _+_, _-_, _≤_}
 use mathlib.Core.Path.{_≡_}
 use mathlib.Core.Bool.{true}
-use mathlib.Core.List.{List, [], _++_}
-use lib.Dec.{ltb}
+use mathlib.Core.List.{List, [], _∷_, _++_}
+use lib.Dec.{leb, ltb}
 use lib.IntN.{ℤ, pos}
-use lib.ListN.{length, getD}
+use lib.ListN.{length}
 use Rattle.stab.specs.Basic.{if_then_else_, below}
 use Rattle.stab.specs.Formula.{Row, joined}
 use Rattle.stab.specs.Node.{Tableau}
@@ -24,9 +24,14 @@ plain schema s proof p root =
 unfoldable pub placed : ℕ → ℕ → ℕ → ℕ → ℕ
 placed t base after r = if ltb r t then base + r else after + (r - t)
 
+-- the numbers of rows 0 .. n - 1
+unfoldable pub numbered : (ℕ → ℕ) → ℕ → List ℕ
+numbered new zero = []
+numbered new (suc n) = numbered new n ++ new n ∷ []
+
 -- a table has the number of each row
 abbrev pub Gives : List ℕ → (ℕ → ℕ) → Type 0
-Gives numbers new = (r : ℕ) → r < 1024 → getD numbers r 0 ≡ new r
+Gives numbers new = numbers ≡ numbered new 1024
 
 -- the or of two rows
 unfoldable pub orOf : ℤ → ℤ → Row
@@ -46,7 +51,8 @@ pub record Joinable (A : Tableau) : Type 0 where
   pub formed : AllFormed (joined (A .schema) (A .schemaRows) (A .proof)) (A .schemaRows + A .proofRows)
   pub root : below (A .schemaRows) (A .root) ≡ true
 
--- how many proof rows stay, the new numbers of the rows of both records, and the two tables, which were schema₀ and proof₀
+-- how many proof rows stay, the new numbers of the rows of both records, and the two tables, which were schema₀ and proof₀; proof rows that
+-- are too many are not put
 pub record RowsFilled (A B : Tableau) (schema₀ proof₀ : List ℤ) (count : ℕ) (first second : List ℕ) (schema proof : List ℤ) : Type 0 where
   pub counted : count ≡ foldingOf (untidied A B) .count
   pub firstNumbers : Gives first (λ r. newOf (untidied A B) (ofFirst A B r))
@@ -54,4 +60,4 @@ pub record RowsFilled (A B : Tableau) (schema₀ proof₀ : List ℤ) (count : �
   pub secondNumbers : Gives second (λ r. newOf (untidied A B) (ofSecond A B r))
   pub secondSmall : AllSmall second
   pub schemaTable : schema ≡ padded (pos 0) (length schema₀) (jointSchema A B)
-  pub proofTable : A .schemaRows + B .schemaRows + 1 + count ≤ 1024 → proof ≡ padded (pos 0) (length proof₀) (foldingOf (untidied A B) .table)
+  pub proofTable : proof ≡ padded (pos 0) (length proof₀) (if leb (A .schemaRows + B .schemaRows + 1 + count) 1024 then foldingOf (untidied A B) .table else [])

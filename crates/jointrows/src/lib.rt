@@ -7,8 +7,8 @@ ghost use Prim.Native.Nat.{_+_, _<_, _≤_};
 ghost use lib.ListN.{length};
 ghost use Rattle.jointrows.specs.Kept.{plain, Joinable, RowsFilled};
 
-// The formula rows of both, tidied, and the new number of each. How many proof rows stay. Until they are folded every row has the number
-// of its place, which is below 4,097.
+// The formula rows of both, tidied, and the new number of each. How many proof rows stay; where they are too many, none is put. Until they
+// are folded every row has the number of its place, which is below 4,097.
 pub fn fill_rows(
     first_schema: &[i32],
     first_schema_rows: usize,

@@ -2,10 +2,12 @@
 use folds::number::through;
 use tidy::node::copy;
 ghost use mathlib.Core.Path.{_≡_};
-ghost use mathlib.Core.List.{_++_};
+ghost use mathlib.Core.List.{[], _++_};
 ghost use Prim.Native.Nat.{_+_, _*_, _<_, _≤_};
+ghost use lib.Dec.{leb};
 ghost use lib.IntN.{pos};
 ghost use lib.ListN.{length, take, replicate};
+ghost use Rattle.stab.specs.Basic.{if_then_else_};
 ghost use Rattle.stab.specs.Text.{padded};
 ghost use Rattle.tidied.specs.Tidied.{newNumber, folding};
 ghost use Rattle.folds.specs.Folds.{AllSmall};
@@ -52,7 +54,7 @@ pub fn put_schema(
     signed::clear(table, at + 4);
 }
 
-// The proof rows of both, folded against s schema rows: those that stay, where there is room for them, and the number of each. How many
+// The proof rows of both, folded against s schema rows: those that stay, or none where they are too many, and the number of each. How many
 // stay.
 pub fn fold_rows(
     schema: &[i32],
@@ -69,7 +71,7 @@ pub fn fold_rows(
     requires { ⌜ («first_rows» ≤ 1023) × («second_rows» ≤ 1023) × (s + («first_rows» + «second_rows») ≤ 2049) × (4096 ≤ length (now out)) × (length (now numbers) ≡ 2049) × AllSmall (now «first_numbers») × AllSmall (now «second_numbers») ⌝ }
     requires { ⌜ now numbers ≡ replicate (length (now numbers)) 0 ⌝ }
     ensures { λ v. ⌜ v ≡ folding (now (schema .entry)) s (bothProofs (newNumber 0 (now («first_numbers» .entry))) (now (first .entry)) «first_rows» (newNumber 0 (now («second_numbers» .entry))) (now (second .entry)) «second_rows») («first_rows» + «second_rows») .count ⌝ }
-    ensures { λ v. ⌜ (s + v ≤ 1024 → now (out .exit) ≡ padded (pos 0) (length (now (out .entry))) (folding (now (schema .entry)) s (bothProofs (newNumber 0 (now («first_numbers» .entry))) (now (first .entry)) «first_rows» (newNumber 0 (now («second_numbers» .entry))) (now (second .entry)) «second_rows») («first_rows» + «second_rows») .table)) ⌝ }
+    ensures { λ v. ⌜ now (out .exit) ≡ padded (pos 0) (length (now (out .entry))) (if leb (s + v) 1024 then folding (now (schema .entry)) s (bothProofs (newNumber 0 (now («first_numbers» .entry))) (now (first .entry)) «first_rows» (newNumber 0 (now («second_numbers» .entry))) (now (second .entry)) «second_rows») («first_rows» + «second_rows») .table else []) ⌝ }
     ensures { λ v. ⌜ (now (numbers .exit) ≡ padded 0 (length (now (numbers .entry))) (folding (now (schema .entry)) s (bothProofs (newNumber 0 (now («first_numbers» .entry))) (now (first .entry)) «first_rows» (newNumber 0 (now («second_numbers» .entry))) (now (second .entry)) «second_rows») («first_rows» + «second_rows») .numbers)) × AllSmall (now (numbers .exit)) ⌝ }
 {
     let mut proof = [0i32; 8192];
@@ -88,6 +90,8 @@ pub fn fold_rows(
         let end = 4 * count;
         copy(out, 0, &stay[..end]);
         signed::clear(out, end);
+    } else {
+        signed::clear(out, 0);
     }
     count
 }

@@ -1,3 +1,4 @@
+pub mod Fronts
 mod Inserts
 mod Places
 mod Nodes

@@ -7,6 +7,7 @@ use Rattle.stab.specs.Keeps.{Keeps}
 use Rattle.joint.specs.declared.Joined.the-variants.{Record}
 use Rattle.joint.specs.Joint.{schemaCount, orRow, joint}
 use Rattle.signed.proofs.Signs.{read-back}
+use Rattle.stab.proofs.Bools.{if-true}
 use Rattle.stab.specs.Text.{padded}
 use lib.ListN.{length}
 use mathlib.Core.Path.{_≡_, sym, _∙_, ap, subst}
@@ -18,6 +19,7 @@ use mir.Facts.{toZ-ofZ}
 use mathlib.Core.List.{List, []}
 use lib.IntN.{ℤ, pos}
 use native.Mathlib.Omega.{arith}
+use borrow.Author.Tests.{le-leb}
 use borrow.Author.Needs.{needs}
 use Rattle.join.proofs.filled.Statement.{statement}
 use Rattle.join.proofs.filled.Tie as tie
@@ -231,9 +233,9 @@ returns-3 c =
     (all-fit (TA b) (TB b) (omega (arith, fits, P .counted)) (few-nodes (TA b) (TB b) (b .pre .1)) (omega (arith, few, member-count n)) (small-or (TA b) (TB b) (b .pre .1)))
     (λ x. Record ((read-back _ (c .of .ok) ∙ c .of .ensures) x) (toZ-ofZ (b .fits .first-least) x) (e x) (P .counted x) (k x) (member-count n x))
     (P .schemaTable)
-    (P .proofTable fits)
-    (n .fill-nodes .ensures .1 .0 few ∙ ap (padded (pos 0) (length (a .out-nodes .now))) (nodes-are (TA b) (TB b) (keepsA b) (keepsB b) (first-numbers f) (second-numbers f) (rows-are f .firstNumbers) (rows-are f .secondNumbers)))
-    (n .fill-nodes .ensures .1 .1 few ∙ ap (padded (pos 0) (length (a .out-members .now))) (members-are (TA b) (TB b) (keepsA b) (keepsB b) (first-numbers f) (second-numbers f) (rows-are f .firstNumbers) (rows-are f .secondNumbers)))
+    (P .proofTable ∙ ap (padded (pos 0) (length (a .out-proof .now))) (if-true _ _ [] (le-leb _ 1024 fits)))
+    (n .fill-nodes .ensures .1 .0 ∙ ap (padded (pos 0) (length (a .out-nodes .now))) (if-true _ _ [] (le-leb _ 8192 few) ∙ nodes-are (TA b) (TB b) (keepsA b) (keepsB b) (first-numbers f) (second-numbers f) (rows-are f .firstNumbers) (rows-are f .secondNumbers)))
+    (n .fill-nodes .ensures .1 .1 ∙ ap (padded (pos 0) (length (a .out-members .now))) (if-true _ _ [] (le-leb _ 8192 few) ∙ members-are (TA b) (TB b) (keepsA b) (keepsB b) (first-numbers f) (second-numbers f) (rows-are f .firstNumbers) (rows-are f .secondNumbers)))
 
 pub filled-spec : {M : Type 1} → statement M
 filled-spec =

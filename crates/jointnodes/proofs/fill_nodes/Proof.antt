@@ -2,12 +2,15 @@ use Rattle.jointnodes.specs.Kept.{bothSets}
 use Rattle.jointnodes.proofs.Nodes.{both-counted, both-rows, both-sets}
 use Rattle.tidied.specs.Tidied.{newNumber}
 use Rattle.signed.proofs.Tables.{cleared-padded}
+use Rattle.stab.proofs.Bools.{if-true, if-false}
 use Rattle.stab.specs.Text.{padded}
 use lib.ListN.{length}
 use lib.IntN.{pos}
-use mathlib.Core.Path.{_≡_, _∙_, ap}
+use mathlib.Core.List.{[]}
+use mathlib.Core.Path.{_≡_, sym, _∙_, ap}
 use Prim.Native.Nat.{_+_, _*_}
 use native.Mathlib.Omega.{arith}
+use borrow.Author.Tests.{le-leb, lt-leb}
 use borrow.Author.Needs.{needs}
 use Rattle.jointnodes.proofs.fill_nodes.Statement.{statement}
 use Rattle.jointnodes.proofs.fill_nodes.Tie as tie
@@ -68,6 +71,12 @@ clear-requires c κs = search needs
 clear-requires-2 : tie.Need-clear-requires-2
 clear-requires-2 c κs = search needs
 
+clear-requires-3 : tie.Need-clear-requires-3
+clear-requires-3 c κs = search needs
+
+clear-requires-4 : tie.Need-clear-requires-4
+clear-requires-4 c κs = search needs
+
 same-length : tie.Need-same-length
 same-length c = search needs
 
@@ -78,7 +87,9 @@ returns : tie.Need-returns
 returns c =
     let w = c .before in
     let y = w .before .before .before in
-    let e = y .before .before .before .before .before in
+    let i = y .before .before in
+    let e = i .before .before .before in
+    let h = i .if1 .taken in
     let q = node-lengths e in
     let b = start e in
     let a = b .args in
@@ -86,16 +97,14 @@ returns c =
     let f = d .before .before .before .before .before in (
       counted e,
       (
-        λ h.
-            y .clear .ensures
+        y .clear .ensures
             ∙ cleared-padded _ (9 * (1 + a .first-node-rows + a .second-node-rows)) (length (a .out-nodes .now)) (omega (arith, b .pre .0 .1, b .pre .0 .2, q)) q
             ∙ ap (padded (pos 0) (length (a .out-nodes .now)))
-            (both-rows (a .or-row) (a .first-nodes .now) (a .first-members .now) (newNumber 0 (a .first-numbers .now)) (a .first-node-rows) (a .second-nodes .now) (a .second-members .now) (newNumber 0 (a .second-numbers .now)) (a .second-node-rows) _ _ _ _ _ _ _ _ (d .each-node .ensures .0) (e .each-node2 .ensures .0) h (f .put-first .ensures .0)),
-        λ h.
-            w .clear2 .ensures
+            (both-rows (a .or-row) (a .first-nodes .now) (a .first-members .now) (newNumber 0 (a .first-numbers .now)) (a .first-node-rows) (a .second-nodes .now) (a .second-members .now) (newNumber 0 (a .second-numbers .now)) (a .second-node-rows) _ _ _ _ _ _ _ _ (d .each-node .ensures .0) (e .each-node2 .ensures .0) h (f .put-first .ensures .0) ∙ sym (if-true _ _ [] (le-leb _ 8192 h))),
+        w .clear2 .ensures
             ∙ cleared-padded _ (e .each-node2 .result) (length (a .out-members .now)) (omega (arith, h, b .pre .0 .3, member-lengths e)) (member-lengths e)
             ∙ ap (padded (pos 0) (length (a .out-members .now)))
-            (both-sets (a .or-row) (a .first-nodes .now) (a .first-members .now) (newNumber 0 (a .first-numbers .now)) (a .first-node-rows) (a .second-nodes .now) (a .second-members .now) (newNumber 0 (a .second-numbers .now)) (a .second-node-rows) _ _ _ _ _ _ _ _ (d .each-node .ensures .0) (e .each-node2 .ensures .0) h (f .put-first .ensures .1)),
+            (both-sets (a .or-row) (a .first-nodes .now) (a .first-members .now) (newNumber 0 (a .first-numbers .now)) (a .first-node-rows) (a .second-nodes .now) (a .second-members .now) (newNumber 0 (a .second-numbers .now)) (a .second-node-rows) _ _ _ _ _ _ _ _ (d .each-node .ensures .0) (e .each-node2 .ensures .0) h (f .put-first .ensures .1) ∙ sym (if-true _ _ [] (le-leb _ 8192 h))),
       ),
     )
 
@@ -107,8 +116,18 @@ same-length-4 c = search needs
 
 returns-2 : tie.Need-returns-2
 returns-2 c =
-    let e = c .before .before .before in
-    (counted e, (λ h. absurd (omega (arith, h, c .if1 .left)), λ h. absurd (omega (arith, h, c .if1 .left))))
+    let w = c .before in
+    let y = w .before .before .before in
+    let i = y .before .before in
+    let e = i .before .before .before in
+    let a = start e .args in
+    let many = lt-leb _ 8192 (i .if1 .left) in (
+      counted e,
+      (
+        y .clear3 .ensures ∙ cleared-padded _ 0 (length (a .out-nodes .now)) (omega arith) (node-lengths e) ∙ ap (padded (pos 0) (length (a .out-nodes .now))) (sym (if-false _ _ [] many)),
+        w .clear4 .ensures ∙ cleared-padded _ 0 (length (a .out-members .now)) (omega arith) (member-lengths e) ∙ ap (padded (pos 0) (length (a .out-members .now))) (sym (if-false _ _ [] many)),
+      ),
+    )
 
 pub fill-nodes-spec : {M : Type 1} → statement M
 fill-nodes-spec =
@@ -122,6 +141,8 @@ fill-nodes-spec =
     mul-clear
     clear-requires
     clear-requires-2
+    clear-requires-3
+    clear-requires-4
     same-length
     same-length-2
     returns

@@ -1,15 +1,18 @@
+use Rattle.jointrows.proofs.Numbers.{numbered-same}
 use Rattle.jointrows.proofs.Moves.{first-number, second-number, first-new, second-new, schemata-are, folding-is}
 use Rattle.jointrows.specs.Kept.{Gives, plain, bothSchemata, bothProofs}
 use Rattle.joint.specs.Joint.{ofFirst, ofSecond, jointSchema, untidied}
 use Rattle.folds.proofs.Numbers.{getD-zeros}
 use Rattle.tidied.specs.Tidied.{newNumber, Folding, folding, foldingOf}
 use Rattle.stab.proofs.Trees.{below-nat}
+use Rattle.stab.specs.Basic.{if_then_else_}
 use Rattle.stab.specs.Text.{padded}
 use Rattle.stab.specs.Node.{Tableau}
 use mir.Facts.{toZ-ofZ}
 use lib.ListN.{length}
 use lib.IntN.{ℤ, pos}
-use mathlib.Core.List.{List}
+use lib.Dec.{leb}
+use mathlib.Core.List.{List, []}
 use mathlib.Core.Path.{_≡_, refl, _∙_, ap, ap₂}
 use Prim.Native.Nat.{ℕ, _+_}
 use native.Mathlib.Omega.{arith}
@@ -40,14 +43,14 @@ abbrev second-numbers : tie.After-fold-rows → List ℕ
 second-numbers c = fill2-of c .fill2 .last .1 .1 .1 .1 .1 .0
 
 gives-first : (c : tie.After-fold-rows) → Gives (first-numbers c) (ofFirst (A (start c)) (B (start c)))
-gives-first c r l =
+gives-first c =
     let b = start c in
-    fill-of c .fill .ensures .0 r l ∙ first-number (A b) (B b) (b .pre .0 .2) (b .pre .0 .0 .few) _ r l
+    fill-of c .fill .ensures .0 ∙ numbered-same _ _ 1024 (λ r l. first-number (A b) (B b) (b .pre .0 .2) (b .pre .0 .0 .few) _ r l)
 
 gives-second : (c : tie.After-fold-rows) → Gives (second-numbers c) (ofSecond (A (start c)) (B (start c)))
-gives-second c r l =
+gives-second c =
     let b = start c in
-    fill2-of c .fill2 .ensures .0 r l ∙ second-number (A b) (B b) (b .pre .0 .2) (b .pre .0 .0 .few) _ r l
+    fill2-of c .fill2 .ensures .0 ∙ numbered-same _ _ 1024 (λ r l. second-number (A b) (B b) (b .pre .0 .2) (b .pre .0 .0 .few) _ r l)
 
 -- the schema rows as they were put
 abbrev schema : tie.After-fold-rows → List ℤ
@@ -162,12 +165,12 @@ returns c =
     let e = is-folded r in
     record {
       counted = r .fold-rows .ensures .0 ∙ ap (λ (F : Folding). F .count) e;
-      firstNumbers = λ q l. h .fill3 .ensures .0 q l ∙ first-new (A b) (B b) _ _ _ (r .fold-rows .ensures .1 .1 .0) e q;
+      firstNumbers = h .fill3 .ensures .0 ∙ numbered-same _ _ 1024 (λ q l. first-new (A b) (B b) _ _ _ (r .fold-rows .ensures .1 .1 .0) e q);
       firstSmall = h .fill3 .ensures .1;
-      secondNumbers = λ q l. k .fill4 .ensures .0 q l ∙ second-new (A b) (B b) _ _ _ (r .fold-rows .ensures .1 .1 .0) e q;
+      secondNumbers = k .fill4 .ensures .0 ∙ numbered-same _ _ 1024 (λ q l. second-new (A b) (B b) _ _ _ (r .fold-rows .ensures .1 .1 .0) e q);
       secondSmall = k .fill4 .ensures .1;
       schemaTable = schema-is r;
-      proofTable = λ l. r .fold-rows .ensures .1 .0 l ∙ ap (λ (F : Folding). padded (pos 0) (length (a .out-proof .now)) (F .table)) e;
+      proofTable = r .fold-rows .ensures .1 .0 ∙ ap (λ (F : Folding). padded (pos 0) (length (a .out-proof .now)) (if leb (a .first-schema-rows + a .second-schema-rows + 1 + r .fold-rows .result) 1024 then F .table else [])) e;
     }
 
 pub fill-rows-spec : {M : Type 1} → statement M

@@ -9,6 +9,7 @@ use Rattle.stab.specs.Basic.{nat}
 use Rattle.stab.specs.Node.{nodeAt}
 use Rattle.tidied.specs.Tidied.{newNumber, tidySet}
 use Rattle.tidied.proofs.Sets.{tidy-length}
+use Rattle.tidy.proofs.Fronts.{front-set}
 use Rattle.tidy.proofs.Nodes.{lent-back, tidies-more}
 use Rattle.tidy.proofs.one_node.Statement.{statement}
 use Rattle.tidy.proofs.one_node.Tie as tie
@@ -89,7 +90,7 @@ returns c =
     let b = start p in
     let a = b .args in (
       tidies-more (a .nodes .now) (a .members .now) (new b) (a .j) (a .m) (a .out-nodes .now) (a .out-members .now) (b .pre .1 .1) (omega (arith, few p, b .pre .0 .2)) (b .pre .0 .1)
-          (p .put .result) _ (size p) (p .put .ensures .1 ∙ same-set p) (q .put2 .ensures) (lent-back (a .m) (a .out-members .now) _),
+          (p .put .result) _ (size p) (front-set _ _ _ (p .put .result) (p .put .ensures .0) (p .put .ensures .1) ∙ same-set p) (q .put2 .ensures) (lent-back (a .m) (a .out-members .now) _),
       few p,
     )
 

@@ -1,5 +1,6 @@
 use Rattle.jointnodes.proofs.Nodes.{node-put, set-put}
 use Rattle.jointnodes.specs.Kept.{setAt}
+use Rattle.tidy.proofs.Fronts.{front-set}
 use Rattle.tidied.proofs.Sets.{tidy-length}
 use Rattle.tidied.specs.Tidied.{newNumber, tidySet}
 use Rattle.stab.specs.Node.{nodeAt}
@@ -103,7 +104,7 @@ returns c =
       record {
         counted = ap (λ (k : ℕ). a .n + k) (size p);
         row = λ h. node-put (a .out-nodes .now) _ (new b) (nodeAt (a .nodes .now) (a .j)) (a .d) (a .j) (a .n) (p .put .result) _ (w .put2 .ensures) (omega (arith, b .pre .0 .0, b .pre .0 .2)) (size p);
-        set = λ h. set-put (a .out-members .now) _ (list p) _ (a .n) (p .put .result) (y .copy .ensures) (p .put .ensures .1 ∙ same-set p) (size p) (omega (arith, h, b .pre .0 .3));
+        set = λ h. set-put (a .out-members .now) _ (list p) _ (a .n) (p .put .result) (y .copy .ensures) (front-set _ _ _ (p .put .result) (p .put .ensures .0) (p .put .ensures .1) ∙ same-set p) (size p) (omega (arith, h, b .pre .0 .3));
       },
       omega (arith, small p),
     )

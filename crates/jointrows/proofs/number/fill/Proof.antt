@@ -1,5 +1,5 @@
-use Rattle.jointrows.proofs.Numbers.{filled-more, gives-small}
-use Rattle.jointrows.specs.Kept.{placed, Gives}
+use Rattle.jointrows.proofs.Numbers.{numbered-by, filled-more, gives-small}
+use Rattle.jointrows.specs.Kept.{placed}
 use Rattle.tidied.specs.Tidied.{newNumber}
 use lib.ListN.{length, getD, length-set}
 use mathlib.Core.Path.{_≡_, refl, _∙_, ap}
@@ -65,8 +65,9 @@ returns c =
     let l = c .before .loop in
     let b = c .before .before .before .before in
     let a = b .args in
-    let g : Gives (l .numbers) (λ r. newNumber (a .s) (a .new .now) (placed (a .t) (a .base) (a .after) r)) = λ r h. l .inv .2 r (omega (arith, c .loop-test .left, l .inv .0)) in
-    (g, gives-small (l .numbers) (a .t) (a .base) (a .after) (a .s) (a .new .now) (l .inv .1 ∙ b .pre .2) (b .pre .0) (b .pre .1) (b .pre .3) g)
+    let f : ℕ → ℕ = λ r. newNumber (a .s) (a .new .now) (placed (a .t) (a .base) (a .after) r) in
+    let g : (r : ℕ) → r < 1024 → getD (l .numbers) r 0 ≡ f r = λ r h. l .inv .2 r (omega (arith, c .loop-test .left, l .inv .0)) in
+    (numbered-by (l .numbers) f 1024 (l .inv .1 ∙ b .pre .2) g, gives-small (l .numbers) (a .t) (a .base) (a .after) (a .s) (a .new .now) (l .inv .1 ∙ b .pre .2) (b .pre .0) (b .pre .1) (b .pre .3) g)
 
 pub fill-spec : {M : Type 1} → statement M
 fill-spec =

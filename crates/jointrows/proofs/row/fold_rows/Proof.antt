@@ -1,14 +1,18 @@
-use Rattle.jointrows.proofs.Rows.{two-blocks, rowAt-front, folding-same, few-stay, held-stay, front-padded}
+use Rattle.jointrows.proofs.Rows.{two-blocks, rowAt-front, few-stay, held-stay, front-padded}
 use Rattle.jointrows.specs.Kept.{bothProofs}
+use Rattle.tidied.proofs.Foldings.{folding-agrees}
 use Rattle.tidied.specs.Tidied.{newNumber, Folding, folding}
+use Rattle.signed.proofs.Tables.{cleared-padded}
+use Rattle.stab.proofs.Bools.{if-true, if-false}
 use Rattle.stab.specs.Text.{padded}
 use lib.Seq.{length-take-le}
 use lib.ListN.{length, replicate}
 use lib.IntN.{ℤ, pos}
-use mathlib.Core.List.{List}
+use mathlib.Core.List.{List, []}
 use mathlib.Core.Path.{_≡_, refl, sym, _∙_, ap}
 use Prim.Native.Nat.{ℕ, _+_, _*_, _≤_}
 use native.Mathlib.Omega.{arith}
+use borrow.Author.Tests.{le-leb, lt-leb}
 use borrow.Author.Needs.{needs}
 use Rattle.jointrows.proofs.row.fold_rows.Statement.{statement}
 use Rattle.jointrows.proofs.row.fold_rows.Tie as tie
@@ -37,7 +41,7 @@ same c =
     let q = c .before .before .before .before .before in
     let p = q .before .before .before in
     let a = start c .args in
-    folding-same (a .schema .now) (a .schema .now) (a .s) (λ r l. refl) (proof c) (both (start c)) (a .first-rows + a .second-rows)
+    folding-agrees (a .schema .now) (a .schema .now) (a .s) (λ r l. refl) (proof c) (both (start c)) (a .first-rows + a .second-rows)
     (rowAt-front (proof c) (both (start c)) (a .first-rows + a .second-rows)
     (two-blocks (replicate 8192 (pos 0)) (p .put-rows .last .1 .1 .1 .0) (proof c) _ _ (a .first-rows) (a .second-rows) (p .put-rows .ensures) (q .put-rows2 .ensures)))
 
@@ -107,6 +111,9 @@ copy-requires c κs =
 clear-requires : tie.Need-clear-requires
 clear-requires c κs = search needs
 
+clear-requires-2 : tie.Need-clear-requires-2
+clear-requires-2 c κs = search needs
+
 same-length : tie.Need-same-length
 same-length c = search needs
 
@@ -117,14 +124,16 @@ returns : tie.Need-returns
 returns c =
     let k = c .before in
     let y = k .before .before .before in
-    let f = y .before .before .before .before .before .before .before in
+    let i = y .before .before .before in
+    let f = i .before .before .before .before in
     let b = start f in
+    let fits = i .if1 .taken in
     let e = same f in (
       f .fold .ensures .0 ∙ ap (λ (F : Folding). F .count) e,
       (
-        λ h.
-            front-padded (stay f) (b .args .out .now) _ _ _ (4 * f .fold .result) 8192 (f .fold .ensures .1 .0 ∙ ap (λ (F : Folding). padded (pos 0) 8192 (F .table)) e)
-            (ap (λ (F : Folding). length (F .table)) (sym e) ∙ table-length f) (omega (arith, h, b .pre .0 .3)) (y .copy .ensures) (k .clear .ensures),
+        front-padded (stay f) (b .args .out .now) _ _ _ (4 * f .fold .result) 8192 (f .fold .ensures .1 .0 ∙ ap (λ (F : Folding). padded (pos 0) 8192 (F .table)) e)
+            (ap (λ (F : Folding). length (F .table)) (sym e) ∙ table-length f) (omega (arith, fits, b .pre .0 .3)) (y .copy .ensures) (k .clear .ensures)
+            ∙ ap (padded (pos 0) (length (b .args .out .now))) (sym (if-true _ _ [] (le-leb _ 1024 fits))),
         (f .fold .ensures .1 .1 .0 ∙ ap (λ (F : Folding). padded 0 (length (b .args .numbers .now)) (F .numbers)) e, f .fold .ensures .1 .1 .1),
       ),
     )
@@ -132,14 +141,21 @@ returns c =
 same-length-3 : tie.Need-same-length-3
 same-length-3 c = search needs
 
+same-length-4 : tie.Need-same-length-4
+same-length-4 c = search needs
+
 returns-2 : tie.Need-returns-2
 returns-2 c =
-    let f = c .before .before .before .before in
+    let k = c .before in
+    let i = k .before .before in
+    let f = i .before .before .before .before in
     let b = start f in
     let e = same f in (
       f .fold .ensures .0 ∙ ap (λ (F : Folding). F .count) e,
       (
-        λ h. absurd (omega (arith, h, c .if1 .left)),
+        k .clear2 .ensures
+            ∙ cleared-padded (b .args .out .now) 0 (length (b .args .out .now)) (omega arith) refl
+            ∙ ap (padded (pos 0) (length (b .args .out .now))) (sym (if-false _ _ [] (lt-leb _ 1024 (i .if1 .left)))),
         (f .fold .ensures .1 .1 .0 ∙ ap (λ (F : Folding). padded 0 (length (b .args .numbers .now)) (F .numbers)) e, f .fold .ensures .1 .1 .1),
       ),
     )
@@ -162,8 +178,10 @@ fold-rows-spec =
     slice-aggregate-copy
     copy-requires
     clear-requires
+    clear-requires-2
     same-length
     same-length-2
     returns
     same-length-3
+    same-length-4
     returns-2)
