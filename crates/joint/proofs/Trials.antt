@@ -1,5 +1,5 @@
--- The definitions of No. 11 computed on two small records, worked out by hand: each schema is false, refuted by rule 5; the second has one
--- more proof row and a link whose target moves.
+-- The definitions of No. 11 computed on two small records, worked out by hand. The first's one node closes by rule 5. The second has a row
+-- and a node more, a link whose target moves; it is no closed tableau, and need not be one where only rows and nodes are moved.
 use Prim.Native.Nat.{ℕ, _+_, _-_}
 use mathlib.Core.Path.{_≡_, refl}
 use mathlib.Core.List.{List, [], _∷_, _++_}
@@ -14,7 +14,7 @@ use Rattle.joint.specs.Joint.{schemaCount, orRow, ofFirst, ofSecond, mov
 none : ℤ
 none = negsuc 0
 
--- row 0 is false; row 1, a proof row, points to it
+-- row 0, the root, is false; row 1, a proof row, is the and of row 0 with itself
 first-record : Tableau
 unfolding none
 first-record = record {
@@ -30,7 +30,8 @@ first-record = record {
   memberCount = 1;
 }
 
--- rows 0 and 1 and their or are the schema; its root is row 1. Node 1 links back to node 0 by 1.
+-- row 0 is false; row 1, the root, is the or of row 0 with itself; row 2, a proof row, is the and of rows 1 and 0. Node 1 links back to
+-- node 0 by 1.
 second-record : Tableau
 unfolding none
 second-record = record {
@@ -58,7 +59,7 @@ the-proof : jointProof first-record second-record ≡ pos 4 ∷ pos 0 ∷ pos 0 
 unfolding first-record second-record none jointProof movedRows columns renumbered renumberedAs through ofFirst ofSecond schemaCount rowAt kindOf if_then_else_ eqZ nat
 the-proof = refl
 
--- rule 1 on the or, the first's node, then the second's, whose link goes to node 2
+-- rule 1 on the or, the first's node, then the second's two, whose link goes to node 2; the or's row alone, then the sets as they were
 the-nodes : (jointNodes first-record second-record ≡ none ∷ pos 1 ∷ pos 3 ∷ none ∷ none ∷ none ∷ pos 0 ∷ pos 0 ∷ pos 1 ∷ pos 0 ∷ pos 5 ∷ pos 0 ∷ none ∷ none ∷ none ∷ pos 0 ∷ pos 1 ∷ pos 1 ∷ pos 0 ∷ pos 2 ∷ none ∷ none ∷ none ∷ none ∷ pos 0 ∷ pos 2 ∷ pos 1 ∷ pos 2 ∷ pos 8 ∷ none ∷ none ∷ none ∷ pos 2 ∷ pos 1 ∷ pos 3 ∷ pos 2 ∷ []) × (jointMembers first-record second-record ≡ pos 3 ∷ pos 0 ∷ pos 2 ∷ pos 2 ∷ pos 5 ∷ [])
 unfolding first-record second-record none jointNodes jointMembers firstNode movedNodes movedNode movedMembers parentOf further through ofFirst ofSecond orRow schemaCount nodeAt node if_then_else_ nat
 the-nodes = (refl, refl)

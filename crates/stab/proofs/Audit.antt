@@ -16,11 +16,11 @@ use Rattle.stab.proofs.Meanings.{lower-value, instance-value}
 use Rattle.stab.proofs.Alikes.{alike-tests, alike-value}
 use Rattle.stab.proofs.Decoded as D
 
--- "lowering by k has at n the value that the formula has at n - k", for the formula of any row whose table is well formed up to it
+-- the formula of a row lowered by k has at n the value that the row has at n - k, if the table is well formed up to that row
 pub lowered-means : (rows : ℕ → Row) (r : ℕ) → ((a : ℕ) → a < suc r → wellFormed rows a ≡ true) → (σ : Assignment) (n m : ℕ) (k i : ℤ) → pos m ≡ (pos n -ℤ k) → value σ n (lower k (tree rows r)) i ≡ value σ m (tree rows r) i
 lowered-means rows r h σ n m k i e = lower-value σ n m k (tree rows r) i e (D.proper rows (suc r) h r (omega arith))
 
--- "an instance at n - c has the body's value there"
+-- a body's instance at n - c has the value that the body has at i = n - c
 pub instance-means : (σ : Assignment) (n : ℕ) (c i : ℤ) (f : Formula) → isBody f ≡ true → value σ n (instance c f) i ≡ value σ n f (pos n -ℤ c)
 instance-means σ n c i f h = instance-value σ n c f i h
 
@@ -81,7 +81,7 @@ of-range b e m l =
     let r = of-le (num (suc m)) ((atom e ⊖ atom b) ⊕ num 1) (nat-le ((e -ℤ b) +ℤ pos 1) (suc m) l (omega arith)) in
     (of-leZ (le-of (atom b) (atom b ⊕ num m) (omega arith)), of-leZ (le-of (atom b ⊕ num m) (atom e) (omega arith)))
 
--- "the value of a big and is true exactly when the body is true at every i with b ≤ i ≤ n - c"
+-- a big and is true exactly when its body is true at every i with b ≤ i ≤ n - c
 pub big-and-means : (σ : Assignment) (n : ℕ) (f : Formula) (b c x : ℤ) → (value σ n (iter conj f b c) x ≡ true) ↔ ((i : ℤ) → b ≤ℤ i → i ≤ℤ (pos n -ℤ c) → value σ n f i ≡ true)
 unfolding value
 big-and-means σ n f b c x = (
@@ -91,7 +91,7 @@ big-and-means σ n f b c x = (
   λ h. every-of (value σ n f) b (rangeSize b (pos n -ℤ c)) (λ i l. let w = of-range b (pos n -ℤ c) i l in h (b +ℤ pos i) (w .0) (w .1)),
 )
 
--- "(big or) .. (some)"
+-- a big or is true exactly when its body is true at some i with b ≤ i ≤ n - c
 pub big-or-means : (σ : Assignment) (n : ℕ) (f : Formula) (b c x : ℤ) → (value σ n (iter disj f b c) x ≡ true) ↔ ((i : ℤ) × (b ≤ℤ i) × (i ≤ℤ (pos n -ℤ c)) × (value σ n f i ≡ true))
 unfolding value
 big-or-means σ n f b c x = (

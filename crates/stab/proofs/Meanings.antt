@@ -79,7 +79,7 @@ body-value σ n m (join o f g) i h =
     (body-value σ n m g i (ap not (or-false-right (fixed f) (fixed g) e)))
 body-value σ n m (iter o f b c) i h = absurd (false≢true h)
 
--- "an instance at n - c has the body's value there"
+-- a body's instance at n - c has the value that the body has at i = n - c
 pub instance-value : (σ : Assignment) (n : ℕ) (c : ℤ) (f : Formula) (i : ℤ) → isBody f ≡ true → value σ n (instance c f) i ≡ value σ n f (pos n -ℤ c)
 unfolding value instance instanceLit isBody fixed base onIndex
 instance-value σ n c (const v) i h = refl
@@ -110,7 +110,7 @@ unfolding over
 over-same o p q b zero h = refl
 over-same o p q b (suc k) h = ap₂ (op o) (over-same o p q b k h) (h (b +ℤ pos k))
 
--- "lowering by k has at n the value that the formula has at n - k"
+-- a formula lowered by k has at n the value that it has at n - k
 pub lower-value : (σ : Assignment) (n m : ℕ) (k : ℤ) (f : Formula) (i : ℤ) → pos m ≡ (pos n -ℤ k) → Proper f → value σ n (lower k f) i ≡ value σ m f i
 unfolding value lower lowerBase base
 lower-value σ n m k (const v) i e p = refl

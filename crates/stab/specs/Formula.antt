@@ -148,7 +148,7 @@ offset z = within (negℤ (pos 9999)) (pos 9999) z
 unfoldable pub wellFormedAs : (ℕ → Row) → ℕ → Row → Kind → Bool
 -- "a, b, c are 0"
 wellFormedAs rows r w (constant v) = eqZ (w .a) (pos 0) and eqZ (w .b) (pos 0) and eqZ (w .c) (pos 0)
--- "a is the symbol 0..255; b says what c is added to: 0 .. 1 .. 2; c is -9999..9999"
+-- "a is the symbol 0..255; b says what c is added to: 0 .. 1 .. 2 ..; c is -9999..9999"
 wellFormedAs rows r w (literal v) = within (pos 0) (pos 255) (w .a) and within (pos 0) (pos 2) (w .b) and offset (w .c)
 -- "parts a and b; c is 0"
 wellFormedAs rows r w (junction o) = below r (w .a) and below r (w .b) and eqZ (w .c) (pos 0) and not (mixes (tree rows r))

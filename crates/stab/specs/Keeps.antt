@@ -216,7 +216,7 @@ pub record KeepsPair (t : List ℤ) (k : ℕ) : Type 0 where
   pub index : Within (negℤ (pos 29997)) (pos 29997) (pairIndex t k)
   pub follows : (i : ℕ) → k ≡ suc i → PairBefore (pairSymbol t i) (pairIndex t i) (pairSymbol t k) (pairIndex t k)
 
--- demand 2: a model is accepted exactly when "it and its schema are well formed, n is in range and the schema is true there"
+-- "A model is accepted exactly when it and its schema are well formed, n is in document 01's range and the schema is true there."
 pub record KeepsModel (M : Model) : Type 0 where
   pub schemaHeld : 4 * M .schemaRows ≤ length (M .schema)
   pub pairsHeld : 2 * M .pairRows ≤ length (M .pairs)

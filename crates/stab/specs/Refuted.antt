@@ -12,7 +12,8 @@ use Rattle.stab.specs.Node.{Tableau}
 use Rattle.stab.specs.Check.{check, checkOlder}
 use Rattle.stab.specs.declared.Verdict.the-variants.{Accepted}
 
--- demand 3: "the schema is false at EVERY natural n from its least value up, under every assignment to every symbol at every whole-number index"
+-- "the schema is false at every natural number n from its least value upward, however large, whichever of true and false is chosen for
+-- each symbol at each whole-number index"
 abbrev pub Refuted : List ℤ → ℤ → ℤ → Type 0
 Refuted schema root least = (n : ℕ) (σ : Assignment) → least ≤ℤ pos n → truth σ n (tree (rowAt schema) (nat root)) ≡ false
 
