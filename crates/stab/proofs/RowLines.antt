@@ -205,7 +205,7 @@ schema-row-line m text s h r l =
     subst (λ (x : List ℕ). LineIs x (4 + r) (rowLine (take 4 (drop (4 * r) (s .table))))) same
     (headed-row schemaHeading rowHeading (s .root ∷ s .least ∷ []) schema-heading-lacks row-heading-lacks 4 (i .rows) r (s .table) (omega (arith, i .count)))
 
--- "pairs start on the fourth line of a model text"
+-- pairs start on the fourth line of a model text
 pub pair-line : (m : ℕ) (text : List ℕ) (s : ModelText) → readModel m text ≡ read s → (r : ℕ) → r < length (s .table) / 2
     → LineIs text (pairLine r) (rowLine (take 2 (drop (2 * r) (s .table))))
 unfolding readModel modelText pairLine
