@@ -15,22 +15,21 @@ ROOT = Path(__file__).resolve().parent.parent
 # Functions that fall short, by name and parameter, each with a reason. A reason that is no longer needed fails too.
 # Those of a module without `pub` cannot be called from another crate: PRIVATE. That this is so is looked up.
 PRIVATE = {
-    "folds::links::schema_rows next": "links between rows: which of several equal ones leads to which does not matter",
+    "folds::links::schema_rows next": "an array of `fold`'s own; `Linked` says what is found by it",
     "folds::links::schema_rows heads": "as next",
-    "grow::row::lay saved_node": "of the saved node the nine numbers are read, which the clause gives",
-    "grow::row::lay saved_set": "of the saved set as many numbers are read as were saved, which the clause gives",
-    "jointnodes::node::each_node out_nodes": "past the nodes, and once members are too many, the caller puts zeros",
+    "grow::row::lay saved_node": "an array of `try_row`'s own: the nine numbers that are read are given",
+    "grow::row::lay saved_set": "an array of `try_row`'s own: as many numbers as are read are given",
+    "jointnodes::node::each_node out_nodes": "`fill_nodes` puts zeros past the nodes, or everywhere",
     "jointnodes::node::each_node out_members": "as out_nodes",
-    "jointnodes::node::put_first out_nodes": "past the first node the caller puts the others, and zeros",
+    "jointnodes::node::put_first out_nodes": "`fill_nodes` puts the other nodes after the first, and zeros",
     "jointnodes::node::put_first out_members": "as out_nodes",
-    "nextsmall::list::first table": "where there is no first table the caller puts zeros",
-    "text::reader::next_line self": "its two fields, the text and the place in it, are in two clauses",
-    "text::reader::read_lines table": "after a refusal the caller puts zeros",
+    "nextsmall::list::first table": "`next_small` puts zeros past the table that is found, or everywhere",
+    "text::reader::next_line self": "said of its two fields: the text, and the place, by `Stepped`",
+    "text::reader::read_lines table": "the readers put zeros past what is read, or everywhere",
     "text::reader::read_lines nodes": "as table",
     "text::reader::read_lines members": "as table",
 }
 OTHERS = {
-    "bounds::work_out work": "place by place: the first 4 k numbers (AllWorked), and the others as they were (Stays)",
     "files::load buf": "the bytes of a file; past those counted there are zeros",
 }
 

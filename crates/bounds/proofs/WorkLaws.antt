@@ -1,13 +1,13 @@
 -- The table of what is worked out for each node, one node more at a time.
-use Prim.Native.Nat.{ℕ, _+_, _*_, _<_, _≤_, _^_}
+use Prim.Native.Nat.{ℕ, zero, suc, _+_, _*_, _<_, _≤_, _^_}
 use native.Mathlib.Omega.{arith}
-use mathlib.Core.Path.{_≡_, refl, sym, _∙_, ap, subst}
+use mathlib.Core.Path.{_≡_, refl, sym, _∙_, ap, ap₂, subst}
 use mathlib.Core.Logic.{⊎-elim}
-use mathlib.Core.List.{List}
+use mathlib.Core.List.{List, [], _∷_, _++_, append-assoc}
 use lib.Dec.{eqb}
 use lib.IntN.{ℤ, pos}
-use lib.ListN.{getD, length, set}
-use lib.Seq.{getD-set-same, getD-set-other}
+use lib.ListN.{getD, length, set, take, drop, length-drop, take-append-drop}
+use lib.Seq.{getD-set-same, getD-set-other, take-suc, getD-drop, ext-getD}
 use borrow.Author.Tests.{eqb-true, eqb-false}
 use Rattle.stab.specs.Basic.{nat}
 use Rattle.stab.specs.Node.{Bound, nodeAt, childCountOf, rank, childBound, firstBound, boundOf}
@@ -15,7 +15,7 @@ use Rattle.stab.proofs.Bools.{decide}
 use Rattle.stab.proofs.Scans.{below-suc}
 use Rattle.formula.specs.Kept.{kept}
 use Rattle.formula.proofs.KeptLaws.{kept-other, kept-length, kept-first, kept-second, kept-third, kept-fourth}
-use Rattle.bounds.specs.Bounds.{Next, Stays}
+use Rattle.bounds.specs.Bounds.{Next, workTable, Stays}
 use Rattle.branch.specs.Parents.{AllUpFit}
 use Rattle.branch.specs.Work.{topOf, Worked, AllWorked}
 use Rattle.branch.proofs.ParentLaws.{later-up, parent-less, parent-pos}
@@ -120,3 +120,33 @@ module _ {nodes : List ℤ} {least : ℤ} {work : List ℕ} {j u : ℕ} (next : 
         (λ q. earlier i q)
         (λ q. subst (Worked nodes least (j + 1) (set (kept work j r l e 0) (4 * u + 3) (r + 1))) (sym q) last)
         (below-suc i j (omega arith))
+
+-- ---- the whole table
+
+take-one : (t : List ℕ) (m n : ℕ) → n ≡ suc m → m < length t → take n t ≡ take m t ++ getD t m 0 ∷ []
+take-one t m n e h = rw e (take-suc t m 0 h)
+
+take-four : (t : List ℕ) (n : ℕ) → 4 * suc n ≤ length t → take (4 * suc n) t ≡ take (4 * n) t ++ getD t (4 * n) 0 ∷ getD t (4 * n + 1) 0 ∷ getD t (4 * n + 2) 0 ∷ getD t (4 * n + 3) 0 ∷ []
+take-four t n h =
+    take-one t (4 * n + 3) (4 * suc n) (omega arith) (omega arith)
+    ∙ ap (λ (u : List ℕ). u ++ getD t (4 * n + 3) 0 ∷ []) (take-one t (4 * n + 2) (4 * n + 3) (omega arith) (omega arith))
+    ∙ ap (λ (u : List ℕ). u ++ getD t (4 * n + 2) 0 ∷ [] ++ getD t (4 * n + 3) 0 ∷ []) (take-one t (4 * n + 1) (4 * n + 2) (omega arith) (omega arith))
+    ∙ ap (λ (u : List ℕ). u ++ getD t (4 * n + 1) 0 ∷ [] ++ getD t (4 * n + 2) 0 ∷ [] ++ getD t (4 * n + 3) 0 ∷ []) (take-one t (4 * n) (4 * n + 1) (omega arith) (omega arith))
+    ∙ simp append-assoc
+
+front-worked : (nodes : List ℤ) (least : ℤ) (k : ℕ) (work : List ℕ) (n : ℕ) → 4 * n ≤ length work → ((j : ℕ) → j < n → Worked nodes least k work j) → take (4 * n) work ≡ workTable nodes least k n
+unfolding workTable
+front-worked nodes least k work zero h w = refl
+front-worked nodes least k work (suc n) h w =
+    let t = w n (omega arith) in
+    take-four work n h
+    ∙ (λ i. front-worked nodes least k work n (omega arith) (λ j l. w j (omega arith)) i ++ t .rank i ∷ t .L i ∷ t .H i ∷ t .children i ∷ [])
+
+pub table-worked : (nodes : List ℤ) (least : ℤ) (k : ℕ) (work₀ work : List ℕ) → length work ≡ length work₀ → 4 * k ≤ length work → AllWorked nodes least k work k → Stays (4 * k) work₀ work → work ≡ workTable nodes least k k ++ drop (4 * k) work₀
+table-worked nodes least k work₀ work e h w stays =
+    sym (take-append-drop (4 * k) work) ∙ ap₂ _++_ (front-worked nodes least k work k h w) rest
+  where
+    rest : drop (4 * k) work ≡ drop (4 * k) work₀
+    rest =
+        ext-getD 0 (drop (4 * k) work) (drop (4 * k) work₀) (omega (arith, length-drop (4 * k) work, length-drop (4 * k) work₀, e))
+        (λ i l. getD-drop (4 * k) work i 0 ∙ stays (4 * k + i) (omega arith) ∙ sym (getD-drop (4 * k) work₀ i 0))

@@ -5,12 +5,13 @@ use branch::worked;
 use formula::kept;
 ghost use mathlib.Core.Path.{_≡_};
 ghost use mathlib.Core.Bool.{true};
+ghost use mathlib.Core.List.{_++_};
 ghost use Prim.Native.Nat.{_+_, _*_, _<_, _≤_, _^_};
 ghost use lib.IntN.{pos};
-ghost use lib.ListN.{getD, length};
+ghost use lib.ListN.{getD, length, drop};
 ghost use Rattle.stab.specs.Basic.{within};
 ghost use Rattle.stab.specs.Node.{Bound, nodeAt, childBound};
-ghost use Rattle.bounds.specs.Bounds.{Next, Stays};
+ghost use Rattle.bounds.specs.Bounds.{Next, workTable, Stays};
 ghost use Rattle.branch.specs.Parents.{AllUpFit};
 ghost use Rattle.branch.specs.Work.{topOf, AllWorked};
 
@@ -77,11 +78,11 @@ fn work_node(nodes: &[i32], least: usize, work: &mut [u32], j: usize)
     }
 }
 
-// Fills the front of the table `work` with the four numbers of each of k nodes.
+// Fills the front of the table `work` with the four numbers of each of k nodes; what stands after them stays.
 pub fn work_out(nodes: &[i32], k: usize, least: i32, work: &mut [u32])
     requires { ⌜ (k ≤ 1024) × (4 * k ≤ length (now work)) × (within (pos 0) (pos 9999) least ≡ true) × AllUpFit (now nodes) k ⌝ }
     ensures { λ _. ⌜ AllWorked (now (nodes .entry)) least k (now (work .exit)) k ⌝ }
-    ensures { λ _. ⌜ Stays (4 * k) (now (work .entry)) (now (work .exit)) ⌝ }
+    ensures { λ _. ⌜ now (work .exit) ≡ workTable (now (nodes .entry)) least k k ++ drop (4 * k) (now (work .entry)) ⌝ }
 {
     let l = signed::natural(least);
     let mut j: usize = 0;

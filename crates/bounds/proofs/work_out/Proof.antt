@@ -8,6 +8,7 @@ use mir.Facts.{toZ-ofZ}
 use Rattle.branch.specs.Work.{AllWorked}
 use Rattle.bounds.specs.Bounds.{Stays}
 use Rattle.branch.proofs.Parts.{within-natural, within-most}
+use Rattle.bounds.proofs.WorkLaws.{table-worked}
 use Rattle.bounds.proofs.work_out.Statement.{statement}
 use Rattle.bounds.proofs.work_out.Tie as tie
 
@@ -64,11 +65,12 @@ returns c =
     let b = c .before .before .before .before in
     let l = c .before .loop in
     let e : l .j ≡ b .args .k = omega (arith, l .inv .0) in
-    let z = ap pos (natural (c .before .before)) ∙ within-natural 9999 (b .args .least) (b .pre .2) in (
-      subst (λ (n : ℕ). AllWorked (b .args .nodes .now) (b .args .least) n (l .work) n) e
-          (subst (λ (x : ℤ). AllWorked (b .args .nodes .now) x (l .j) (l .work) (l .j)) z (l .inv .2)),
-      λ x p. l .inv .3 x (omega (arith, e)),
-    )
+    let z = ap pos (natural (c .before .before)) ∙ within-natural 9999 (b .args .least) (b .pre .2) in
+    let w : AllWorked (b .args .nodes .now) (b .args .least) (b .args .k) (l .work) (b .args .k) =
+    subst (λ (n : ℕ). AllWorked (b .args .nodes .now) (b .args .least) n (l .work) n) e
+    (subst (λ (x : ℤ). AllWorked (b .args .nodes .now) x (l .j) (l .work) (l .j)) z (l .inv .2))
+    in
+    (w, table-worked (b .args .nodes .now) (b .args .least) (b .args .k) (b .args .work .now) (l .work) (l .inv .1) (omega (arith, l .inv .1, b .pre .1)) w (λ x p. l .inv .3 x (omega (arith, e))))
 
 pub work-out-spec : {M : Type 1} → statement M
 work-out-spec =
