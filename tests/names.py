@@ -7,7 +7,8 @@ a theorem, a function or an edit has to exist in the tree:
 - `name/NAME` in WRONG_ANSWERS.md is an edit, crates/name/must-fail/NAME.edit;
 - a path, or a file's name, is a file or folder: from the top, below crates/, or below the folder that the page says it speaks of;
 - `crate::module::name`, `module::name` and `name_*` are functions, types or modules of the code, there and not elsewhere;
-- `NAME` (`FILE`) is defined in that file; a theorem of THEOREMS.md in one of the files of its row;
+- `NAME` (`FILE`) is defined in that file; a theorem of THEOREMS.md in one of the files of its row; a function that DECISIONS.md
+  lists after another's path in its crate;
 - any other name is a definition, a theorem, a function, a type, one of its cases or fields, a crate or a record.
 
 What is left out: what has a space in it (commands, lines of text), numbers, and the words of WORDS, which name nothing of the tree.
@@ -160,6 +161,14 @@ def main():
                 if path and (path.suffix in (".rt", ".antt") or file == "./zorambi"):
                     tell(page, line, name, None if defined_in(path, name) else f"not defined in {file}")
             cells = [cell.strip() for cell in block.strip("|").split("|")] if block.startswith("|") else []
+            if page == "DECISIONS" and len(cells) == 2:
+                last = None
+                for word in re.findall(r"`([^`]+)`", cells[0]):
+                    if "::" in word:
+                        last = word.split("::")[0]
+                    elif last in tree.crates and NAME.match(word):
+                        files = (CRATES / last / "src").rglob("*.rt")
+                        tell(page, line, word, None if any(defined_in(file, word) for file in files) else f"not in crate {last}")
             if page == "THEOREMS" and len(cells) == 4 and "antt" in cells[2]:
                 files = [FOLDERS[page] / file for file in re.findall(r"`([^`]+)`", cells[2])]
                 files = [file for file in files if file.is_file()]
