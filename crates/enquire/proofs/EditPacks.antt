@@ -3,16 +3,16 @@ use mathlib.Core.Path.{_≡_, sym, _∙_, subst}
 use mathlib.Core.Option.{none}
 use Rattle.stab.specs.Basic.{_otherwise_}
 use Rattle.stab.specs.Check.{wholeUnless}
-use Rattle.stab.specs.Answer.{Packs}
+use Rattle.stab.specs.Answer.{numbersIn, Packs}
 use Rattle.stab.specs.declared.Refusal.the-variants.{Waiting}
 use Rattle.stab.proofs.Bools.{otherwise-none, otherwise-first, otherwise-second}
 use Rattle.stab.proofs.Exactness.Refusals.{FindsRefusals, of-whole, _or-else_}
-use Rattle.growing.specs.Growing.{heldRefusal, NodeRow, added, newRefusal, addRefusal, add, growthBy}
+use Rattle.growing.specs.Growing.{heldRefusal, NodeRow, added, newRefusal, addRefusal, add, growthNumbers, growthPacked}
 use Rattle.growing.specs.Enquiry.{waits, waitingRow, Editor, enquire, commit, commitRefusal, editorRefusal, spokenOf, editorAnswer}
 use Rattle.growing.specs.declared.Growth.{Growth}
 use Rattle.growing.proofs.Grown.{add-holds}
 use Rattle.grow.specs.Packed.{asVerdict}
-use Rattle.grow.proofs.Packs.{of-held, of-new, growth-packs, call-packs}
+use Rattle.grow.proofs.Packs.{of-held, of-new, growth-packs, call-packs, growth-read-back}
 use Rattle.enquire.proofs.Edits.{enquiry-answer}
 
 pub enquiry-packs : (E : Editor) (w : NodeRow) → Packs (asVerdict (editorAnswer E (enquire w)))
@@ -32,5 +32,13 @@ module _ (E : Editor) where
   pub commit-packs : Packs (asVerdict (editorAnswer E commit))
   unfolding editorAnswer editorRefusal spokenOf
   commit-packs =
-      growth-packs (commitRefusal E) (added (E .held) (waitingRow (E .waiting))) of-commit
+      growth-packs (commitRefusal E) (E .held) (added (E .held) (waitingRow (E .waiting))) of-commit
       (λ e. add-holds (E .held) (waitingRow (E .waiting)) (added-too e) .tables .nodeLimit)
+
+-- ---- reading the one number back gives the answer's numbers
+
+pub enquiry-read-back : (E : Editor) (w : NodeRow) → numbersIn (growthPacked (editorAnswer E (enquire w))) ≡ growthNumbers (editorAnswer E (enquire w))
+enquiry-read-back E w = growth-read-back (editorAnswer E (enquire w)) (enquiry-packs E w)
+
+pub commit-read-back : (E : Editor) → numbersIn (growthPacked (editorAnswer E commit)) ≡ growthNumbers (editorAnswer E commit)
+commit-read-back E = growth-read-back (editorAnswer E commit) (commit-packs E)

@@ -33,24 +33,24 @@ use Rattle.grow.proofs.Calls.{accepted-left}
 
 -- ---- what an answer says
 
-held-means : (x : Option Verdict) (T : Tableau) (n l : ℕ) (shown : Bool) → growthBy x T ≡ Held n l shown → x ≡ none
+held-means : (x : Option Verdict) (S T : Tableau) (n l : ℕ) (shown : Bool) → growthBy x S T ≡ Held n l shown → x ≡ none
 unfolding growthBy
-held-means none T n l shown e = refl
-held-means (some (Refused why p)) T n l shown e = let z : _≡_ {A = ℕ} 0 1 = cc in absurd (omega arith)
-held-means (some (Accepted a b)) T n l shown e = let z : _≡_ {A = ℕ} 0 1 = cc in absurd (omega arith)
+held-means none S T n l shown e = refl
+held-means (some (Refused why p)) S T n l shown e = let z : _≡_ {A = ℕ} 0 1 = cc in absurd (omega arith)
+held-means (some (Accepted a b)) S T n l shown e = let z : _≡_ {A = ℕ} 0 1 = cc in absurd (omega arith)
 
-refused-means : (x : Option Verdict) (T : Tableau) (why : Refusal) (p : Place) → growthBy x T ≡ GrowthRefused why p → (v : Verdict) × (x ≡ some v)
+refused-means : (x : Option Verdict) (S T : Tableau) (why : Refusal) (p : Place) (shown : Bool) → growthBy x S T ≡ GrowthRefused why p shown → (v : Verdict) × (x ≡ some v)
 unfolding growthBy
-refused-means none T why p e = let z : _≡_ {A = ℕ} 0 1 = cc in absurd (omega arith)
-refused-means (some v) T why p e = (v, refl)
+refused-means none S T why p shown e = let z : _≡_ {A = ℕ} 0 1 = cc in absurd (omega arith)
+refused-means (some v) S T why p shown e = (v, refl)
 
 pub call-held : (T : Tableau) (call : Call) (n l : ℕ) (shown : Bool) → answered T call ≡ Held n l shown → callRefusal T call ≡ none
 unfolding answered
-call-held T call n l shown e = held-means (callRefusal T call) (changed T call) n l shown e
+call-held T call n l shown e = held-means (callRefusal T call) T (changed T call) n l shown e
 
-pub call-refused : (T : Tableau) (call : Call) (why : Refusal) (p : Place) → answered T call ≡ GrowthRefused why p → (v : Verdict) × (callRefusal T call ≡ some v)
+pub call-refused : (T : Tableau) (call : Call) (why : Refusal) (p : Place) (shown : Bool) → answered T call ≡ GrowthRefused why p shown → (v : Verdict) × (callRefusal T call ≡ some v)
 unfolding answered
-call-refused T call why p e = refused-means (callRefusal T call) (changed T call) why p e
+call-refused T call why p shown e = refused-means (callRefusal T call) T (changed T call) why p shown e
 
 -- ---- enquiry
 
@@ -91,7 +91,7 @@ same-spoken E takeBack = refl
 
 pub call-answer : (E : Editor) (call : Call) → answered (E .held) call ≡ editorAnswer E (grow call)
 unfolding answered editorAnswer
-call-answer E call = sym (ap₂ growthBy (same-refusal E call) (same-spoken E call))
+call-answer E call = sym (ap₂ (λ (x : Option Verdict) (U : Tableau). growthBy x (E .held) U) (same-refusal E call) (same-spoken E call))
 
 pub held-is : (E : Editor) (call : Call) → edited E (grow call) .held ≡ after (E .held) call
 unfolding edited after
@@ -123,7 +123,7 @@ module _ (E : Editor) (h : waits (E .waiting) ≡ true) where
 
   pub commit-answer : answered (E .held) (add w) ≡ editorAnswer E commit
   unfolding answered changed editorAnswer editorRefusal spokenOf
-  commit-answer = sym (ap (λ (x : Option Verdict). growthBy x (added (E .held) w)) judged)
+  commit-answer = sym (ap (λ (x : Option Verdict). growthBy x (E .held) (added (E .held) w)) judged)
 
   held-as : edited E commit .held ≡ after (E .held) (add w)
   unfolding edited after editorRefusal heldAfter changed
@@ -148,9 +148,9 @@ module _ (E : Editor) (h : waits (E .waiting) ≡ false) where
   unfolding commitRefusal wholeUnless
   nothing-waits = otherwise-same (heldRefusal (E .held)) _ _ (λ e. otherwise-some _ _ _ (some-unless (waits (E .waiting)) _ h))
 
-  pub no-commit-answer : (r : Growth) → ((U : Tableau) → r ≡ growthBy (heldRefusal (E .held) otherwise some (Refused Waiting Whole)) U) → r ≡ editorAnswer E commit
+  pub no-commit-answer : (r : Growth) → ((U : Tableau) → r ≡ growthBy (heldRefusal (E .held) otherwise some (Refused Waiting Whole)) (E .held) U) → r ≡ editorAnswer E commit
   unfolding editorAnswer editorRefusal
-  no-commit-answer r f = f (spokenOf E commit) ∙ ap (λ (x : Option Verdict). growthBy x (spokenOf E commit)) (sym nothing-waits)
+  no-commit-answer r f = f (spokenOf E commit) ∙ ap (λ (x : Option Verdict). growthBy x (E .held) (spokenOf E commit)) (sym nothing-waits)
 
   pub no-commit : edited E commit ≡ E
   unfolding edited editorRefusal leftBy waitingBy waitingRefused _otherwise_

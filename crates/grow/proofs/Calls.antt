@@ -11,7 +11,7 @@ use lib.IntN.{ℤ, pos}
 use lib.ListN.{length, take, length-append}
 use lib.Seq.{sets, length-sets}
 use borrow.Author.Tests.{le-ltb, lt-ltb}
-use Rattle.stab.specs.Basic.{if_then_else_, _and_, count, nat, _otherwise_}
+use Rattle.stab.specs.Basic.{if_then_else_, count, nat, _otherwise_}
 use Rattle.stab.specs.Node.{Tableau, nodeAt, node}
 use Rattle.stab.specs.Check.{wholeUnless, isLink, parentRefusal, linkCount}
 use Rattle.stab.specs.Text.{padded}
@@ -36,7 +36,7 @@ use Rattle.growing.specs.declared.Growth.{Growth}
 use Rattle.growing.specs.declared.Growth.the-variants.{Held, Refused as GrowthRefused}
 use Rattle.growing.proofs.States.{Holds, held-clears}
 use Rattle.growing.proofs.Held.{fits, held-step}
-use Rattle.growing.proofs.Grown.{added-holds, add-holds, passed, refused-leaves, closed-is}
+use Rattle.growing.proofs.Grown.{added-holds, add-holds, passed, refused-leaves, begun-open, closed-is, refused-open}
 use Rattle.grow.specs.State.{state, grown, nodesOnly, Countable}
 use Rattle.grow.proofs.Counted.{complete-alone, complete-same, links-same}
 use Rattle.grow.proofs.Laying.{agrees}
@@ -50,18 +50,24 @@ either false S T e = refl
 
 -- ---- refused calls
 
-pub refused-answer : (T : Tableau) (call : Call) (why : Refusal) (p : Place) → callRefusal T call ≡ some (Refused why p) → answered T call ≡ GrowthRefused why p
-unfolding answered growthBy
-refused-answer T call why p e = ap (λ (x : Option Verdict). growthBy x (changed T call)) e
+-- the rows held are refused
+pub refused-growth : (T U : Tableau) (why : Refusal) (p : Place) → heldRefusal T ≡ some (Refused why p) → GrowthRefused why p false ≡ growthBy (some (Refused why p)) T U
+unfolding growthBy
+refused-growth T U why p e = ap (GrowthRefused why p) (sym (refused-open T _ e))
+
+-- they pass, and the call is refused
+pub passed-growth : (T U : Tableau) (why : Refusal) (p : Place) → heldRefusal T ≡ none → GrowthRefused why p (complete (nodesOnly (T .nodes) (T .nodeRows))) ≡ growthBy (some (Refused why p)) T U
+unfolding growthBy
+passed-growth T U why p e = ap (GrowthRefused why p) (complete-alone T ∙ sym (closed-is T e))
 
 pub turned-away : (T : Tableau) (call : Call) (x : Option Verdict) (v : Verdict) → callRefusal T call ≡ (x otherwise some v) → after T call ≡ T
 unfolding _otherwise_
 turned-away T call none v e = refused-leaves T call v e
 turned-away T call (some u) v e = refused-leaves T call u e
 
-pub turned-answer : (T : Tableau) (call : Call) (x : Option Verdict) → callRefusal T call ≡ x → (r : Growth) → ((U : Tableau) → r ≡ growthBy x U) → r ≡ answered T call
+pub turned-answer : (T : Tableau) (call : Call) (x : Option Verdict) → callRefusal T call ≡ x → (r : Growth) → ((U : Tableau) → r ≡ growthBy x T U) → r ≡ answered T call
 unfolding answered
-turned-answer T call x e r h = h (changed T call) ∙ ap (λ (y : Option Verdict). growthBy y (changed T call)) (sym e)
+turned-answer T call x e r h = h (changed T call) ∙ ap (λ (y : Option Verdict). growthBy y T (changed T call)) (sym e)
 
 -- ---- accepted calls
 
@@ -79,7 +85,7 @@ pub accepted-answer : (T : Tableau) (call : Call) → callRefusal T call ≡ non
 unfolding answered growthBy linkCount
 accepted-answer T call e =
     let U = changed T call in
-    ap (λ (x : Option Verdict). growthBy x U) e
+    ap (λ (x : Option Verdict). growthBy x T U) e
     ∙ ap (Held (U .nodeRows) (linkCount U)) (closed-is U (held-clears U .1 (passed T call e)) ∙ sym (complete-alone U))
 
 pub accepted-left : (T : Tableau) (call : Call) → callRefusal T call ≡ none → after T call ≡ changed T call
@@ -89,8 +95,12 @@ accepted-left T call e = ap (λ (x : Option Verdict). leftBy x T (changed T call
 -- ---- the first call
 
 pub begun-answer : (T : Tableau) → beginRefusal T ≡ none → beginAnswer T ≡ Held 0 0 false
-unfolding beginAnswer growthBy beginRefusal linkCount count begun holding complete _and_
-begun-answer T e = ap (λ (x : Option Verdict). growthBy x (begun T)) e ∙ ap (Held 0 0) (closed-is (begun T) e)
+unfolding beginAnswer growthBy linkCount count begun holding
+begun-answer T e = ap (λ (x : Option Verdict). growthBy x (begun T) (begun T)) e ∙ ap (Held 0 0) (begun-open T)
+
+pub begun-refused : (T : Tableau) (why : Refusal) (p : Place) → beginRefusal T ≡ some (Refused why p) → beginAnswer T ≡ GrowthRefused why p false
+unfolding beginAnswer growthBy
+begun-refused T why p e = ap (λ (x : Option Verdict). growthBy x (begun T) (begun T)) e ∙ ap (GrowthRefused why p) (begun-open T)
 
 -- ---- the last row taken back
 

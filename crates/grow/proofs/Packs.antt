@@ -29,7 +29,7 @@ use Rattle.grow.specs.Packed.{asVerdict}
 numbers-are : (r : Growth) → verdictNumbers (asVerdict r) ≡ growthNumbers r
 unfolding verdictNumbers refusedNumbers growthNumbers
 numbers-are (Held nodes links shown) = refl
-numbers-are (GrowthRefused why p) = refl
+numbers-are (GrowthRefused why p shown) = refl
 
 pub packed-is : (r : Growth) → growthPacked r ≡ packed (asVerdict r)
 unfolding growthPacked packed
@@ -86,22 +86,22 @@ of-call T takeBack = of-held T or-else of-whole _ _
 
 -- ---- the answers pack
 
-pub growth-packs : (x : Option Verdict) (T : Tableau) → FindsRefusals x → (x ≡ none → T .nodeRows ≤ 1024) → Packs (asVerdict (growthBy x T))
+pub growth-packs : (x : Option Verdict) (S T : Tableau) → FindsRefusals x → (x ≡ none → T .nodeRows ≤ 1024) → Packs (asVerdict (growthBy x S T))
 unfolding growthBy linkCount
-growth-packs none T f few = (omega (arith, few refl), omega (arith, few refl, count-le (isLink (T .nodes)) (T .nodeRows)))
-growth-packs (some (Refused why p)) T f few = let r = f (Refused why p) refl in subst Packs (sym (r .2)) (near-packs (r .0) (r .1) (r .3))
-growth-packs (some (Accepted nodes links)) T f few = tt
+growth-packs none S T f few = (omega (arith, few refl), omega (arith, few refl, count-le (isLink (T .nodes)) (T .nodeRows)))
+growth-packs (some (Refused why p)) S T f few = let r = f (Refused why p) refl in subst Packs (sym (r .2)) (near-packs (r .0) (r .1) (r .3))
+growth-packs (some (Accepted nodes links)) S T f few = tt
 
 pub begin-packs : (T : Tableau) → Packs (asVerdict (beginAnswer T))
 unfolding beginAnswer beginRefusal
-begin-packs T = growth-packs (heldRefusal (begun T)) (begun T) (of-held (begun T)) (λ e. held-clears (begun T) .0 e .tables .nodeLimit)
+begin-packs T = growth-packs (heldRefusal (begun T)) (begun T) (begun T) (of-held (begun T)) (λ e. held-clears (begun T) .0 e .tables .nodeLimit)
 
 pub call-packs : (T : Tableau) (call : Call) → Packs (asVerdict (answered T call))
 unfolding answered
-call-packs T call = growth-packs (callRefusal T call) (changed T call) (of-call T call) (λ e. passed T call e .tables .nodeLimit)
+call-packs T call = growth-packs (callRefusal T call) T (changed T call) (of-call T call) (λ e. passed T call e .tables .nodeLimit)
 
 -- reading the one number back gives the answer's numbers
-growth-read-back : (r : Growth) → Packs (asVerdict r) → numbersIn (growthPacked r) ≡ growthNumbers r
+pub growth-read-back : (r : Growth) → Packs (asVerdict r) → numbersIn (growthPacked r) ≡ growthNumbers r
 growth-read-back r h = ap numbersIn (packed-is r) ∙ read-back (asVerdict r) h ∙ numbers-are r
 
 pub begin-read-back : (T : Tableau) → numbersIn (growthPacked (beginAnswer T)) ≡ growthNumbers (beginAnswer T)

@@ -6,4 +6,4 @@ use Rattle.growing.specs.declared.Growth.the-variants.{Held, Refused as GrowthR
 
 abbrev pub asVerdict : Growth → Verdict
 asVerdict (Held nodes links shown) = Accepted nodes links
-asVerdict (GrowthRefused why p) = Refused why p
+asVerdict (GrowthRefused why p shown) = Refused why p

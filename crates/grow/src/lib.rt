@@ -59,7 +59,7 @@ fn place_of(why: Refusal, place: Place, n: usize) -> Place
     }
 }
 
-// The rows held are refused, or else the call.
+// The rows held are refused, or else the call. Rows that are refused are not closed.
 pub fn turn_away(
     schema: &[i32],
     schema_rows: usize,
@@ -74,7 +74,7 @@ pub fn turn_away(
     why: Refusal,
     place: Place,
 ) -> Growth
-    ensures { λ r. ⌜ ((U : Tableau) → r ≡ growthBy (heldRefusal (tableau (now (schema .entry)) «schema_rows» (now (proof .entry)) «proof_rows» root least (now (nodes .entry)) n (now (members .entry)) m) otherwise some (Refused why place)) U) ⌝ }
+    ensures { λ r. ⌜ ((U : Tableau) → r ≡ growthBy (heldRefusal (tableau (now (schema .entry)) «schema_rows» (now (proof .entry)) «proof_rows» root least (now (nodes .entry)) n (now (members .entry)) m) otherwise some (Refused why place)) (tableau (now (schema .entry)) «schema_rows» (now (proof .entry)) «proof_rows» root least (now (nodes .entry)) n (now (members .entry)) m) U) ⌝ }
 {
     match check::held(
         schema,
@@ -88,8 +88,15 @@ pub fn turn_away(
         members,
         m,
     ) {
-        Finding::Found { why: w, place: p } => Growth::Refused { why: w, place: p },
-        Finding::Nothing => Growth::Refused { why, place },
+        Finding::Found { why: w, place: p } => Growth::Refused {
+            why: w,
+            place: p,
+            closed: false,
+        },
+        Finding::Nothing => {
+            let closed = children::complete(nodes, n, least);
+            Growth::Refused { why, place, closed }
+        }
     }
 }
 
@@ -152,7 +159,11 @@ pub fn begin(
         members,
         0,
     ) {
-        Finding::Found { why, place } => Growth::Refused { why, place },
+        Finding::Found { why, place } => Growth::Refused {
+            why,
+            place,
+            closed: false,
+        },
         Finding::Nothing => Growth::Held {
             nodes: 0,
             links: 0,
@@ -329,7 +340,11 @@ pub fn take_back(
         members,
         m,
     ) {
-        Finding::Found { why, place } => Growth::Refused { why, place },
+        Finding::Found { why, place } => Growth::Refused {
+            why,
+            place,
+            closed: false,
+        },
         Finding::Nothing => {
             let start = node::natural_of(nodes, n - 1, node::START);
             settle(nodes, n - 1, members, start, held, least)

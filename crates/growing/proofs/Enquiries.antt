@@ -1,9 +1,9 @@
 -- 02, No. 8: the rows are those of the successful commits, additions and take-backs alone, and a commit succeeds exactly when a row waits.
-use Prim.Native.Nat.{_-_, _≤_}
+use Prim.Native.Nat.{ℕ, _-_, _≤_}
 use native.Mathlib.Omega.{arith}
 use mathlib.Core.Path.{_≡_, refl, sym, _∙_, ap, ap₂, subst}
 use mathlib.Core.Logic.{_↔_}
-use mathlib.Core.Bool.{true, false, true≢false}
+use mathlib.Core.Bool.{Bool, true, false, true≢false}
 use mathlib.Core.List.{List, [], _∷_, _++_}
 use mathlib.Core.Option.{Option, none, some}
 use lib.IntN.{pos}
@@ -12,20 +12,21 @@ use lib.ListN.{length, replicate}
 use lib.Seq.{take-append-seam}
 use Rattle.stab.specs.Basic.{_and_, eqZ, within, nat, _otherwise_}
 use Rattle.stab.specs.Node.{Tableau, rowCount, set}
-use Rattle.stab.specs.Check.{wholeUnless}
+use Rattle.stab.specs.Check.{wholeUnless, linkCount, check}
 use Rattle.stab.specs.Text.{padded}
 use Rattle.stab.specs.declared.Place.the-variants.{Whole}
 use Rattle.stab.specs.declared.Refusal.the-variants.{Waiting}
 use Rattle.stab.specs.declared.Verdict.{Verdict}
-use Rattle.stab.specs.declared.Verdict.the-variants.{Refused}
+use Rattle.stab.specs.declared.Verdict.the-variants.{Accepted, Refused}
 use Rattle.stab.proofs.Bools.{and-both, unless-none, none-unless, some-unless, otherwise-first, otherwise-second, otherwise-none, otherwise-some}
 use Rattle.stab.proofs.Whole.{num, le-of}
 use Rattle.tidied.proofs.Sets.{few}
-use Rattle.growing.specs.Growing.{heldRefusal, NodeRow, holding, added, newRefusal, addRefusal, growthBy, leftBy, begun, beginRefusal, rowsHeld, firstRows, done, add, takeBack}
-use Rattle.growing.specs.Enquiry.{stored, nothingWaits, waits, waitingRow, Editor, EditorCall, enquire, commit, grow, commitRefusal, editorRefusal, spokenOf, editorAnswer, heldAfter, waitingAfter, waitingRefused, waitingBy, edited, editedAll, opened, pendingAfter, pendingRefused, pendingBy, committed, doneEditing, doneEditingIf, pending, leaveEditing}
+use Rattle.growing.specs.Growing.{heldRefusal, NodeRow, holding, added, newRefusal, addRefusal, shortened, takeBackRefusal, growthBy, leftBy, begun, beginRefusal, rowsHeld, firstRows, done, add, takeBack, shownNumber}
+use Rattle.growing.specs.Enquiry.{stored, nothingWaits, waits, waitingRow, Editor, EditorCall, enquire, commit, grow, commitRefusal, editorRefusal, spokenOf, editorAnswer, heldAfter, waitingAfter, waitingRefused, waitingBy, edited, shownOf, editedAll, opened, pendingAfter, pendingRefused, pendingBy, committed, doneEditing, doneEditingIf, pending, leaveEditing}
+use Rattle.growing.specs.declared.Growth.the-variants.{Held}
 use Rattle.growing.proofs.States.{Holds, held-clears, added-last}
 use Rattle.growing.proofs.Held.{room, new-set, holds-shortened}
-use Rattle.growing.proofs.Grown.{added-holds, added-ok, add-holds, add-rows, back-holds, some-row, back-rows}
+use Rattle.growing.proofs.Grown.{added-holds, added-ok, add-holds, add-rows, back-holds, some-row, back-rows, closed-left, left-same, counts-left}
 
 -- ---- a set that is accepted has room in the waiting row
 
@@ -181,11 +182,30 @@ enquiry-as-adding E w = refl
 
 pub enquiry-changes-none : (E : Editor) (w : NodeRow) → edited E (enquire w) .held ≡ E .held
 unfolding edited heldAfter leftBy
-enquiry-changes-none E w = by (editorRefusal E (enquire w))
-  where
-    by : (x : Option Verdict) → leftBy x (E .held) (E .held) ≡ E .held
-    by none = refl
-    by (some v) = refl
+enquiry-changes-none E w = left-same (editorRefusal E (enquire w)) (E .held)
+
+-- "closed" is shown exactly when the whole check accepts the rows that the call leaves, of an enquiry those that adding would leave: after
+-- every call, refused ones included
+pub closed-edited : (E : Editor) (call : EditorCall) → (shownNumber (editorAnswer E call) ≡ 1) ↔ (check (shownOf E call) ≡ Accepted (shownOf E call .nodeRows) (linkCount (shownOf E call)))
+unfolding editorAnswer editorRefusal shownOf edited heldAfter spokenOf
+closed-edited E (enquire w) = closed-left (addRefusal (E .held) w) (E .held) (added (E .held) w)
+closed-edited E commit = closed-left (commitRefusal E) (E .held) (added (E .held) (waitingRow (E .waiting)))
+closed-edited E (grow (add w)) = closed-left (addRefusal (E .held) w) (E .held) (added (E .held) w)
+closed-edited E (grow takeBack) = closed-left (takeBackRefusal (E .held)) (E .held) (shortened (E .held))
+
+-- for every list of calls, and one call more
+pub closed-editing : (T : Tableau) (calls : List EditorCall) (call : EditorCall) →
+    let E = editedAll (opened T) calls in
+    (shownNumber (editorAnswer E call) ≡ 1) ↔ (check (shownOf E call) ≡ Accepted (shownOf E call .nodeRows) (linkCount (shownOf E call)))
+closed-editing T calls call = closed-edited (editedAll (opened T) calls) call
+
+-- an accepted call gives their counts
+pub counts-edited : (E : Editor) (call : EditorCall) (n l : ℕ) (shown : Bool) → editorAnswer E call ≡ Held n l shown → (n ≡ shownOf E call .nodeRows) × (l ≡ linkCount (shownOf E call))
+unfolding editorAnswer editorRefusal shownOf edited heldAfter spokenOf
+counts-edited E (enquire w) n l shown e = counts-left (addRefusal (E .held) w) (E .held) (added (E .held) w) n l shown e
+counts-edited E commit n l shown e = counts-left (commitRefusal E) (E .held) (added (E .held) (waitingRow (E .waiting))) n l shown e
+counts-edited E (grow (add w)) n l shown e = counts-left (addRefusal (E .held) w) (E .held) (added (E .held) w) n l shown e
+counts-edited E (grow takeBack) n l shown e = counts-left (takeBackRefusal (E .held)) (E .held) (shortened (E .held)) n l shown e
 
 -- a commit succeeds exactly when a row waits, "the row last enquired about, if that enquiry said yes and no commit or take-back succeeded
 -- since", and then gives what the enquiry gives
@@ -202,7 +222,7 @@ unfolding opened beginRefusal editorAnswer editorRefusal spokenOf
 commit-as-enquired T ok calls w e =
     let E = editedAll (opened T) calls in
     let g : Waits E (some w) = subst (Waits E) e (all-held (opened T) none (held-clears (begun T) .0 ok) refl calls .1) in
-    ap₂ (λ (x : Option Verdict) (v : NodeRow). growthBy x (added (E .held) v)) (commits E w g) (committed-row E w g)
+    ap₂ (λ (x : Option Verdict) (v : NodeRow). growthBy x (E .held) (added (E .held) v)) (commits E w g) (committed-row E w g)
 
 -- "26, by commit, when no such row waits"
 pub commit-26 : (T : Tableau) → beginRefusal T ≡ none → (calls : List EditorCall) → pending (opened T) none calls ≡ none → commitRefusal (editedAll (opened T) calls) ≡ some (Refused Waiting Whole)

@@ -2,18 +2,18 @@
 use Prim.Native.Nat.{ℕ, zero, suc, _+_, _-_, _<_, _≤_}
 use native.Mathlib.Omega.{arith}
 use mathlib.Core.Path.{_≡_, refl, sym, _∙_, ap, ap₂, subst}
-use mathlib.Core.Logic.{_↔_, ⊎-elim}
+use mathlib.Core.Logic.{_↔_, ⊎-elim, Iff·trans}
 use mathlib.Core.Bool.{Bool, true, false, false≢true}
 use mathlib.Core.List.{List, [], _∷_, _++_}
-use mathlib.Core.Option.{Option, none, some}
+use mathlib.Core.Option.{Option, none, some, Option·none-ne-some}
 use lib.Dec.{leb, ltb}
 use lib.IntN.{ℤ, pos}
 use lib.ListN.{length, take, length-append}
 use lib.Seq.{take-append-le, take-all, take-length, take-append-seam}
-use borrow.Author.Tests.{ltb-true, lt-ltb, eq-eqb}
+use borrow.Author.Tests.{le-leb, ltb-true, lt-ltb, eq-eqb}
 use Rattle.stab.specs.Basic.{if_then_else_, _and_, _otherwise_}
-use Rattle.stab.specs.Node.{Tableau, Node, node, set}
-use Rattle.stab.specs.Rule.{childrenFit}
+use Rattle.stab.specs.Node.{Tableau, Node, node, set, childCount}
+use Rattle.stab.specs.Rule.{rule, childrenFit}
 use Rattle.stab.specs.Check.{wholeUnless, atUnless, stepRefusal, nodeRefusal, linkCount, check}
 use Rattle.stab.specs.Keeps.{KeepsNode}
 use Rattle.stab.specs.declared.Verdict.{Verdict}
@@ -22,13 +22,13 @@ use Rattle.stab.proofs.Bools.{same-test, and-left, and-right, and-both, otherwi
 use Rattle.stab.proofs.Scans.{below-suc}
 use Rattle.stab.proofs.Exactness.Steps.{step-clears}
 use Rattle.stab.proofs.Exactness.{accepts-exactly}
-use Rattle.growing.specs.Growing.{heldNodeRefusal, heldRefusal, NodeRow, holding, added, newRefusal, roomFor, addRefusal, shortened, takeBackRefusal, begun, beginRefusal, isAccepted, closed, growthBy, leftBy, Call, add, takeBack, callRefusal, changed, answered, after, afterAll, rowOf, firstRows, rowsHeld, withoutLast, done, doneIf, leave}
+use Rattle.growing.specs.Growing.{childrenHeld, heldNodeRefusal, heldRefusal, NodeRow, holding, added, newRefusal, roomFor, addRefusal, shortened, takeBackRefusal, begun, beginRefusal, isAccepted, closed, growthBy, leftBy, Call, add, takeBack, callRefusal, changed, answered, after, afterAll, beginAnswer, shownNumber, rowOf, firstRows, rowsHeld, withoutLast, done, doneIf, leave}
 use Rattle.growing.specs.Complete.{childrenAll, complete}
 use Rattle.growing.specs.declared.Growth.{Growth}
 use Rattle.growing.specs.declared.Growth.the-variants.{Held, Refused as GrowthRefused}
 use Rattle.growing.proofs.Local.{Alike}
 use Rattle.growing.proofs.States.{Holds, held-clears, written, added-old, added-new, added-set, added-last, added-alike}
-use Rattle.growing.proofs.Held.{room, holds-added, shortened-alike, holds-shortened}
+use Rattle.growing.proofs.Held.{held-node, room, holds-added, shortened-alike, holds-shortened}
 
 -- ---- the rows of a state
 
@@ -156,20 +156,73 @@ closed-counts T = (λ h. by (check T) refl h, λ e. ap isAccepted e)
     by (Accepted n l) e h = let a = accepts-exactly T n l .0 e in e ∙ ap₂ Accepted (a .1) (a .2)
     by (Refused why p) e h = absurd (false≢true h)
 
--- an accepted call "gives place 0 and the node and link counts of the rows held", and ""closed" is shown exactly when the whole check
--- accepts the rows held"
-pub closed-exactly : (T : Tableau) (call : Call) (n l : ℕ) (shown : Bool) → answered T call ≡ Held n l shown → (n ≡ after T call .nodeRows) × (l ≡ linkCount (after T call)) × ((shown ≡ true) ↔ (check (after T call) ≡ Accepted n l))
-unfolding answered after growthBy leftBy
-closed-exactly T call n l shown h = by (callRefusal T call) h
+-- "closed" speaks of the rows that a call leaves
+shown-is : (x : Option Verdict) (old new : Tableau) → shownNumber (growthBy x old new) ≡ (if closed (leftBy x old new) then 1 else 0)
+unfolding shownNumber growthBy leftBy
+shown-is none old new = refl
+shown-is (some (Refused why p)) old new = refl
+shown-is (some (Accepted n l)) old new = refl
+
+shows : (b : Bool) → (_≡_ {A = ℕ} (if b then 1 else 0) 1) ↔ (b ≡ true)
+unfolding if_then_else_
+shows true = (λ e. refl, λ e. refl)
+shows false = (λ e. absurd (omega arith), λ e. absurd (false≢true e))
+
+pub closed-left : (x : Option Verdict) (old new : Tableau) →
+    let U = leftBy x old new in
+    (shownNumber (growthBy x old new) ≡ 1) ↔ (check U ≡ Accepted (U .nodeRows) (linkCount U))
+closed-left x old new =
+    let U = leftBy x old new in
+    Iff·trans (λ e. shows (closed U) .0 (sym (shown-is x old new) ∙ e), λ c. shown-is x old new ∙ shows (closed U) .1 c) (closed-counts U)
+
+-- ""closed" is shown exactly when the whole check accepts the rows held": after every call, refused ones included
+pub closed-exactly : (T : Tableau) (call : Call) → (shownNumber (answered T call) ≡ 1) ↔ (check (after T call) ≡ Accepted (after T call .nodeRows) (linkCount (after T call)))
+unfolding answered after
+closed-exactly T call = closed-left (callRefusal T call) T (changed T call)
+
+-- "For every list of these calls .., refused ones included", and one call more
+pub closed-throughout : (T : Tableau) (calls : List Call) (call : Call) →
+    let U = afterAll (begun T) calls in
+    (shownNumber (answered U call) ≡ 1) ↔ (check (after U call) ≡ Accepted (after U call .nodeRows) (linkCount (after U call)))
+closed-throughout T calls call = closed-exactly (afterAll (begun T) calls) call
+
+-- and after the first call
+pub left-same : (x : Option Verdict) (U : Tableau) → leftBy x U U ≡ U
+unfolding leftBy
+left-same none U = refl
+left-same (some v) U = refl
+
+pub closed-begun : (T : Tableau) → (shownNumber (beginAnswer T) ≡ 1) ↔ (check (begun T) ≡ Accepted (begun T .nodeRows) (linkCount (begun T)))
+unfolding beginAnswer
+closed-begun T =
+    subst (λ (U : Tableau). (shownNumber (growthBy (beginRefusal T) (begun T) (begun T)) ≡ 1) ↔ (check U ≡ Accepted (U .nodeRows) (linkCount U)))
+    (left-same (beginRefusal T) (begun T)) (closed-left (beginRefusal T) (begun T) (begun T))
+
+-- no row is held then, so that it never shows "closed"
+pub begun-open : (T : Tableau) → closed (begun T) ≡ false
+unfolding begun holding
+begun-open T = by (closed (begun T)) refl
   where
-    by : (x : Option Verdict) → growthBy x (changed T call) ≡ Held n l shown → (n ≡ leftBy x T (changed T call) .nodeRows) × (l ≡ linkCount (leftBy x T (changed T call))) × ((shown ≡ true) ↔ (check (leftBy x T (changed T call)) ≡ Accepted n l))
-    by none e =
-        let a : changed T call .nodeRows ≡ n = cc in
-        let b : linkCount (changed T call) ≡ l = cc in
-        let c : closed (changed T call) ≡ shown = cc in
-        (sym a, sym b, rw (← a, ← b, ← c) (closed-counts (changed T call)))
-    by (some (Refused why p)) e = let z : _≡_ {A = ℕ} 0 1 = cc in absurd (omega arith)
-    by (some (Accepted m k)) e = let z : _≡_ {A = ℕ} 0 1 = cc in absurd (omega arith)
+    by : (b : Bool) → closed (begun T) ≡ b → closed (begun T) ≡ false
+    by true c = let k = accepts-exactly (begun T) (begun T .nodeRows) (linkCount (begun T)) .0 (closed-counts (begun T) .0 c) .0 .older .hasNode in absurd (omega arith)
+    by false c = c
+
+pub begun-shows-none : (T : Tableau) → shownNumber (beginAnswer T) ≡ 0
+unfolding beginAnswer if_then_else_
+begun-shows-none T =
+    shown-is (beginRefusal T) (begun T) (begun T)
+    ∙ ap (λ (b : Bool). if b then 1 else 0) (ap closed (left-same (beginRefusal T) (begun T)) ∙ begun-open T)
+
+-- an accepted call "gives place 0 and the node and link counts of the rows held"
+pub counts-left : (x : Option Verdict) (old new : Tableau) (n l : ℕ) (shown : Bool) → growthBy x old new ≡ Held n l shown → (n ≡ leftBy x old new .nodeRows) × (l ≡ linkCount (leftBy x old new))
+unfolding growthBy leftBy
+counts-left none old new n l shown e = (cc, cc)
+counts-left (some (Refused why p)) old new n l shown e = let z : _≡_ {A = ℕ} 0 1 = cc in absurd (omega arith)
+counts-left (some (Accepted m k)) old new n l shown e = let z : _≡_ {A = ℕ} 0 1 = cc in absurd (omega arith)
+
+pub counts-held : (T : Tableau) (call : Call) (n l : ℕ) (shown : Bool) → answered T call ≡ Held n l shown → (n ≡ after T call .nodeRows) × (l ≡ linkCount (after T call))
+unfolding answered after
+counts-held T call n l shown e = counts-left (callRefusal T call) T (changed T call) n l shown e
 
 -- ---- what the code looks at: among rows that have passed only a missing node or child keeps the tableau open
 
@@ -206,3 +259,27 @@ closed-is T h = same-test _ _ (λ c. to (closed-counts T .0 c)) (λ c. closed-co
     from c =
         accepts-exactly T (T .nodeRows) (linkCount T) .1
         (record { older = record { tables = H .tables; formulas = H .formulas; hasNode = ltb-true 0 (T .nodeRows) (and-left _ _ c); nodes = node-kept c }; fresh = H .fresh }, refl, refl)
+
+-- rows that are refused are not closed
+closed-held : (T : Tableau) → closed T ≡ true → heldRefusal T ≡ none
+unfolding nodeRefusal childrenHeld
+closed-held T c =
+    let k = accepts-exactly T (T .nodeRows) (linkCount T) .0 (closed-counts T .0 c) .0 in
+    held-clears T .1
+    (record {
+      tables = k .older .tables;
+      formulas = k .older .formulas;
+      fresh = k .fresh;
+      sets = λ j l. k .older .nodes j l .set;
+      parents = λ j l. k .older .nodes j l .parent;
+      steps = λ j l.
+          let v = k .older .nodes j l in
+          held-node T j (otherwise-first _ _ (step-clears T j .1 (v .drawn, v .step))) (le-leb (childCount T j) (rule T j .children) (omega (arith, v .step .children)));
+    })
+
+pub refused-open : (T : Tableau) (v : Verdict) → heldRefusal T ≡ some v → closed T ≡ false
+refused-open T v e = by (closed T) refl
+  where
+    by : (b : Bool) → closed T ≡ b → closed T ≡ false
+    by true c = absurd (Option·none-ne-some v (sym (closed-held T c) ∙ e))
+    by false c = c

@@ -53,17 +53,17 @@ two = after one (add (leaf (pos 0)))
 three : Tableau
 three = after two (add (leaf (pos 0)))
 
--- open while a child is missing, closed with the second; no room is 24, before 9
-grown : (beginAnswer (start 27) ≡ Held 0 0 false) × (answered (begun (start 27)) (add split) ≡ Held 1 0 false) × (answered one (add (leaf (pos 0))) ≡ Held 2 0 false) × (answered two (add (leaf (pos 0))) ≡ Held 3 0 true) × (answered two (add unsorted) ≡ GrowthRefused Room Whole) × (answered one (add unsorted) ≡ GrowthRefused Set (At 1)) × (answered (begun (start 8)) (add split) ≡ GrowthRefused Room Whole)
+-- open while a child is missing, closed with the second, and still after a refused call; no room is 24, before 9
+grown : (beginAnswer (start 27) ≡ Held 0 0 false) × (answered (begun (start 27)) (add split) ≡ Held 1 0 false) × (answered one (add (leaf (pos 0))) ≡ Held 2 0 false) × (answered two (add (leaf (pos 0))) ≡ Held 3 0 true) × (answered three (add unsorted) ≡ GrowthRefused Room Whole true) × (answered two (add unsorted) ≡ GrowthRefused Room Whole false) × (answered one (add unsorted) ≡ GrowthRefused Set (At 1) false) × (answered (begun (start 8)) (add split) ≡ GrowthRefused Room Whole false)
 unfolding evaluated refusalBy noNode none start split leaf unsorted one two three childrenHeld heldNodeRefusal heldRefusal nodeNumbers holding added roomFor beyondRefusal addedRefusal newRefusal addRefusal shortened takeBackRefusal begun beginRefusal isAccepted closed growthBy leftBy callRefusal changed answered after beginAnswer
-grown = (refl, refl, refl, refl, refl, refl, refl)
+grown = (refl, refl, refl, refl, refl, refl, refl, refl)
 
 -- a child of a leaf is one beyond
-beyond : answered two (add (leaf (pos 1))) ≡ GrowthRefused Children (At 2)
+beyond : answered two (add (leaf (pos 1))) ≡ GrowthRefused Children (At 2) false
 unfolding evaluated refusalBy noNode none start split leaf one two childrenHeld heldNodeRefusal heldRefusal nodeNumbers holding added roomFor beyondRefusal addedRefusal newRefusal addRefusal begun isAccepted closed growthBy leftBy callRefusal changed answered after
 beyond = refl
 
 -- nothing to take back; what is taken back leaves the members too, and the lent tables are 0 past the rows held
-taken : (answered (begun (start 27)) takeBack ≡ GrowthRefused NoRow Whole) × (answered two takeBack ≡ Held 1 0 false) × (after two takeBack .members ≡ pos 1 ∷ pos 0 ∷ pos 0 ∷ []) × (after two takeBack .memberCount ≡ 1) × (after two takeBack .nodes ≡ one .nodes)
+taken : (answered (begun (start 27)) takeBack ≡ GrowthRefused NoRow Whole false) × (answered two takeBack ≡ Held 1 0 false) × (after two takeBack .members ≡ pos 1 ∷ pos 0 ∷ pos 0 ∷ []) × (after two takeBack .memberCount ≡ 1) × (after two takeBack .nodes ≡ one .nodes)
 unfolding evaluated refusalBy noNode none start split leaf one two childrenHeld heldNodeRefusal heldRefusal nodeNumbers holding added roomFor beyondRefusal addedRefusal newRefusal addRefusal shortened takeBackRefusal begun isAccepted closed growthBy leftBy callRefusal changed answered after
 taken = (refl, refl, refl, refl, refl)

@@ -68,7 +68,7 @@ editorRefusal E commit = commitRefusal E
 editorRefusal E (grow (add w)) = addRefusal (E .held) w
 editorRefusal E (grow takeBack) = takeBackRefusal (E .held)
 
--- the rows that the answer speaks of: of an enquiry those that adding would leave
+-- the rows that an accepted call's answer speaks of: of an enquiry those that adding would give
 unfoldable pub spokenOf : Editor → EditorCall → Tableau
 spokenOf E (enquire w) = added (E .held) w
 spokenOf E commit = added (E .held) (waitingRow (E .waiting))
@@ -76,7 +76,7 @@ spokenOf E (grow (add w)) = added (E .held) w
 spokenOf E (grow takeBack) = shortened (E .held)
 
 unfoldable pub editorAnswer : Editor → EditorCall → Growth
-editorAnswer E call = growthBy (editorRefusal E call) (spokenOf E call)
+editorAnswer E call = growthBy (editorRefusal E call) (E .held) (spokenOf E call)
 
 -- the rows after an accepted call: an enquiry "changes no row"
 unfoldable pub heldAfter : Editor → EditorCall → Tableau
@@ -107,6 +107,13 @@ edited E call = record {
   held = leftBy (editorRefusal E call) (E .held) (heldAfter E call);
   waiting = waitingBy (editorRefusal E call) (E .waiting) call;
 }
+
+-- the rows that "closed" speaks of: those that the call leaves; of an enquiry, which "answers as adding would, with its counts and
+-- "closed"", those that adding would leave
+unfoldable pub shownOf : Editor → EditorCall → Tableau
+shownOf E (enquire w) = edited E (grow (add w)) .held
+shownOf E commit = edited E commit .held
+shownOf E (grow call) = edited E (grow call) .held
 
 -- "For every list of enquiries, commits and take-backs": the state after them
 unfoldable pub editedAll : Editor → List EditorCall → Editor

@@ -131,12 +131,13 @@ isAccepted (Refused why p) = false
 unfoldable pub closed : Tableau → Bool
 closed T = isAccepted (check T)
 
--- "An accepted one gives place 0 and the node and link counts of the rows held": T is the state that it leaves
-unfoldable pub growthBy : Option Verdict → Tableau → Growth
-growthBy none T = Held (T .nodeRows) (linkCount T) (closed T)
-growthBy (some (Refused why p)) T = GrowthRefused why p
+-- "An accepted one gives place 0 and the node and link counts of the rows held"; "closed" speaks of the rows held after every call,
+-- "refused ones included". A refused call leaves the old rows, an accepted one the new.
+unfoldable pub growthBy : Option Verdict → Tableau → Tableau → Growth
+growthBy none old new = Held (new .nodeRows) (linkCount new) (closed new)
+growthBy (some (Refused why p)) old new = GrowthRefused why p (closed old)
 -- no refusal is an acceptance
-growthBy (some (Accepted nodes links)) T = GrowthRefused NoRow Whole
+growthBy (some (Accepted nodes links)) old new = GrowthRefused NoRow Whole (closed old)
 
 -- "A refused call leaves the tableau as it stood"
 unfoldable pub leftBy : Option Verdict → Tableau → Tableau → Tableau
@@ -158,7 +159,7 @@ changed T takeBack = shortened T
 
 -- one call: its answer, and the state after it
 unfoldable pub answered : Tableau → Call → Growth
-answered T call = growthBy (callRefusal T call) (changed T call)
+answered T call = growthBy (callRefusal T call) T (changed T call)
 
 unfoldable pub after : Tableau → Call → Tableau
 after T call = leftBy (callRefusal T call) T (changed T call)
@@ -170,7 +171,7 @@ afterAll T (call ∷ calls) = afterAll (after T call) calls
 
 -- the first call: also after a refusal no node is held and the tables are 0
 unfoldable pub beginAnswer : Tableau → Growth
-beginAnswer T = growthBy (beginRefusal T) (begun T)
+beginAnswer T = growthBy (beginRefusal T) (begun T) (begun T)
 
 -- ---- "the rows held are those that the accepted calls leave"
 
@@ -213,14 +214,15 @@ leave T (call ∷ calls) ws = leave (after T call) calls (doneIf (callRefusal T 
 
 -- ---- the answer in numbers
 
--- as a check's; after a refusal nothing is shown
+-- as a check's
 unfoldable pub growthNumbers : Growth → Numbers
 growthNumbers (Held nodes links shown) = record { answer = 0; place = pos 0; nodes = nodes; links = links }
-growthNumbers (GrowthRefused why p) = record { answer = refusalNumber why; place = placeNumber p; nodes = 0; links = 0 }
+growthNumbers (GrowthRefused why p shown) = record { answer = refusalNumber why; place = placeNumber p; nodes = 0; links = 0 }
 
+-- 1 for "closed", else 0
 unfoldable pub shownNumber : Growth → ℕ
 shownNumber (Held nodes links shown) = if shown then 1 else 0
-shownNumber (GrowthRefused why p) = 0
+shownNumber (GrowthRefused why p shown) = if shown then 1 else 0
 
 unfoldable pub growthPacked : Growth → ℕ
 growthPacked r = oneNumber (growthNumbers r)

@@ -3,7 +3,7 @@
 use stab::Place;
 use stab::Refusal;
 
-// The rows are held, with the numbers of nodes and links, and whether the tableau is closed; or the call is turned away.
+// The rows are held, with the numbers of nodes and links; or the call is turned away. Either way: whether the rows that it leaves are closed.
 pub enum Growth {
     Held {
         nodes: usize,
@@ -13,5 +13,6 @@ pub enum Growth {
     Refused {
         why: Refusal,
         place: Place,
+        closed: bool,
     },
 }

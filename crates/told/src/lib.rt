@@ -169,7 +169,7 @@ fn closed_number(closed: bool) -> i32
     if closed { 1 } else { 0 }
 }
 
-// A tableau that grows: the counts of the rows held, and whether it is closed.
+// A tableau that grows: the counts of the rows held or the refusal, and whether it is closed.
 pub fn growth(r: Growth, shown: &mut [i32; 1]) -> u64
     requires { ⌜ Packs (growthVerdict r) ⌝ }
     ensures { λ v. ⌜ v ≡ growthPacked r ⌝ }
@@ -184,8 +184,8 @@ pub fn growth(r: Growth, shown: &mut [i32; 1]) -> u64
             *shown = [closed_number(closed)];
             answer::pack(Verdict::Accepted { nodes, links })
         }
-        Growth::Refused { why, place } => {
-            *shown = [0];
+        Growth::Refused { why, place, closed } => {
+            *shown = [closed_number(closed)];
             answer::pack(Verdict::Refused { why, place })
         }
     }

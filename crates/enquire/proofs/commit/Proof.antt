@@ -87,7 +87,7 @@ returns c =
     let t = c .before .before .before .before .before in
     let b = t .before .before .before .before in
     let h = asked-false (t .before .waits .ensures) (t .if1 .taken) in (
-      no-commit-answer (E b) h _ (λ U. c .turn-away .ensures U ∙ ap₂ (λ (r l : ℤ). growthBy (heldRefusal (lentAt b r l) otherwise some (Refused Waiting Whole)) U) (toZ-ofZ (b .fits .root)) (toZ-ofZ (b .fits .least))),
+      no-commit-answer (E b) h _ (λ U. c .turn-away .ensures U ∙ ap₂ (λ (r l : ℤ). growthBy (heldRefusal (lentAt b r l) otherwise some (Refused Waiting Whole)) (lentAt b r l) U) (toZ-ofZ (b .fits .root)) (toZ-ofZ (b .fits .least))),
       sym (no-commit (E b) h),
     )
 
@@ -112,7 +112,7 @@ returns-2 c =
     let k = c .before .before .before .before in
     let e = k .before .before .before .before .before .before in
     let b = start e in
-    let v = call-refused (here b) (add (row b)) _ _ (sym (answer-is k) ∙ c .enum-told2 .given .1) in
+    let v = call-refused (here b) (add (row b)) _ _ _ (sym (answer-is k) ∙ c .enum-told2 .given .1) in
     (answer-is k ∙ commit-answer (E b) (waiting-is e), (λ i. record { held = left-is k i; waiting = now (b .args .waiting) }) ∙ sym (committed-no (E b) (waiting-is e) (v .0) (v .1)))
 
 empty-requires : tie.Need-empty-requires

@@ -84,7 +84,7 @@ returns c =
     let k = t .before .before .before .before in
     let b = k .before .before .before .before in
     let l : length (now (b .args .waiting)) ≡ 1033 = search needs in
-    let v = call-refused (here b) (add (row b)) _ _ (sym (answer-is k) ∙ t .enum-told2 .given .1) in
+    let v = call-refused (here b) (add (row b)) _ _ _ (sym (answer-is k) ∙ t .enum-told2 .given .1) in
     (answer-is k ∙ enquiry-answer (E b) (row b), (λ i. record { held = left-is k i; waiting = (c .clear .ensures ∙ cleared-padded (now (b .args .waiting)) 0 1033 (omega arith) l) i }) ∙ sym (enquired-no (E b) (row b) (v .0) (v .1)))
 
 store-requires : tie.Need-store-requires

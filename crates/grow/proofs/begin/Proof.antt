@@ -1,17 +1,15 @@
 use borrow.Author.Needs.{needs}
 use native.Mathlib.Omega.{arith}
 use mathlib.Core.Path.{_≡_, sym, _∙_, ap}
-use mathlib.Core.Option.{Option}
 use lib.IntN.{ℤ}
 use mir.Facts.{toZ-ofZ}
 use denote.Ref.{now}
 use Rattle.stab.specs.Node.{Tableau}
 use Rattle.stab.specs.Check.{finding}
-use Rattle.stab.specs.declared.Verdict.{Verdict}
 use Rattle.branch.specs.Work.{tableau}
-use Rattle.growing.specs.Growing.{heldRefusal, holding, begun, beginRefusal, beginAnswer, growthBy}
+use Rattle.growing.specs.Growing.{heldRefusal, holding, begun, beginRefusal}
 use Rattle.grow.specs.State.{state}
-use Rattle.grow.proofs.Calls.{begun-answer}
+use Rattle.grow.proofs.Calls.{begun-answer, begun-refused}
 use Rattle.grow.proofs.begin.Statement.{statement}
 use Rattle.grow.proofs.begin.Tie as tie
 
@@ -59,12 +57,11 @@ same-length-2 : tie.Need-same-length-2
 same-length-2 c = search needs
 
 returns : tie.Need-returns
-unfolding finding beginAnswer growthBy
+unfolding finding
 returns c =
     let f = c .before .before .before in
     let h = f .before .before .before .before .before in
-    let T = here (h .before .before .before .before) in
-    (ap (λ (x : Option Verdict). growthBy x (begun T)) (sym (ap finding (c .before .why .given .1)) ∙ found f), left h)
+    (sym (begun-refused _ _ _ (sym (found f) ∙ ap finding (c .before .why .given .1))), left h)
 
 same-length-3 : tie.Need-same-length-3
 same-length-3 c = search needs

@@ -23,7 +23,7 @@ use Rattle.growing.specs.declared.Growth.the-variants.{Held}
 use Rattle.growing.proofs.States.{Holds, held-clears}
 use Rattle.growing.proofs.Held.{holds-shortened}
 use Rattle.grow.specs.State.{state, nodesOnly, Countable}
-use Rattle.grow.proofs.Calls.{refused-answer, turned-away, turned-answer, countable, accepted-answer, accepted-left, no-row, back-refused, back-accepted}
+use Rattle.grow.proofs.Calls.{refused-growth, turned-away, turned-answer, countable, accepted-answer, accepted-left, no-row, back-refused, back-accepted}
 use Rattle.growing.proofs.Grown.{refused-leaves}
 use Rattle.grow.proofs.take_back.Statement.{statement}
 use Rattle.grow.proofs.take_back.Tie as tie
@@ -59,7 +59,7 @@ returns c =
     let t = c .before .before .before in
     let b = t .before .before .before in
     let e = no-row (here b) (t .if1 .taken) in (
-      turned-answer (here b) takeBack _ e _ (λ U. c .turn-away .ensures U ∙ ap₂ (λ (r l : ℤ). growthBy (heldRefusal (lentAt b r l) otherwise some (Refused NoRow Whole)) U) (toZ-ofZ (b .fits .root)) (toZ-ofZ (b .fits .least))),
+      turned-answer (here b) takeBack _ e _ (λ U. c .turn-away .ensures U ∙ ap₂ (λ (r l : ℤ). growthBy (heldRefusal (lentAt b r l) otherwise some (Refused NoRow Whole)) (lentAt b r l) U) (toZ-ofZ (b .fits .root)) (toZ-ofZ (b .fits .least))),
       sym (turned-away (here b) takeBack _ _ e),
     )
 
@@ -136,8 +136,9 @@ unfolding finding
 returns-2 c =
     let f = c .before .before .before in
     let b = f .before .before .before .before .before .before in
-    let e = back-refused (here b) _ (sym (found f) ∙ ap finding (c .before .why .given .1)) in
-    (sym (refused-answer (here b) takeBack _ _ e), sym (refused-leaves (here b) takeBack _ e))
+    let h = sym (found f) ∙ ap finding (c .before .why .given .1) in
+    let e = back-refused (here b) _ h in
+    (turned-answer (here b) takeBack _ e _ (λ U. refused-growth (here b) U _ _ h), sym (refused-leaves (here b) takeBack _ e))
 
 same-length-5 : tie.Need-same-length-5
 same-length-5 c = search needs

@@ -72,7 +72,7 @@ returns c =
     let t = c .before .before .before in
     let b = t .before .before .before .before in
     let e = no-room (here b) (row b) (asked-false (t .before .room .ensures) (t .if1 .taken)) in (
-      turned-answer (here b) (addRow (row b)) _ e _ (λ U. c .turn-away .ensures U ∙ ap₂ (λ (r l : ℤ). growthBy (heldRefusal (lentAt b r l) otherwise some (Refused Room Whole)) U) (toZ-ofZ (b .fits .root)) (toZ-ofZ (b .fits .least))),
+      turned-answer (here b) (addRow (row b)) _ e _ (λ U. c .turn-away .ensures U ∙ ap₂ (λ (r l : ℤ). growthBy (heldRefusal (lentAt b r l) otherwise some (Refused Room Whole)) (lentAt b r l) U) (toZ-ofZ (b .fits .root)) (toZ-ofZ (b .fits .least))),
       either (b .args .keep) _ (here b) (turned-away (here b) (addRow (row b)) _ _ e),
     )
 
@@ -314,10 +314,11 @@ returns-4 c =
     let g = fits T w (room-is e) in
     let nodes = restored (now (a .nodes)) (nodeNumbers w m) _ _ _ (9 * n) (omega (arith, g .2)) (y .lay .ensures .0) (y .lay .ensures .1 .1 .0) (p .put-back2 .ensures .0) in
     let members = restored (now (a .members)) (now (a .set)) _ _ _ m (g .3) (y .lay .ensures .1 .0) (y .lay .ensures .1 .1 .1) (p .put-back2 .ensures .1) in
+    let rows : tableau (now (a .schema)) (a .schema-rows) (now (a .proof)) (a .proof-rows) _ _ _ n _ m ≡ T = λ i. tableau (now (a .schema)) (a .schema-rows) (now (a .proof)) (a .proof-rows) (toZ-ofZ (b .fits .root) i) (toZ-ofZ (b .fits .least) i) (nodes i) n (members i) m in
     let why = k .before .why .given .0 .0 in
     let place = k .before .why .given .0 .1 .0 in
     let r = refused T w (room-is e) why place (sym (found f) ∙ ap finding (k .before .why .given .1)) in (
-      turned-answer T (addRow w) _ r _ (λ U. c .turn-away2 .ensures U ∙ (λ i. growthBy (heldRefusal (tableau (now (a .schema)) (a .schema-rows) (now (a .proof)) (a .proof-rows) (toZ-ofZ (b .fits .root) i) (toZ-ofZ (b .fits .least) i) (nodes i) n (members i) m) otherwise some (Refused why (c .before .place-of .ensures i))) U)),
+      turned-answer T (addRow w) _ r _ (λ U. c .turn-away2 .ensures U ∙ (λ i. growthBy (heldRefusal (rows i) otherwise some (Refused why (c .before .place-of .ensures i))) (rows i) U)),
       (λ i. state (now (a .schema)) (a .schema-rows) (now (a .proof)) (a .proof-rows) (a .root) (a .least) (nodes i) (members i) (now (a .held)))
           ∙ either (a .keep) _ T (turned-away T (addRow w) _ _ r),
     )

@@ -1,5 +1,5 @@
 use borrow.Author.Needs.{needs}
-use mathlib.Core.Path.{_≡_, refl, sym, _∙_, ap, ap₂}
+use mathlib.Core.Path.{_≡_, refl, sym, _∙_, ap, ap₂, subst}
 use mathlib.Core.Option.{Option, none, some}
 use lib.IntN.{ℤ}
 use mir.Facts.{toZ-ofZ}
@@ -12,6 +12,10 @@ use Rattle.stab.specs.declared.Verdict.the-variants.{Refused}
 use Rattle.stab.proofs.Bools.{otherwise-some, otherwise-none}
 use Rattle.branch.specs.Work.{tableau}
 use Rattle.growing.specs.Growing.{heldRefusal, growthBy}
+use Rattle.growing.specs.declared.Growth.the-variants.{Refused as GrowthRefused}
+use Rattle.growing.proofs.States.{held-clears}
+use Rattle.grow.specs.State.{Countable}
+use Rattle.grow.proofs.Calls.{refused-growth, passed-growth, countable}
 use Rattle.grow.proofs.turn_away.Statement.{statement}
 use Rattle.grow.proofs.turn_away.Tie as tie
 
@@ -35,15 +39,36 @@ enum-known-w c = search needs
 enum-told : tie.Need-enum-told
 enum-told c = search needs
 
+-- they have passed
+passes : (c : tie.After-enum-told) → heldRefusal (lentAt (c .before .before .before) (c .before .before .before .args .root) (c .before .before .before .args .least)) ≡ none
+unfolding finding
+passes c = sym (found (c .before .before)) ∙ ap finding (c .enum-told .given .1)
+
+complete-requires : tie.Need-complete-requires
+unfolding tableau
+complete-requires c κs =
+    let b = c .before .before .before in
+    let T = lentAt b (b .args .root) (b .args .least) in
+    subst (Countable (T .nodes) (T .nodeRows)) (sym (toZ-ofZ (b .fits .least))) (countable T (held-clears T .0 (passes c)))
+
 returns : tie.Need-returns
-unfolding finding growthBy
+unfolding finding
 returns c U =
-    ap (λ (x : Option Verdict). growthBy x U) (sym (otherwise-some _ _ _ (sym (found (c .before .before .before)) ∙ ap finding (c .before .w .given .1))))
+    let f = c .before .before .before in
+    let b = f .before in
+    let T = lentAt b (b .args .root) (b .args .least) in
+    let h = sym (found f) ∙ ap finding (c .before .w .given .1) in
+    refused-growth T U _ _ h ∙ ap (λ (x : Option Verdict). growthBy x T U) (sym (otherwise-some _ _ _ h))
 
 returns-2 : tie.Need-returns-2
-unfolding finding growthBy
+unfolding tableau
 returns-2 c U =
-    ap (λ (x : Option Verdict). growthBy x U) (sym (otherwise-none _ _ (sym (found (c .before .before)) ∙ ap finding (c .enum-told .given .1))))
+    let e = c .before in
+    let b = e .before .before .before in
+    let T = lentAt b (b .args .root) (b .args .least) in
+    ap (GrowthRefused (b .args .why) (b .args .place)) (c .complete .ensures)
+    ∙ passed-growth T U (b .args .why) (b .args .place) (passes e)
+    ∙ ap (λ (x : Option Verdict). growthBy x T U) (sym (otherwise-none _ _ (passes e)))
 
 pub turn-away-spec : {M : Type 1} → statement M
-turn-away-spec = tie.close (tie.spec held-requires enum-known-w enum-told returns returns-2)
+turn-away-spec = tie.close (tie.spec held-requires enum-known-w enum-told complete-requires returns returns-2)

@@ -23,8 +23,11 @@ pack-requires c κs = subst (λ (r : Growth). Packs (asVerdict r)) (c .before .b
 enum-known-r-2 : tie.Need-enum-known-r-2
 enum-known-r-2 c = search needs
 
+closed-number-requires-2 : tie.Need-closed-number-requires-2
+closed-number-requires-2 c κs = search needs
+
 pack-requires-2 : tie.Need-pack-requires-2
-pack-requires-2 c κs = subst (λ (r : Growth). Packs (asVerdict r)) (c .before .before .r2 .given .1) (c .before .before .before .before .pre)
+pack-requires-2 c κs = subst (λ (r : Growth). Packs (asVerdict r)) (c .before .before .before .r2 .given .1) (c .before .before .before .before .before .pre)
 
 returns : tie.Need-returns
 unfolding shownNumber
@@ -39,9 +42,12 @@ returns c =
 returns-2 : tie.Need-returns-2
 unfolding shownNumber
 returns-2 c =
-    let k = c .before .before .before in
-    let e = sym (k .r2 .given .1) in
-    (c .pack2 .ensures ∙ ap (λ (r : Growth). packed (asVerdict r)) e ∙ sym (packed-is (k .before .before .args .r)), ap (λ (r : Growth). pos (shownNumber r) ∷ []) e)
+    let o = c .before .before in
+    let k = o .before .before in
+    let e = sym (k .r2 .given .1) in (
+      c .pack2 .ensures ∙ ap (λ (r : Growth). packed (asVerdict r)) e ∙ sym (packed-is (k .before .before .args .r)),
+      (λ i. (read-back _ (o .closed-number2 .ok) ∙ o .closed-number2 .ensures) i ∷ []) ∙ ap (λ (r : Growth). pos (shownNumber r) ∷ []) e,
+    )
 
 pub growth-spec : {M : Type 1} → statement M
 growth-spec =
@@ -51,6 +57,7 @@ growth-spec =
     closed-number-requires
     pack-requires
     enum-known-r-2
+    closed-number-requires-2
     pack-requires-2
     returns
     returns-2)
