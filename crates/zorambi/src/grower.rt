@@ -1,14 +1,14 @@
 // The entries with which a tableau grows row by row in lent tables: one number back as from the check, with the counts of the rows held,
-// and in a lent result whether the tableau is closed.
+// and in a lent result whether the rows that the call leaves are closed.
 ghost use mathlib.Core.Path.{_≡_};
 ghost use mathlib.Core.List.{[], _∷_};
 ghost use lib.IntN.{pos};
-ghost use Rattle.growing.specs.Growing.{begun, beginAnswer, add, takeBack, answered, after, growthPacked, shownNumber};
-ghost use Rattle.growing.specs.Enquiry.{edited, grow};
+ghost use Rattle.growing.specs.Growing.{beginAnswer, add, takeBack, answered, after, growthPacked, shownNumber};
+ghost use Rattle.growing.specs.Enquiry.{edited, opened, grow};
 ghost use Rattle.grow.specs.State.{state, rowFrom};
 ghost use Rattle.enquire.specs.Editing.{editor};
 
-// Formula rows are given. Then, and also after a refusal, no node is held and the tables are 0.
+// Formula rows are given. Then, and also after a refusal, no node is held, the tables are 0 and nothing waits.
 #[no_mangle]
 pub extern "C" fn zorambi_begin(
     schema: &[i32],
@@ -21,12 +21,13 @@ pub extern "C" fn zorambi_begin(
     members: &mut [i32],
     held: &mut [usize; 2],
     shown: &mut [i32; 1],
+    waiting: &mut [i32; 1033],
 ) -> u64
     ensures answer { λ r. ⌜ r ≡ growthPacked (beginAnswer (state (now (schema .entry)) «schema_rows» (now (proof .entry)) «proof_rows» root least (now (nodes .entry)) (now (members .entry)) (now (held .entry)))) ⌝ }
     ensures shown { λ r. ⌜ now (shown .exit) ≡ pos (shownNumber (beginAnswer (state (now (schema .entry)) «schema_rows» (now (proof .entry)) «proof_rows» root least (now (nodes .entry)) (now (members .entry)) (now (held .entry))))) ∷ [] ⌝ }
-    ensures left { λ r. ⌜ state (now (schema .entry)) «schema_rows» (now (proof .entry)) «proof_rows» root least (now (nodes .exit)) (now (members .exit)) (now (held .exit)) ≡ begun (state (now (schema .entry)) «schema_rows» (now (proof .entry)) «proof_rows» root least (now (nodes .entry)) (now (members .entry)) (now (held .entry))) ⌝ }
+    ensures left { λ r. ⌜ editor (now (schema .entry)) «schema_rows» (now (proof .entry)) «proof_rows» root least (now (nodes .exit)) (now (members .exit)) (now (held .exit)) (now (waiting .exit)) ≡ opened (state (now (schema .entry)) «schema_rows» (now (proof .entry)) «proof_rows» root least (now (nodes .entry)) (now (members .entry)) (now (held .entry))) ⌝ }
 {
-    let r = grow::begin(
+    let r = enquire::begin(
         schema,
         schema_rows,
         proof,
@@ -36,6 +37,7 @@ pub extern "C" fn zorambi_begin(
         nodes,
         members,
         held,
+        waiting,
     );
     told::growth(r, shown)
 }

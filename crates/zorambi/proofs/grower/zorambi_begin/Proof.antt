@@ -6,11 +6,13 @@ use mir.Facts.{toZ-ofZ}
 use denote.Ref.{now}
 use Rattle.stab.specs.Node.{Tableau}
 use Rattle.stab.specs.Answer.{Packs}
-use Rattle.growing.specs.Growing.{begun, beginAnswer, growthPacked, shownNumber}
+use Rattle.growing.specs.Growing.{beginAnswer, growthPacked, shownNumber}
+use Rattle.growing.specs.Enquiry.{opened}
 use Rattle.growing.specs.declared.Growth.{Growth}
 use Rattle.grow.specs.State.{state}
 use Rattle.grow.specs.Packed.{asVerdict}
 use Rattle.grow.proofs.Packs.{begin-packs}
+use Rattle.enquire.specs.Editing.{editor}
 use Rattle.zorambi.proofs.grower.zorambi_begin.Statement.{statement}
 use Rattle.zorambi.proofs.grower.zorambi_begin.Tie as tie
 
@@ -27,21 +29,21 @@ begin-requires : tie.Need-begin-requires
 begin-requires c κs = search needs
 
 -- a signed number is kept as bits, and read back from them
-answer-is : (c : tie.After-begin) → let b = c .before .before .before .before in c .begin .result ≡ beginAnswer (here b)
+answer-is : (c : tie.After-begin) → let b = c .before .before .before .before .before in c .begin .result ≡ beginAnswer (here b)
 answer-is c =
-    let b = c .before .before .before .before in
+    let b = c .before .before .before .before .before in
     c .begin .ensures .0 ∙ ap₂ (λ (r l : ℤ). beginAnswer (lentAt b r l)) (toZ-ofZ (b .fits .root)) (toZ-ofZ (b .fits .least))
 
 left-is : (c : tie.After-begin) →
-    let b = c .before .before .before .before in
+    let b = c .before .before .before .before .before in
     let a = b .args in
-    state (now (a .schema)) (a .schema-rows) (now (a .proof)) (a .proof-rows) (a .root) (a .least) (c .begin .last .1 .1 .1 .1 .1 .1 .0) (c .begin .last .1 .1 .1 .1 .1 .1 .1 .0) (c .begin .last .1 .1 .1 .1 .1 .1 .1 .1 .0) ≡ begun (here b)
+    editor (now (a .schema)) (a .schema-rows) (now (a .proof)) (a .proof-rows) (a .root) (a .least) (c .begin .last .1 .1 .1 .1 .1 .1 .0) (c .begin .last .1 .1 .1 .1 .1 .1 .1 .0) (c .begin .last .1 .1 .1 .1 .1 .1 .1 .1 .0) (c .begin .last .1 .1 .1 .1 .1 .1 .1 .1 .1 .0) ≡ opened (here b)
 left-is c =
-    let b = c .before .before .before .before in
+    let b = c .before .before .before .before .before in
     let a = b .args in
-    sym (ap₂ (λ (r l : ℤ). state (now (a .schema)) (a .schema-rows) (now (a .proof)) (a .proof-rows) r l (c .begin .last .1 .1 .1 .1 .1 .1 .0) (c .begin .last .1 .1 .1 .1 .1 .1 .1 .0) (c .begin .last .1 .1 .1 .1 .1 .1 .1 .1 .0)) (toZ-ofZ (b .fits .root)) (toZ-ofZ (b .fits .least)))
+    sym (ap₂ (λ (r l : ℤ). editor (now (a .schema)) (a .schema-rows) (now (a .proof)) (a .proof-rows) r l (c .begin .last .1 .1 .1 .1 .1 .1 .0) (c .begin .last .1 .1 .1 .1 .1 .1 .1 .0) (c .begin .last .1 .1 .1 .1 .1 .1 .1 .1 .0) (c .begin .last .1 .1 .1 .1 .1 .1 .1 .1 .1 .0)) (toZ-ofZ (b .fits .root)) (toZ-ofZ (b .fits .least)))
     ∙ c .begin .ensures .1
-    ∙ ap₂ (λ (r l : ℤ). begun (lentAt b r l)) (toZ-ofZ (b .fits .root)) (toZ-ofZ (b .fits .least))
+    ∙ ap₂ (λ (r l : ℤ). opened (lentAt b r l)) (toZ-ofZ (b .fits .root)) (toZ-ofZ (b .fits .least))
 
 growth-requires : tie.Need-growth-requires
 growth-requires c κs =

@@ -3,8 +3,8 @@ use native.Mathlib.Omega.{arith}
 use mathlib.Core.Path.{_∙_}
 use Rattle.signed.proofs.Tables.{cleared-padded}
 use Rattle.growing.specs.Enquiry.{nothingWaits}
-use Rattle.enquire.proofs.empty.Statement.{statement}
-use Rattle.enquire.proofs.empty.Tie as tie
+use Rattle.enquire.proofs.memory.empty.Statement.{statement}
+use Rattle.enquire.proofs.memory.empty.Tie as tie
 
 clear-requires : tie.Need-clear-requires
 clear-requires c κs = search needs

@@ -7,8 +7,8 @@ use Rattle.stab.proofs.Bools.{and-first-false, and-first-true, asked-false, ask
 use Rattle.branch.proofs.ParentLaws.{below-negative, below-natural}
 use Rattle.formula.proofs.RowLaws.{within-below}
 use Rattle.growing.specs.Enquiry.{waits}
-use Rattle.enquire.proofs.waits.Statement.{statement}
-use Rattle.enquire.proofs.waits.Tie as tie
+use Rattle.enquire.proofs.memory.waits.Statement.{statement}
+use Rattle.enquire.proofs.memory.waits.Tie as tie
 
 is-at-requires : tie.Need-is-at-requires
 is-at-requires c κs = search needs

@@ -11,8 +11,8 @@ use Rattle.signed.proofs.Signs.{read-back}
 use Rattle.growing.specs.Enquiry.{stored}
 use Rattle.grow.specs.State.{rowFrom}
 use Rattle.enquire.proofs.Edits.{stored-so}
-use Rattle.enquire.proofs.store.Statement.{statement}
-use Rattle.enquire.proofs.store.Tie as tie
+use Rattle.enquire.proofs.memory.store.Statement.{statement}
+use Rattle.enquire.proofs.memory.store.Tie as tie
 
 of-requires : tie.Need-of-requires
 of-requires c κs = search needs
