@@ -176,13 +176,16 @@ uint64_t zorambi_join(const int32_t *schema_1, size_t schema_1_len, size_t schem
 
 /* A tableau built row by row, with formula rows that are given first. It stands in memory that the caller lends to every call and
  * keeps between them: the node table and the member table, as for the check but with any lengths; held, how many nodes and
- * members they hold; and shown, 1 for "closed" and 0 otherwise. Formula rows, root and least are given anew with every call. What
- * stands in the memory need not be believed: every call but the first puts the formula rows and all rows held under the check,
- * except that there may be no node and a node may have too few children, and gives its refusal; too many children are
- * ZORAMBI_CHILDREN at the parent.
+ * members they hold; shown, 1 for "closed" and 0 otherwise; and waiting, of which the paragraph on enquiries speaks. Formula rows,
+ * root and least are given anew with every call. What stands in the memory need not be believed: every call but the first puts the
+ * formula rows and all rows held under the check, except that there may be no node and a node may have too few children, and gives
+ * its refusal; too many children are ZORAMBI_CHILDREN at the parent.
  *
- * zorambi_begin takes the formula rows, by themselves, under the check. Whatever it answers and whatever was held, no row is held
- * after it: both tables, held and shown are all 0. So these four need no start of their own.
+ * shown is 1 exactly when zorambi_check accepts the rows that the call leaves, also where the call is refused; after an enquiry that
+ * says yes, exactly when it would accept them with the row.
+ *
+ * zorambi_begin takes the formula rows, by themselves, under the check. Whatever it answers and whatever was held or waited, no row
+ * is held and none waits after it: both tables, held, shown and waiting are all 0. So these five need no start of their own.
  * The number's counts are 0, and a refusal is one of the check's on formula rows.
  *
  * zorambi_add adds a node row at the end, with its set, which needs no place of its own: it follows the sets held. Before the row
@@ -192,27 +195,24 @@ uint64_t zorambi_join(const int32_t *schema_1, size_t schema_1_len, size_t schem
  * ZORAMBI_SET for its set's order or members, ZORAMBI_PARENT, ZORAMBI_CHILDREN if its parent has all the children that its rule
  * has, then ZORAMBI_DRAWN to ZORAMBI_LOWERED.
  *
- * zorambi_take_back takes the last row back; ZORAMBI_NO_ROW (place -1) if none is held. Both are lent waiting too, of which the
- * next paragraphs speak: where they succeed nothing waits.
+ * zorambi_take_back takes the last row back; ZORAMBI_NO_ROW (place -1) if none is held.
  *
  * zorambi_enquire asks about a row. It answers and shows what zorambi_add would, and leaves the tables and held as they are, past
- * the rows held too. A row about which it says yes waits in a further piece of lent memory, waiting: 1, its set's length, its
- * seven numbers, its set, and 0 past it; if it says no, nothing waits and waiting is all 0. waiting has to be all 0 at first, and
- * again after zorambi_begin, which is not lent it.
+ * the rows held too. A row about which it says yes waits in waiting: 1, its set's length, its seven numbers, its set, and 0 past it;
+ * if it says no, nothing waits and waiting is all 0.
  *
  * zorambi_commit adds the row that waits. After the rows held it looks whether a row waits at all, which is so if the first number
  * of waiting is 1 and the length is 0 to 1024; if not, ZORAMBI_WAITING (place -1). The row is then judged as by
  * zorambi_add, so that what something else wrote there gets its refusal.
  *
  * After an accepted zorambi_add, zorambi_take_back or zorambi_commit held is the new number of nodes and members, the tables are
- * 0 past these, shown is 1 exactly when zorambi_check accepts the rows held, the number has the nodes and links held, and nothing
- * waits: waiting is all 0. A refused one leaves the tables, held and waiting as they are, past the rows held too, but shown is
- * 0. */
+ * 0 past these, the number has the nodes and links held, and nothing waits: waiting is all 0. A refused one leaves the tables, held
+ * and waiting as they are, past the rows held too. */
 uint64_t zorambi_begin(const int32_t *schema, size_t schema_len, size_t schema_rows,
                        const int32_t *proof, size_t proof_len, size_t proof_rows,
                        int32_t root, int32_t least,
                        int32_t *nodes, size_t nodes_len, int32_t *members, size_t members_len,
-                       size_t held[2], int32_t shown[1]);
+                       size_t held[2], int32_t shown[1], int32_t waiting[1033]);
 uint64_t zorambi_add(const int32_t *schema, size_t schema_len, size_t schema_rows,
                      const int32_t *proof, size_t proof_len, size_t proof_rows,
                      int32_t root, int32_t least,
@@ -476,10 +476,10 @@ static inline uint64_t zorambi_c_join(const int32_t *schema_1, size_t schema_1_l
 static inline uint64_t zorambi_c_begin(const int32_t *schema, size_t schema_len, size_t schema_rows, const int32_t *proof,
                                        size_t proof_len, size_t proof_rows, int32_t root, int32_t least, int32_t *nodes,
                                        size_t nodes_len, int32_t *members, size_t members_len, size_t held[2],
-                                       int32_t shown[1]) {
+                                       int32_t shown[1], int32_t waiting[1033]) {
   return zorambi_begin(zorambi_numbers_of(schema, schema_len), schema_len, schema_rows, zorambi_numbers_of(proof, proof_len),
                        proof_len, proof_rows, root, least, zorambi_lent_numbers(nodes, nodes_len), nodes_len,
-                       zorambi_lent_numbers(members, members_len), members_len, held, shown);
+                       zorambi_lent_numbers(members, members_len), members_len, held, shown, waiting);
 }
 static inline uint64_t zorambi_c_add(const int32_t *schema, size_t schema_len, size_t schema_rows, const int32_t *proof,
                                      size_t proof_len, size_t proof_rows, int32_t root, int32_t least, int32_t *nodes,

@@ -14,10 +14,11 @@ static size_t held[2];
 
 static void print(const char *what, uint64_t packed) {
   unsigned answer = zorambi_answer(packed);
+  const char *tableau = shown[0] ? "closed" : "open";
   if (answer == ZORAMBI_ACCEPTED)
-    printf("%s: nodes %u, links %u, %s\n", what, zorambi_nodes(packed), zorambi_links(packed), shown[0] ? "closed" : "open");
+    printf("%s: nodes %u, links %u, %s\n", what, zorambi_nodes(packed), zorambi_links(packed), tableau);
   else
-    printf("%s: refused %u at %d\n", what, answer, zorambi_place(packed));
+    printf("%s: refused %u at %d, %s\n", what, answer, zorambi_place(packed), tableau);
 }
 
 /* up rule on with other to by, then the set. */
@@ -36,7 +37,7 @@ static void ask_and_commit(void) {
 }
 
 int main(void) {
-  print("begin", zorambi_begin(FORMULAS, TABLEAU));
+  print("begin", zorambi_begin(FORMULAS, TABLEAU, waiting));
   add(-1, 0, 4, -1, -1, -1, 0, 1, (const int32_t[]){4});
   add(0, 2, -1, -1, -1, -1, 0, 2, (const int32_t[]){2, 3});
   add(1, 7, 2, -1, -1, -1, 0, 2, (const int32_t[]){2, 3});

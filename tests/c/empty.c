@@ -340,7 +340,7 @@ static size_t held[2];
 static int32_t shown[1], waiting[1033];
 
 static uint64_t begin_clash(size_t rows) {
-  return zorambi_begin(clash_rows, 12, rows, NULL, 0, 0, 2, 0, nodes, 9216, members, 8192, held, shown);
+  return zorambi_begin(clash_rows, 12, rows, NULL, 0, 0, 2, 0, nodes, 9216, members, 8192, held, shown, waiting);
 }
 static uint64_t add_clash(const int32_t row[7], const int32_t *set, size_t set_len) {
   return zorambi_add(clash_rows, 12, 3, NULL, 0, 0, 2, 0, nodes, 9216, members, 8192, held, shown, row, set, set_len,
@@ -364,13 +364,15 @@ static void grow(void) {
   static const int32_t of_root[] = {2}, of_clash[] = {0, 1}, twice[] = {1, 1};
   memset(nodes, 7, sizeof nodes);
   memset(members, 7, sizeof members);
+  memset(waiting, 7, sizeof waiting);
   held[0] = held[1] = 7, shown[0] = 7;
   answers("a row too many to grow from", begin_clash(4), ZORAMBI_TABLE_TOO_SHORT, -1);
   holds("a row too many, nothing held", 0, 0, 0);
-  test("a row too many, memory", all_zero(nodes, 9216) && all_zero(members, 8192));
+  test("a row too many, memory", all_zero(nodes, 9216) && all_zero(members, 8192) && all_zero(waiting, 1033));
   memset(nodes, 7, sizeof nodes);
+  memset(waiting, 7, sizeof waiting);
   answers("rows to grow from", begin_clash(3), ZORAMBI_ACCEPTED, 0);
-  test("rows to grow from, memory", all_zero(nodes, 9216) && all_zero(members, 8192));
+  test("rows to grow from, memory", all_zero(nodes, 9216) && all_zero(members, 8192) && all_zero(waiting, 1033));
   answers("no row to take back", take_back_clash(), ZORAMBI_NO_ROW, -1);
   answers("a first row without its set", add_clash(clash_and, NULL, 0), ZORAMBI_PARENT, 0);
   holds("a first row refused", 0, 0, 0);
@@ -387,16 +389,17 @@ static void grow(void) {
   holds("closed", 2, 3, 1);
   answers("closed, and checked", zorambi_check(clash_rows, 12, 3, NULL, 0, 0, 2, 0, nodes, 9216, 2, members, 8192, 3), ZORAMBI_ACCEPTED, 0);
   answers("a child too many", add_clash(clash, of_clash, 2), ZORAMBI_CHILDREN, 2);
-  holds("a child too many, held", 2, 3, 0);
+  holds("a child too many, still closed", 2, 3, 1);
   members[2] = 2;
   answers("a set altered", take_back_clash(), ZORAMBI_FIELDS, 1);
+  holds("a set altered, not closed", 2, 3, 0);
   members[2] = 1;
   answers("taken back", take_back_clash(), ZORAMBI_ACCEPTED, 0);
   holds("taken back, held", 1, 1, 0);
   test("taken back, memory", all_zero(nodes + 9, 9207) && members[0] == 2 && all_zero(members + 1, 8191));
 
-  answers("nothing to grow from", zorambi_begin(NULL, 0, 0, NULL, 0, 0, 0, 0, NULL, 0, NULL, 0, held, shown), ZORAMBI_ROOT, -1);
-  answers("no tables to grow in", zorambi_begin(clash_rows, 12, 3, NULL, 0, 0, 2, 0, NULL, 0, NULL, 0, held, shown), ZORAMBI_ACCEPTED, 0);
+  answers("nothing to grow from", zorambi_begin(NULL, 0, 0, NULL, 0, 0, 0, 0, NULL, 0, NULL, 0, held, shown, waiting), ZORAMBI_ROOT, -1);
+  answers("no tables to grow in", zorambi_begin(clash_rows, 12, 3, NULL, 0, 0, 2, 0, NULL, 0, NULL, 0, held, shown, waiting), ZORAMBI_ACCEPTED, 0);
   answers("no room", zorambi_add(clash_rows, 12, 3, NULL, 0, 0, 2, 0, NULL, 0, NULL, 0, held, shown, clash_and, of_root, 1, waiting),
           ZORAMBI_ROOM, -1);
   answers("no rows and no tables", zorambi_take_back(NULL, 0, 0, NULL, 0, 0, 0, 0, NULL, 0, NULL, 0, held, shown, waiting),
@@ -440,6 +443,10 @@ static void enquire(void) {
   answers("added while a row waits", add_clash(clash, of_clash, 2), ZORAMBI_ACCEPTED, 0);
   test("added while a row waits, waiting", all_zero(waiting, 1033));
   holds("added while a row waits, held", 2, 3, 1);
+  answers("nothing waits, and closed", commit_clash(), ZORAMBI_WAITING, -1);
+  holds("nothing waits, still closed", 2, 3, 1);
+  answers("an enquiry about a child too many", enquire_clash(clash, of_clash, 2), ZORAMBI_CHILDREN, 2);
+  holds("an enquiry about a child too many, still closed", 2, 3, 1);
   answers("no tables, and nothing waits", zorambi_commit(NULL, 0, 0, NULL, 0, 0, 0, 0, NULL, 0, NULL, 0, held, shown, waiting),
           ZORAMBI_TABLE_TOO_SHORT, -1);
   answers("an enquiry without tables",

@@ -318,8 +318,9 @@ entry! {
 // A tableau that grows.
 
 entry! {
-    /// Takes the formula rows of a tableau that grows; no row is held after it. Held: nodes, members. Shown: 1 for
-    /// "closed".
+    /// Takes the formula rows of a tableau that grows; no row is held after it and none waits. Held: nodes, members.
+    /// Shown, after every call: 1 where the rows that it leaves are closed; after an enquiry that says yes, where they
+    /// would be with the row.
     begin = zorambi_begin(
         schema: &[i32],
         schema_rows: usize,
@@ -331,6 +332,7 @@ entry! {
         members: &mut [i32],
         held: &mut [usize; 2],
         shown: &mut [i32; 1],
+        waiting: &mut [i32; 1033],
     )
 }
 

@@ -84,7 +84,7 @@ impl Growing {
         let (nodes, members) = (vec![0; MAX_NODES * 9], vec![0; MAX_MEMBERS]);
         let (held, waiting, standing) = ([0; 2], [0; 1033], Standing::default());
         let mut growing = Growing { schema, rows, nodes, members, held, waiting, standing };
-        call!(begin, growing)?;
+        call!(begin, growing, &mut growing.waiting)?;
         Ok(growing)
     }
 

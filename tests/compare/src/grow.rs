@@ -51,7 +51,8 @@ impl Session {
     /// Memory of these lengths, all of it garbage.
     pub fn new(t: &Tables, lengths: [usize; 2]) -> Session {
         let [nodes, members] = lengths.map(|length| Lent::new(length, number).lend().to_vec());
-        Session::on(t, Memory { nodes, members, held: [5, usize::MAX], shown: -7, waiting: [0; WAITING] })
+        let waiting = Lent::new(WAITING, number).lend().try_into().expect("lent in its length");
+        Session::on(t, Memory { nodes, members, held: [5, usize::MAX], shown: -7, waiting })
     }
 
     pub fn on(t: &Tables, memory: Memory) -> Session {
@@ -91,7 +92,7 @@ impl Session {
             };
         }
         match call {
-            Call::Begin => put!(begin),
+            Call::Begin => put!(begin, waiting),
             Call::Add((row, set)) => put!(add, row, &exact(set), waiting),
             Call::TakeBack => put!(take_back, waiting),
             Call::Enquire((row, set)) => put!(enquire, row, &exact(set), waiting),
@@ -188,7 +189,7 @@ pub fn rows_of(t: &Tables) -> Vec<NodeRow> {
 
 const FULL: [usize; 2] = [9216, 8192];
 
-const KINDS: [&str; 63] = [
+const KINDS: [&str; 69] = [
     "formula rows, in memory with rubbish",
     "formula rows, accepted",
     "formula rows, refused",
@@ -252,6 +253,12 @@ const KINDS: [&str; 63] = [
     "a waiting row's length altered, another refusal",
     "a waiting row's numbers altered, a refusal",
     "numbers past a waiting row altered, accepted",
+    "an addition, refused, closed",
+    "an enquiry, refused, closed",
+    "a commit, refused, closed",
+    "rows held altered, closed no more",
+    "formula rows, accepted, while a row waits",
+    "formula rows, refused, while a row waits",
 ];
 
 /// What the last accepted call, or the last enquiry, did to the row that waits.
@@ -315,7 +322,10 @@ impl List {
             self.closed = self.session.memory().shown == 1;
         }
         match (call, accepted) {
-            (Call::Begin, _) => self.rows.clear(),
+            (Call::Begin, _) => {
+                self.rows.clear();
+                (self.pending, self.since) = (None, Since::Nothing);
+            }
             (Call::Enquire(row), true) => (self.pending, self.since) = (Some(row.clone()), Since::Enquiry),
             (Call::Enquire(_), false) => (self.pending, self.since) = (None, Since::Refused),
             (_, false) => {}
@@ -362,7 +372,6 @@ impl Comparison<'_> {
     fn count(&mut self, session: &Session, call: &Call, packed: u64, before: &Memory) {
         let kinds = &mut self.kinds;
         let ([nodes, members], answer, shown) = (before.held, answer(packed), session.memory().shown == 1);
-        kinds.count_if(shown, "closed is shown");
         match (call, answer) {
             (Call::Begin, 0) => kinds.count("formula rows, accepted"),
             (Call::Begin, _) => kinds.count("formula rows, refused"),
@@ -373,9 +382,17 @@ impl Comparison<'_> {
             (Call::Commit, 0) => kinds.count("a commit, accepted"),
             _ => {}
         }
-        kinds.count_if(shown && matches!(call, Call::Commit), "a commit, closed");
-        let closes = shown && matches!(call, Call::Enquire(_));
-        kinds.count_if(closes && before.shown == 0, "an enquiry, closed with the row and not without it");
+        if shown {
+            kinds.count("closed is shown");
+            match (call, answer) {
+                (Call::Enquire(_), 0) => kinds.count("an enquiry, closed with the row and not without it"),
+                (Call::Commit, 0) => kinds.count("a commit, closed"),
+                (Call::Add(_), 1..) => kinds.count("an addition, refused, closed"),
+                (Call::Enquire(_), 1..) => kinds.count("an enquiry, refused, closed"),
+                (Call::Commit, 1..) => kinds.count("a commit, refused, closed"),
+                _ => {}
+            }
+        }
         let at_row = place(packed) == nodes as i64 && !matches!(call, Call::TakeBack);
         match (answer, call) {
             (2, _) => kinds.count("refused, 2"),
@@ -404,6 +421,8 @@ impl Comparison<'_> {
         let kinds = &mut self.kinds;
         let waits = list.pending.is_some();
         match (call, answer(packed)) {
+            (Call::Begin, 0) => kinds.count_if(waits, "formula rows, accepted, while a row waits"),
+            (Call::Begin, _) => kinds.count_if(waits, "formula rows, refused, while a row waits"),
             (Call::Enquire(_), 0) => kinds.count_if(waits, "a row waits in place of another"),
             (Call::Add(_) | Call::TakeBack, 1..) => {
                 kinds.count_if(waits, "a row still waits after a refused addition or take-back")
@@ -471,9 +490,9 @@ fn stored(pending: &Option<NodeRow>) -> [i32; WAITING] {
     waiting
 }
 
-/// The rows held are those that the accepted calls leave, and the row waits that should; the counts are those of the rows
-/// held, or of those with the row enquired about, and "closed" is shown where the check accepts these, but not by a
-/// refused call.
+/// The rows held are those that the accepted calls leave, and the row waits that should; the counts of an accepted call are
+/// those of the rows held, or of those with the row that an enquiry said yes to, and "closed" is shown exactly where the
+/// check accepts these, by refused calls too.
 fn as_left(list: &List, call: &Call, accepted: bool, packed: u64) -> Result<(), String> {
     let [nodes, members] = tables_of(&list.rows);
     let memory = list.session.memory();
@@ -490,7 +509,7 @@ fn as_left(list: &List, call: &Call, accepted: bool, packed: u64) -> Result<(), 
         return Err("an accepted call leaves rubbish past the rows held".to_string());
     }
     let mut rows = list.rows.clone();
-    if let Call::Enquire(row) = call {
+    if let (Call::Enquire(row), true) = (call, accepted) {
         rows.push(row.clone());
     }
     let links = rows.iter().filter(|(row, _)| row[1] == 8).count();
@@ -498,7 +517,7 @@ fn as_left(list: &List, call: &Call, accepted: bool, packed: u64) -> Result<(), 
     if accepted && packed != counts {
         return Err(format!("{packed:#x} is not the counts of the rows spoken of, {counts:#x}"));
     }
-    let closed = accepted && list.session.check(&rows) == counts;
+    let closed = list.session.check(&rows) == counts;
     if memory.shown == i32::from(closed) {
         Ok(())
     } else {
@@ -759,6 +778,8 @@ pub fn test(tally: &mut Tally, run: &Run) {
     comparison.altered_by_hand();
     comparison.enquiries_by_hand();
     comparison.waiting_altered_by_hand();
+    comparison.closed_by_hand();
+    comparison.begun_again_by_hand();
     let rng = &mut Rng::new(run.seed);
     // Every row of each record in the longer runs.
     let last = if run.count < 1000 { 6 } else { usize::MAX };
@@ -996,6 +1017,49 @@ impl Comparison<'_> {
         self.expect(&mut list, &Call::TakeBack, (25, -1));
         self.expect(&mut list, &Call::Commit, (0, 0));
         self.close(list);
+    }
+
+    /// The paper's record held whole: refused calls show that it is closed, unless something else altered it.
+    fn closed_by_hand(&mut self) {
+        let t = paper();
+        let rows = rows_of(&t);
+        let (row, set) = rows[6].clone();
+        let calls = [
+            (Call::Add((row, set.clone())), (17, 7)),
+            (Call::Add((row, vec![9; 8192])), (24, -1)),
+            (Call::Enquire((row, set)), (17, 7)),
+            (Call::Commit, (26, -1)),
+        ];
+        for (call, expected) in &calls {
+            let mut list = List::holding("a closed tableau", &t, FULL, &rows);
+            self.expect(&mut list, call, *expected);
+            let shown = list.session.memory().shown;
+            self.tally.test(&list.what, fits(shown == 1, || format!("{}: {shown} is shown", about(call))));
+            // Node 2 has no rule.
+            let mut memory = list.session.memory().clone();
+            memory.nodes[19] = 9;
+            list.session.set_memory(memory);
+            let found = list.session.call(call).map(|packed| (answer(packed), place(packed)));
+            let found = (found, list.session.memory().shown);
+            let why = || format!("{}, altered: {found:?}", about(call));
+            self.tally.test(&list.what, fits(found == (Ok((12, 2)), 0), why));
+            self.kinds.count("rows held altered, closed no more");
+            self.close(list);
+        }
+    }
+
+    /// Formula rows while the paper's row 5 waits: it waits no more, whatever they are answered.
+    fn begun_again_by_hand(&mut self) {
+        let t = paper();
+        let rows = rows_of(&t);
+        for (root, begun, then) in [(t.root, (0, 0), (26, -1)), (0, (6, -1), (6, -1))] {
+            let mut list = List::holding("formula rows while a row waits", &t, FULL, &rows[..5]);
+            self.expect(&mut list, &Call::Enquire(rows[5].clone()), (0, 0));
+            list.session.given.root = root;
+            self.expect(&mut list, &Call::Begin, begun);
+            self.expect(&mut list, &Call::Commit, then);
+            self.close(list);
+        }
     }
 
     /// The paper's row 5 waits, and something else writes; the answers worked out by hand.

@@ -19,7 +19,8 @@ pub struct Given<'a> {
 pub const WAITING: usize = 2 + 7 + MAX_ROWS;
 
 /// The memory in which the rows held stand: the tables, how many nodes and members they hold, and 1 where "closed" is
-/// shown. And the row last enquired about, if it waits for a commit; all 0 if none does.
+/// shown: after every call, refused or not. And the row last enquired about, if it waits for a commit; all 0 if none
+/// does.
 #[derive(Clone, Debug, PartialEq, Eq)]
 pub struct Memory {
     pub nodes: Vec<i32>,
@@ -79,10 +80,11 @@ impl Memory {
     }
 }
 
-/// Formula rows are given, and no row is held, whatever the memory was and whatever is answered.
+/// Formula rows are given, no row is held and none waits, whatever the memory was and whatever is answered.
 pub fn begin(given: &Given, memory: &mut Memory) -> Verdict {
     memory.hold(0, 0);
     memory.shown = 0;
+    memory.waiting.fill(0);
     let Given { root, least, schema, schema_count, proof, proof_count } = *given;
     let long_enough = holds(schema.len(), schema_count, ROW_WIDTH) && holds(proof.len(), proof_count, ROW_WIDTH);
     let judged = if !long_enough {
@@ -122,7 +124,7 @@ pub fn add(given: &Given, memory: &mut Memory, row: &[i32; 7], set: &[i32]) -> V
     show(given, memory, judged)
 }
 
-/// Answers as adding would, and changes no row: a row that would be added waits, otherwise none does.
+/// Answers and shows as adding would, and changes no row: a row that would be added waits, otherwise none does.
 pub fn enquire(given: &Given, memory: &mut Memory, row: &[i32; 7], set: &[i32]) -> Verdict {
     let mut with_it = memory.clone();
     let verdict = add(given, &mut with_it, row, set);
@@ -164,9 +166,9 @@ fn without_last(given: &Given, memory: &Memory) -> Result<Verdict, Refusal> {
     Ok(Verdict::accepted(kept.nodes(), kept.links()))
 }
 
-/// "closed" where the call is accepted and the whole check accepts the rows held.
+/// "closed" where the whole check accepts the rows held, whatever the call is answered.
 fn show(given: &Given, memory: &mut Memory, judged: Result<Verdict, Refusal>) -> Verdict {
-    memory.shown = i32::from(judged.is_ok() && memory.closed(given));
+    memory.shown = i32::from(memory.closed(given));
     judged.unwrap_or_else(Verdict::refused)
 }
 
@@ -186,7 +188,7 @@ mod tests {
 
     /// Memory with rubbish in it, of these lengths.
     fn rubbish(nodes: usize, members: usize) -> Memory {
-        Memory { nodes: vec![-7; nodes], members: vec![7; members], held: [3, 5], shown: 7, waiting: [0; WAITING] }
+        Memory { nodes: vec![-7; nodes], members: vec![7; members], held: [3, 5], shown: 7, waiting: [1; WAITING] }
     }
 
     fn accepted(nodes: usize, links: usize) -> Verdict {
@@ -209,12 +211,17 @@ mod tests {
         memory
     }
 
-    /// The call is refused, and the memory is as it was but for what is shown.
-    fn leaves(memory: &Memory, expected: (u8, i32), call: impl FnOnce(&mut Memory) -> Verdict) {
+    /// The call is refused, the memory is as it was, and this is shown.
+    fn shows(shown: i32, memory: &Memory, expected: (u8, i32), call: impl FnOnce(&mut Memory) -> Verdict) {
         let mut after = memory.clone();
         after.shown = 7;
         assert_eq!(call(&mut after), refused(expected.0, expected.1));
-        assert_eq!(after, Memory { shown: 0, ..memory.clone() });
+        assert_eq!(after, Memory { shown, ..memory.clone() });
+    }
+
+    /// The same, where the rows held are open.
+    fn leaves(memory: &Memory, expected: (u8, i32), call: impl FnOnce(&mut Memory) -> Verdict) {
+        shows(0, memory, expected, call);
     }
 
     #[test]
@@ -249,7 +256,8 @@ mod tests {
         let wrong = |held: usize, expected: (u8, i32), row: [i32; 7], set: &[i32]| {
             let mut memory = grown(held);
             (memory.nodes[9 * held], memory.members[20]) = (5, 5);
-            leaves(&memory, expected, |memory| add(&GIVEN, memory, &row, set));
+            // With all seven the tableau is closed, and stays so.
+            shows(i32::from(held == 7), &memory, expected, |memory| add(&GIVEN, memory, &row, set));
         };
         wrong(0, (9, 0), NODES[0].0, &[9]);
         wrong(0, (10, 0), NODES[0].0, &[3]);
@@ -343,7 +351,7 @@ mod tests {
         let away = |expected: (u8, i32), given: Given| {
             let mut memory = rubbish(20, 3);
             assert_eq!(begin(&given, &mut memory), refused(expected.0, expected.1));
-            let waiting = memory.waiting;
+            let waiting = [0; WAITING];
             assert_eq!(memory, Memory { nodes: vec![0; 20], members: vec![0; 3], held: [0, 0], shown: 0, waiting });
         };
         away((2, -1), Given { schema_count: 6, ..GIVEN });
@@ -357,11 +365,37 @@ mod tests {
         away((27, 5), Given { proof: &[7, 0, 2, 0], proof_count: 1, ..GIVEN });
         let mut memory = rubbish(0, 0);
         assert_eq!(begin(&GIVEN, &mut memory), accepted(0, 0));
+        assert_eq!(memory.waiting, [0; WAITING]);
         leaves(&memory, (24, -1), |memory| add(&GIVEN, memory, &NODES[0].0, NODES[0].1));
-        // Formula rows are judged again with every call.
-        let mut memory = grown(7);
-        memory.shown = 7;
-        assert_eq!(take_back(&Given { least: 2, ..GIVEN }, &mut memory), refused(14, 2));
+        // Formula rows are judged again with every call; what is held is closed only under those that it was grown from.
+        leaves(&grown(7), (14, 2), |memory| take_back(&Given { least: 2, ..GIVEN }, memory));
+    }
+
+    #[test]
+    fn closed_after_refused_calls() {
+        let memory = grown(7);
+        let (row, set) = NODES[6];
+        shows(1, &memory, (17, 7), |memory| add(&GIVEN, memory, &row, set));
+        shows(1, &memory, (17, 7), |memory| enquire(&GIVEN, memory, &row, set));
+        shows(1, &memory, (26, -1), |memory| commit(&GIVEN, memory));
+        shows(1, &memory, (24, -1), |memory| add(&GIVEN, memory, &row, &[9; 8190]));
+        // Rows that something else altered are refused, and not closed.
+        let mut memory = memory;
+        memory.nodes[19] = 9;
+        leaves(&memory, (12, 2), |memory| add(&GIVEN, memory, &row, set));
+        leaves(&memory, (12, 2), |memory| take_back(&GIVEN, memory));
+        leaves(&memory, (12, 2), |memory| enquire(&GIVEN, memory, &row, set));
+        leaves(&memory, (12, 2), |memory| commit(&GIVEN, memory));
+    }
+
+    #[test]
+    fn formula_rows_end_a_wait() {
+        for given in [GIVEN, Given { root: 0, ..GIVEN }] {
+            let mut memory = grown(5);
+            says_yes(&mut memory, 6, 1, |memory| enquire(&GIVEN, memory, &NODES[5].0, NODES[5].1));
+            begin(&given, &mut memory);
+            assert_eq!(memory, grown(0));
+        }
     }
 
     /// The call is accepted.
