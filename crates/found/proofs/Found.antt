@@ -25,7 +25,7 @@ use Rattle.found.specs.declared.ModelFound.the-variants.{Model, None}
 use Rattle.found.proofs.Numbers.{first-found, first-none, numbered-length, numbered-mem, numbered-ascends, among-tests}
 use Rattle.found.proofs.Assignments.{numberOf, number-below, number-agrees, number-back, number-earlier}
 use Rattle.found.proofs.Tables.{model-front}
-use Rattle.found.proofs.Refusals.{find-clears, found-model, none-given, given-few}
+use Rattle.found.proofs.Refusals.{find-clears, found-model, none-searched, none-given, given-few}
 
 -- ---- every assignment is one of those that are tried
 
@@ -50,10 +50,10 @@ first-earliest Q ws h =
 
 -- ---- the answer
 
--- "'None' is given exactly when no assignment to all pairs at all indices makes it true at that n", where nothing is turned away
-pub none-exactly : (Q : Query) → findRefusal Q ≡ none → (find Q ≡ None) ↔ ((σ : Assignment) → truth σ (nat (Q .n)) (formula Q) ≡ false)
+-- where nothing is turned away
+searched-none : (Q : Query) → findRefusal Q ≡ none → (find Q ≡ None) ↔ ((σ : Assignment) → truth σ (nat (Q .n)) (formula Q) ≡ false)
 unfolding find foundBy modelOr
-none-exactly Q clear =
+searched-none Q clear =
     let searched : find Q ≡ modelOr (Q .n) (firstModel Q) = ap (λ (x : Option Verdict). foundBy x Q) clear in
     Iff·trans (λ h. sym searched ∙ h, λ h. searched ∙ h) (go (firstModel Q) refl)
   where
@@ -63,6 +63,13 @@ none-exactly Q clear =
       λ h. let z : _≡_ {A = ℕ} 0 1 = cc in absurd (omega arith),
       λ h. absurd (true≢false (sym (first-earliest Q ws e .0) ∙ h (among ws))),
     )
+
+-- "'None' is given exactly when no assignment to all pairs at all indices makes it true at that n": and nothing is turned away
+pub none-exactly : (Q : Query) → (find Q ≡ None) ↔ ((findRefusal Q ≡ none) × ((σ : Assignment) → truth σ (nat (Q .n)) (formula Q) ≡ false))
+none-exactly Q = (
+  λ h. let clear = none-searched Q h in (clear, searched-none Q clear .0 h),
+  λ k. searched-none Q (k .0) .1 (k .1),
+)
 
 -- "give the first assignment in that order that makes the schema true": the given pairs make it true, and no earlier assignment does
 pub nothing-earlier : (Q : Query) (n : ℤ) (k : ℕ) → find Q ≡ Model n k → (truth (among (given Q)) (nat (Q .n)) (formula Q) ≡ true) × ((τ : Assignment) → Earlier (wires Q) τ (among (given Q)) → truth τ (nat (Q .n)) (formula Q) ≡ false)

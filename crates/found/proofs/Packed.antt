@@ -18,7 +18,7 @@ use Rattle.stab.proofs.Packed.{number-range, near-packs, read-back}
 use Rattle.found.specs.Find.{Query, firstModel, findRefusal, modelOr, foundBy, find, foundNumbers, foundPacked}
 use Rattle.found.specs.declared.ModelFound.{ModelFound}
 use Rattle.found.specs.declared.ModelFound.the-variants.{Model, None, Refused as FindRefused}
-use Rattle.found.proofs.Refusals.{find-refuses, found-model, given-few}
+use Rattle.found.proofs.Refusals.{find-refuses, never-accepted, found-model, given-few}
 
 -- the verdict whose number it is: "given" stands where a check's number of nodes does
 abbrev pub asVerdict : ModelFound → Verdict
@@ -49,7 +49,7 @@ found-by-packs Q none h = go (firstModel Q)
     go : (x : Option (List Wire)) → Packs (asVerdict (modelOr (Q .n) x))
     go none = (omega arith, omega arith)
     go (some ws) = (omega arith, omega arith)
-found-by-packs Q (some (Accepted nodes links)) h = (omega arith, omega arith)
+found-by-packs Q (some (Accepted nodes links)) h = absurd (never-accepted (h (Accepted nodes links) refl))
 found-by-packs Q (some (Refused why p)) h =
     let r = h (Refused why p) refl in
     let same : p ≡ r .1 = cc (r .2) in

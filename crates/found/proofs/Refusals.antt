@@ -66,6 +66,12 @@ find-refuses Q =
     of-whole _ _ or-else
     of-whole _ _)
 
+pub never-accepted : {nodes links : ℕ} → IsRefused (Accepted nodes links) → ⊥
+never-accepted {nodes} {links} r =
+    let f : Accepted nodes links ≡ Refused _ _ = r .2 in
+    let z : _≡_ {A = ℕ} 0 1 = cc in
+    omega arith
+
 -- ---- what the answer says of the search
 
 by-search : (Q : Query) (n : ℤ) (k : ℕ) (x : Option (List Wire)) → modelOr (Q .n) x ≡ Model n k → (x ≡ some (modelPairs x)) × (n ≡ Q .n) × (k ≡ length (modelPairs x))
@@ -86,29 +92,26 @@ found-model Q n k h = go (findRefusal Q) h
 -- a refusal is answered exactly if it is found
 pub found-refused : (Q : Query) (why : Refusal) (p : Place) → (find Q ≡ FindRefused why p) ↔ (findRefusal Q ≡ some (Refused why p))
 unfolding find foundBy modelOr
-found-refused Q why p = (go (findRefusal Q), λ h. ap (λ (x : Option Verdict). foundBy x Q) h)
+found-refused Q why p = (go (findRefusal Q) (find-refuses Q), λ h. ap (λ (x : Option Verdict). foundBy x Q) h)
   where
     searched : (x : Option (List Wire)) → modelOr (Q .n) x ≡ FindRefused why p → ⊥
     searched none e = let z : _≡_ {A = ℕ} 0 1 = cc in omega arith
     searched (some ws) e = let z : _≡_ {A = ℕ} 0 1 = cc in omega arith
 
-    go : (x : Option Verdict) → foundBy x Q ≡ FindRefused why p → x ≡ some (Refused why p)
-    go none e = absurd (searched (firstModel Q) e)
-    go (some (Accepted nodes links)) e = let z : _≡_ {A = ℕ} 0 1 = cc in absurd (omega arith)
-    go (some (Refused w q)) e = cc
+    go : (x : Option Verdict) → ((v : Verdict) → x ≡ some v → IsRefused v) → foundBy x Q ≡ FindRefused why p → x ≡ some (Refused why p)
+    go none r e = absurd (searched (firstModel Q) e)
+    go (some (Accepted nodes links)) r e = absurd (never-accepted (r (Accepted nodes links) refl))
+    go (some (Refused w q)) r e = cc
 
 -- "none" is answered only after a search
 pub none-searched : (Q : Query) → find Q ≡ None → findRefusal Q ≡ none
 unfolding find foundBy
-none-searched Q h = go (findRefusal Q) (find-refuses Q) h
+none-searched Q h = go (findRefusal Q) h
   where
-    go : (x : Option Verdict) → ((v : Verdict) → x ≡ some v → IsRefused v) → foundBy x Q ≡ None → x ≡ none
-    go none r e = refl
-    go (some (Accepted nodes links)) r e =
-        let f : Accepted nodes links ≡ Refused _ _ = r (Accepted nodes links) refl .2 in
-        let z : _≡_ {A = ℕ} 0 1 = cc in
-        absurd (omega arith)
-    go (some (Refused why p)) r e = let z : _≡_ {A = ℕ} 0 1 = cc in absurd (omega arith)
+    go : (x : Option Verdict) → foundBy x Q ≡ None → x ≡ none
+    go none e = refl
+    go (some (Accepted nodes links)) e = let z : _≡_ {A = ℕ} 0 1 = cc in absurd (omega arith)
+    go (some (Refused why p)) e = let z : _≡_ {A = ℕ} 0 1 = cc in absurd (omega arith)
 
 -- no pair is given after a refusal
 pub none-given : (Q : Query) (v : Verdict) → givenBy (some v) Q ≡ []

@@ -16,6 +16,7 @@ use Rattle.stab.specs.Check.{wholeUnless, atUnless, holds, formulasRefusal}
 use Rattle.stab.specs.Occurs.{Wire, occurring, table}
 use Rattle.stab.specs.Text.{padded}
 use Rattle.stab.specs.Answer.{refusalNumber, placeNumber, oneNumber}
+use Rattle.stab.specs.declared.Place.the-variants.{Whole}
 use Rattle.stab.specs.declared.Refusal.the-variants.{TableTooShort, TooMany, Width, Wires}
 use Rattle.stab.specs.declared.Verdict.{Verdict}
 use Rattle.stab.specs.declared.Verdict.the-variants.{Accepted, Refused}
@@ -82,7 +83,8 @@ modelOr n (some ws) = Model n (length ws)
 unfoldable pub foundBy : Option Verdict → Query → ModelFound
 foundBy none Q = modelOr (Q .n) (firstModel Q)
 foundBy (some (Refused why p)) Q = FindRefused why p
-foundBy (some (Accepted nodes links)) Q = None
+-- no refusal is an acceptance
+foundBy (some (Accepted nodes links)) Q = FindRefused Wires Whole
 
 unfoldable pub find : Query → ModelFound
 find Q = foundBy (findRefusal Q) Q
