@@ -9,12 +9,12 @@ use lib.Dec.{leb}
 use lib.IntN.{ℤ, pos, negsuc, negℤ}
 use lib.ListN.{length, getD, take, drop, length-append, take-append-drop, drop-of-length-le, List·getD-append}
 use lib.Seq.{drop-cons, drop-at, getD-take, length-take-le}
-use borrow.Author.Tests.{leb-true}
+use borrow.Author.Tests.{leb-true, le-leb}
 use Rattle.stab.specs.Basic.{if_then_else_, _and_, eqZ, within, nat, below}
-use Rattle.stab.specs.Formula.{Row, rowAt, Kind, kindOf, tree, isBody, mixes, isOuter, offset, wellFormedAs, wellFormed}
+use Rattle.stab.specs.Formula.{Row, rowAt, Kind, constant, literal, junction, iteration, unknown, kindOf, Formula, tree, isBody, mixes, isOuter, offset, wellFormedAs, wellFormed}
 use Rattle.stab.proofs.Bools.{and-left, and-right, and-both}
 use Rattle.stab.proofs.Scans.{below-suc}
-use Rattle.stab.proofs.Trees.{below-nat, below-pos}
+use Rattle.stab.proofs.Trees.{below-nat, below-pos, tree-agrees}
 use Rattle.stab.proofs.Whole.{atom, num, of-le, eqZ-true, plus-nat, nat-pos, nonneg-minus}
 use Rattle.formula.proofs.RowLaws.{unknown-kind}
 use Rattle.small.specs.Small.{smallAs, isSmall, allSmall, onList, overEach, rowOf, literalRows, junctionRows, iterationRows, rowsFor, extendedAll, tables, filtered, smallTables}
@@ -270,3 +270,42 @@ listed-exactly n t = (
   λ m. let k = filtered-out (onList n) t (tables n) m in (table-length n t (listed-most n t (k .1)) (k .0), k .1),
   λ p. filtered-in (onList n) t (tables n) (table-in n t (p .0) (listed-rows n t (p .1))) (p .1),
 )
+
+-- ---- a table on the list that is the start of a longer one: its rows are judged the same
+
+module _ (rows rows′ : ℕ → Row) where
+  formed-carried : (r : ℕ) → ((a : ℕ) → a ≤ r → rows a ≡ rows′ a) → (w : Row) (k : Kind) → wellFormedAs rows r w k ≡ true → wellFormedAs rows′ r w k ≡ true
+  unfolding wellFormedAs
+  formed-carried r e w (constant v) h = h
+  formed-carried r e w (literal v) h = h
+  formed-carried r e w (junction o) h = subst (λ (f : Formula). (below r (w .a) and below r (w .b) and eqZ (w .c) (pos 0) and not (mixes f)) ≡ true) (tree-agrees rows rows′ r e) h
+  formed-carried r e w (iteration o) h =
+      let l = below-nat r (w .a) (and-left (below r (w .a)) _ h) in
+      subst (λ (f : Formula). (below r (w .a) and offset (w .b) and offset (w .c) and isBody f) ≡ true) (tree-agrees rows rows′ (nat (w .a)) (λ a k. e a (omega arith))) h
+  formed-carried r e w unknown h = h
+
+  small-carried : (r : ℕ) → ((a : ℕ) → a ≤ r → rows a ≡ rows′ a) → isSmall rows r ≡ true → isSmall rows′ r ≡ true
+  unfolding isSmall wellFormed
+  small-carried r e h =
+      subst (λ (w : Row). (wellFormedAs rows′ r w (kindOf (w .kind)) and smallAs w (kindOf (w .kind))) ≡ true) (e r (omega arith))
+      (and-both _ _
+      (formed-carried r e (rows r) (kindOf (rows r .kind)) (and-left _ _ h))
+      (and-right (wellFormedAs rows r (rows r) (kindOf (rows r .kind))) _ h))
+
+  all-carried : (n : ℕ) → ((a : ℕ) → a < n → rows a ≡ rows′ a) → allSmall rows n ≡ true → allSmall rows′ n ≡ true
+  unfolding allSmall
+  all-carried zero e h = refl
+  all-carried (suc n) e h =
+      and-both _ _
+      (all-carried n (λ a l. e a (omega arith)) (and-left _ _ h))
+      (small-carried n (λ a l. e a (omega arith)) (and-right (allSmall rows n) _ h))
+
+pub list-carried : (n : ℕ) (t : List ℤ) → onList n (take (4 * n) t) ≡ true → onList n t ≡ true
+unfolding onList
+list-carried n t h =
+    let u : List ℤ = take (4 * n) t in
+    let least = listed-least n u h in
+    let outer = subst (λ (f : Formula). isOuter f ≡ true) (tree-agrees (rowAt u) (rowAt t) (n - 1) (λ a l. row-of-start n a t (omega arith))) (listed-outer n u h) in
+    and-both _ _ (le-leb 1 n least)
+    (and-both _ _ (le-leb n 3 (listed-most n u h))
+    (and-both _ _ (all-carried (rowAt u) (rowAt t) n (λ a l. row-of-start n a t l) (listed-small n u h)) outer))

@@ -4,25 +4,27 @@ use native.Mathlib.Omega.{arith}
 use mathlib.Core.Path.{_≡_, refl, sym, _∙_, ap, ap₂, subst}
 use mathlib.Core.Logic.{_↔_, _⊎_, inl, inr, ⊎-elim}
 use mathlib.Core.Bool.{Bool, true, false, true≢false, false≢true}
-use mathlib.Core.List.{List, [], _∷_, _++_, append-nil, append-assoc, List·Memᴰ, List·Memᴰ·head, List·Memᴰ·tail, List·Memᴰ·cases-cons, List·Memᴰ·not-nil, Memᴰ·append-right}
+use mathlib.Core.List.{List, [], _∷_, _++_, append-assoc, List·Memᴰ, List·Memᴰ·head, List·Memᴰ·tail, List·Memᴰ·cases-cons, List·Memᴰ·not-nil, Memᴰ·append-right}
 use mathlib.Core.Option.{Option, none, some, Option·none-ne-some, Option·some-ne-none}
 use lib.Dec.{leb}
 use lib.IntN.{ℤ, pos}
-use lib.ListN.{length, take, replicate}
-use lib.Seq.{take-all}
+use lib.ListN.{length, take, replicate, length-take}
+use lib.Seq.{take-at}
 use borrow.Author.Tests.{le-leb}
 use Rattle.stab.specs.Basic.{if_then_else_, _and_, _or_, eqZ, within, nat, below}
 use Rattle.stab.specs.Formula.{rowAt, kindOf, baseOf, partIf, part, decode, treeN, tree, onIndex, loose, fixed, isBody, isOuter, mixes, offset, wellFormedAs, wellFormed}
 use Rattle.stab.specs.Check.{wholeUnless, holds}
 use Rattle.stab.specs.Text.{padded}
 use Rattle.stab.specs.declared.Verdict.{Verdict}
+use Rattle.stab.specs.declared.Verdict.the-variants.{Accepted, Refused}
 use Rattle.stab.proofs.Bools.{and-both, none-unless, otherwise-none, decide, if-true, if-false}
+use Rattle.stab.proofs.Texts.Outcomes.{padded-none}
 use Rattle.small.specs.Small.{smallAs, isSmall, allSmall, onList, tableBefore, overEach, rowOf, literalRows, junctionRows, iterationRows, rowsFor, extended, extendedAll, tables, filtered, smallTables, firstAfter, nextTable, nextRefusal, nextOr, nextBy, nextSmall, numbersOr, nextNumbers, nextSmallTable}
 use Rattle.small.specs.declared.NextSmall.{NextSmall}
 use Rattle.small.specs.declared.NextSmall.the-variants.{Table, Last}
 use Rattle.small.specs.Calls.{Ascends, NextIn, firstOf, given, calls}
 use Rattle.small.proofs.Order.{not-before-itself, not-both-before, small-ascends}
-use Rattle.small.proofs.Listed.{listed-exactly}
+use Rattle.small.proofs.Listed.{listed-exactly, list-carried}
 
 -- ---- the first of an ascending list that comes after a table
 
@@ -132,22 +134,27 @@ behind : (t : List ℤ) (us vs : List (List ℤ)) → Ascends (us ++ t ∷ vs) �
 behind t us vs a =
     skips t us (t ∷ vs) (after-front us vs t a) ∙ skips-itself t vs ∙ takes-first t vs (before-behind us vs t a)
 
-module _ (n : ℕ) (t : List ℤ) (us vs : List (List ℤ)) (e : smallTables n ≡ us ++ t ∷ vs) where
-  abbrev here : (length t ≡ 4 * n) × (onList n t ≡ true)
-  here = listed-exactly n t .0 (subst (List·Memᴰ t) (sym e) (Memᴰ·append-right us (List·Memᴰ·head refl)))
+-- each table on the list has n rows
+on-it : (n : ℕ) (u : List ℤ) (us vs : List (List ℤ)) → smallTables n ≡ us ++ u ∷ vs → (length u ≡ 4 * n) × (onList n u ≡ true)
+on-it n u us vs e = listed-exactly n u .0 (subst (List·Memᴰ u) (sym e) (Memᴰ·append-right us (List·Memᴰ·head refl)))
+
+-- a lent table that starts with one on the list
+module _ (n : ℕ) (t : List ℤ) (us vs : List (List ℤ)) (e : smallTables n ≡ us ++ take (4 * n) t ∷ vs) where
+  held : 4 * n ≤ length t
+  held = omega (arith, on-it n (take (4 * n) t) us vs e .0, length-take (4 * n) t)
 
   next-is : nextTable n t ≡ firstOf vs
   unfolding nextTable
   next-is =
-      ap₂ firstAfter (take-all (4 * n) t (omega (arith, here .0))) e
-      ∙ behind t us vs (subst Ascends e (small-ascends n))
+      ap (firstAfter (take (4 * n) t)) e
+      ∙ behind (take (4 * n) t) us vs (subst Ascends e (small-ascends n))
 
   module _ (room : ℕ) (l : 4 * n ≤ room) where
     not-refused : nextRefusal n t room ≡ none
     unfolding nextRefusal wholeUnless holds
     not-refused =
-        otherwise-none _ _ (none-unless _ _ (and-both _ _ (le-leb (4 * n) (length t) (omega (arith, here .0))) (le-leb (4 * n) room l)))
-        ∙ none-unless (onList n t) _ (here .1)
+        otherwise-none _ _ (none-unless _ _ (and-both _ _ (le-leb (4 * n) (length t) held) (le-leb (4 * n) room l)))
+        ∙ none-unless (onList n t) _ (list-carried n t (on-it n (take (4 * n) t) us vs e .1))
 
     -- from a table on the list with v behind it the next one is v
     pub call-is : nextSmall n t room ≡ nextOr (firstOf vs)
@@ -158,23 +165,26 @@ module _ (n : ℕ) (t : List ℤ) (us vs : List (List ℤ)) (e : smallTables n �
     unfolding nextSmallTable nextNumbers
     call-gives = ap₂ (λ (x : Option Verdict) (y : Option (List ℤ)). padded (pos 0) room (nextNumbers x y)) not-refused next-is
 
-padded-full : (m : ℕ) (u : List ℤ) → length u ≡ m → padded (pos 0) m u ≡ u
+padded-front : (m room : ℕ) (u : List ℤ) → length u ≡ m → take m (padded (pos 0) room u) ≡ u
 unfolding padded
-padded-full m u e =
-    let z : m - length u ≡ 0 = omega arith in
-    ap (λ (k : ℕ). u ++ replicate k (pos 0)) z ∙ append-nil u
+padded-front m room u e = take-at u _ m e
 
-calls-from : (n k : ℕ) (t : List ℤ) (us vs : List (List ℤ)) → smallTables n ≡ us ++ t ∷ vs → length vs ≤ k → calls n k t ≡ vs
+calls-from : (n : ℕ) (rooms : List ℕ) (t : List ℤ) (us vs : List (List ℤ)) → ((room : ℕ) → List·Memᴰ room rooms → 4 * n ≤ room)
+    → smallTables n ≡ us ++ take (4 * n) t ∷ vs → length vs ≤ length rooms → calls n rooms t ≡ vs
 unfolding calls given nextOr numbersOr
-calls-from n zero t us [] e l = refl
-calls-from n zero t us (v ∷ vs) e l = absurd (omega arith)
-calls-from n (suc k) t us [] e l =
-    ap (λ (r : NextSmall). given r (nextSmallTable n t (4 * n)) (calls n k (nextSmallTable n t (4 * n)))) (call-is n t us [] e (4 * n) (omega arith))
-calls-from n (suc k) t us (v ∷ vs) e l =
-    let e′ : smallTables n ≡ us ++ (t ∷ []) ++ v ∷ vs = e ∙ sym (append-assoc us (t ∷ []) (v ∷ vs)) in
-    let g : nextSmallTable n t (4 * n) ≡ v = call-gives n t us (v ∷ vs) e (4 * n) (omega arith) ∙ padded-full (4 * n) v (here n v (us ++ (t ∷ [])) vs e′ .0) in
-    ap₂ (λ (r : NextSmall) (u : List ℤ). given r u (calls n k u)) (call-is n t us (v ∷ vs) e (4 * n) (omega arith)) g
-    ∙ ap (λ (x : List (List ℤ)). v ∷ x) (calls-from n k v (us ++ (t ∷ [])) vs e′ (omega arith))
+calls-from n [] t us [] f e l = refl
+calls-from n [] t us (v ∷ vs) f e l = absurd (omega arith)
+calls-from n (room ∷ rooms) t us [] f e l =
+    ap (λ (r : NextSmall). given r (take (4 * n) (nextSmallTable n t room)) (calls n rooms (nextSmallTable n t room))) (call-is n t us [] e room (f room (List·Memᴰ·head refl)))
+calls-from n (room ∷ rooms) t us (v ∷ vs) f e l =
+    let h = f room (List·Memᴰ·head refl) in
+    let u : List ℤ = nextSmallTable n t room in
+    let before : List (List ℤ) = us ++ (take (4 * n) t ∷ []) in
+    let e′ : smallTables n ≡ before ++ v ∷ vs = e ∙ sym (append-assoc us (take (4 * n) t ∷ []) (v ∷ vs)) in
+    let g : take (4 * n) u ≡ v = ap (take (4 * n)) (call-gives n t us (v ∷ vs) e room h) ∙ padded-front (4 * n) room v (on-it n v before vs e′ .0) in
+    ap₂ (λ (r : NextSmall) (x : List ℤ). given r x (calls n rooms u)) (call-is n t us (v ∷ vs) e room h) g
+    ∙ ap (λ (x : List (List ℤ)). v ∷ x)
+    (calls-from n rooms u before vs (λ i m. f i (List·Memᴰ·tail m)) (e′ ∙ ap (λ (x : List ℤ). before ++ x ∷ vs) (sym g)) (omega arith))
 
 split-first : (us : List (List ℤ)) (t : List ℤ) → firstOf us ≡ some t → (vs : List (List ℤ)) × (us ≡ t ∷ vs)
 split-first [] t h = absurd (Option·none-ne-some t h)
@@ -190,22 +200,48 @@ first-zeros (suc (suc (suc zero))) l m = refl
 first-zeros (suc (suc (suc (suc n)))) l m = absurd (omega arith)
 
 -- "From the first table, which is all 0, repeated calls give every other such table of that length just one time": it and what the calls from it
--- give, as many as there are tables or more, are the list
-pub walk : (n k : ℕ) → 1 ≤ n → n ≤ 3 → length (smallTables n) ≤ k → replicate (4 * n) (pos 0) ∷ calls n k (replicate (4 * n) (pos 0)) ≡ smallTables n
-walk n k l m h =
-    let s = split-first (smallTables n) (replicate (4 * n) (pos 0)) (first-zeros n l m) in
-    let f : length (s .0) ≤ k = omega (arith, ap length (s .1)) in
-    ap (λ (x : List (List ℤ)). replicate (4 * n) (pos 0) ∷ x) (calls-from n k (replicate (4 * n) (pos 0)) [] (s .0) (s .1) f) ∙ sym (s .1)
+-- give, as many as there are tables or more, are the list; lent tables may be longer than their rows, each result table by as much as it is
+pub walk : (n : ℕ) (t : List ℤ) (rooms : List ℕ) → 1 ≤ n → n ≤ 3 → take (4 * n) t ≡ replicate (4 * n) (pos 0)
+    → ((room : ℕ) → List·Memᴰ room rooms → 4 * n ≤ room) → length (smallTables n) ≤ length rooms → take (4 * n) t ∷ calls n rooms t ≡ smallTables n
+walk n t rooms l m z f h =
+    let s = split-first (smallTables n) (take (4 * n) t) (first-zeros n l m ∙ ap some (sym z)) in
+    let k : length (s .0) ≤ length rooms = omega (arith, ap length (s .1)) in
+    ap (λ (x : List (List ℤ)). take (4 * n) t ∷ x) (calls-from n rooms t [] (s .0) f (s .1) k) ∙ sym (s .1)
 
 -- from each table on the list the next call gives the one behind it, 0 past its rows; from the last one it says "last", and "a result table of 0s"
-pub walk-step : (n room : ℕ) (t v : List ℤ) (us vs : List (List ℤ)) → smallTables n ≡ us ++ t ∷ v ∷ vs → 4 * n ≤ room
+pub walk-step : (n room : ℕ) (t v : List ℤ) (us vs : List (List ℤ)) → smallTables n ≡ us ++ take (4 * n) t ∷ v ∷ vs → 4 * n ≤ room
     → (nextSmall n t room ≡ Table) × (nextSmallTable n t room ≡ padded (pos 0) room v)
 unfolding nextOr numbersOr
 walk-step n room t v us vs e l = (call-is n t us (v ∷ vs) e room l, call-gives n t us (v ∷ vs) e room l)
 
-pub walk-last : (n room : ℕ) (t : List ℤ) (us : List (List ℤ)) → smallTables n ≡ us ++ t ∷ [] → 4 * n ≤ room
+pub walk-last : (n room : ℕ) (t : List ℤ) (us : List (List ℤ)) → smallTables n ≡ us ++ take (4 * n) t ∷ [] → 4 * n ≤ room
     → (nextSmall n t room ≡ Last) × (nextSmallTable n t room ≡ replicate room (pos 0))
-unfolding nextOr numbersOr padded
-walk-last n room t us e l =
-    let z : room - 0 ≡ room = omega arith in
-    (call-is n t us [] e room l, call-gives n t us [] e room l ∙ ap (λ (k : ℕ). replicate k (pos 0)) z)
+unfolding nextOr numbersOr
+walk-last n room t us e l = (call-is n t us [] e room l, call-gives n t us [] e room l ∙ padded-none (pos 0) room)
+
+-- ---- the answer
+
+-- "or "last"": exactly if nothing is turned away and nothing on the list comes after the given table
+pub last-exactly : (n : ℕ) (t : List ℤ) (room : ℕ) → (nextSmall n t room ≡ Last)
+    ↔ ((nextRefusal n t room ≡ none) × ((v : List ℤ) → List·Memᴰ v (smallTables n) → tableBefore (take (4 * n) t) v ≡ false))
+unfolding nextSmall nextBy nextOr
+last-exactly n t room =
+    (λ h. let s = go (nextRefusal n t room) (nextTable n t) h in (s .0, next-none n t .0 (s .1)), λ k. ap₂ nextBy (k .0) (next-none n t .1 (k .1)))
+  where
+    go : (x : Option Verdict) (y : Option (List ℤ)) → nextBy x y ≡ Last → (x ≡ none) × (y ≡ none)
+    go none none h = (refl, refl)
+    go none (some u) h = let z : _≡_ {A = ℕ} 0 1 = cc in absurd (omega arith)
+    go (some (Accepted nodes links)) y h = let z : _≡_ {A = ℕ} 0 1 = cc in absurd (omega arith)
+    go (some (Refused why p)) y h = let z : _≡_ {A = ℕ} 0 1 = cc in absurd (omega arith)
+
+-- "Lent result memory is then all 0": after a refusal
+pub refused-zeros : (n : ℕ) (t : List ℤ) (room : ℕ) (v : Verdict) → nextRefusal n t room ≡ some v → nextSmallTable n t room ≡ replicate room (pos 0)
+unfolding nextSmallTable nextNumbers
+refused-zeros n t room v h = ap (λ (x : Option Verdict). padded (pos 0) room (nextNumbers x (nextTable n t))) h ∙ padded-none (pos 0) room
+
+-- "'last' and a result table of 0s"
+pub last-zeros : (n : ℕ) (t : List ℤ) (room : ℕ) → nextSmall n t room ≡ Last → nextSmallTable n t room ≡ replicate room (pos 0)
+unfolding nextSmallTable nextNumbers numbersOr
+last-zeros n t room h =
+    let s = last-exactly n t room .0 h in
+    ap₂ (λ (x : Option Verdict) (y : Option (List ℤ)). padded (pos 0) room (nextNumbers x y)) (s .0) (next-none n t .1 (s .1)) ∙ padded-none (pos 0) room

@@ -1,10 +1,11 @@
 -- 02, No. 14: what is promised of the list and of repeated calls.
-use Prim.Native.Nat.{ℕ, zero, suc, _*_}
+use Prim.Native.Nat.{ℕ, _*_}
 use mathlib.Core.Path.{_≡_}
 use mathlib.Core.Bool.{true}
 use mathlib.Core.List.{List, [], _∷_, List·Memᴰ}
 use mathlib.Core.Option.{Option, none, some}
 use lib.IntN.{ℤ}
+use lib.ListN.{take}
 use Rattle.small.specs.Small.{tableBefore, nextSmall, nextSmallTable}
 use Rattle.small.specs.declared.NextSmall.{NextSmall}
 use Rattle.small.specs.declared.NextSmall.the-variants.{Table, Last, Refused as NextRefused}
@@ -30,8 +31,8 @@ given Table u us = u ∷ us
 given Last u us = []
 given (NextRefused why p) u us = []
 
--- "From the first table .. repeated calls": the tables of n rows that at most k calls give one after another, each called with the table
--- that the call before it gave and a result table of just that length, up to the first call that gives none
-unfoldable pub calls : ℕ → ℕ → List ℤ → List (List ℤ)
-calls n zero t = []
-calls n (suc k) t = given (nextSmall n t (4 * n)) (nextSmallTable n t (4 * n)) (calls n k (nextSmallTable n t (4 * n)))
+-- "From the first table .. repeated calls": the tables of n rows that calls give one after another, with a result table of each of these
+-- lengths in turn and from the result table of the call before, up to the first call that gives none
+unfoldable pub calls : ℕ → List ℕ → List ℤ → List (List ℤ)
+calls n [] t = []
+calls n (room ∷ rooms) t = given (nextSmall n t room) (take (4 * n) (nextSmallTable n t room)) (calls n rooms (nextSmallTable n t room))

@@ -12,6 +12,7 @@ use Rattle.stab.specs.Formula.{Row, rowAt, Kind, kindOf, constant, literal, jun
 use Rattle.stab.specs.Check.{wholeUnless, holds}
 use Rattle.stab.specs.Text.{padded}
 use Rattle.stab.specs.Answer.{refusalNumber, placeNumber, oneNumber}
+use Rattle.stab.specs.declared.Place.the-variants.{Whole}
 use Rattle.stab.specs.declared.Refusal.the-variants.{TableTooShort, NotListed}
 use Rattle.stab.specs.declared.Verdict.{Verdict}
 use Rattle.stab.specs.declared.Verdict.the-variants.{Accepted, Refused}
@@ -127,7 +128,7 @@ unfoldable pub nextBy : Option Verdict → Option (List ℤ) → NextSmall
 nextBy none next = nextOr next
 nextBy (some (Refused why p)) next = NextRefused why p
 -- no refusal is an acceptance
-nextBy (some (Accepted nodes links)) next = Last
+nextBy (some (Accepted nodes links)) next = NextRefused NotListed Whole
 
 unfoldable pub nextSmall : ℕ → List ℤ → ℕ → NextSmall
 nextSmall n t room = nextBy (nextRefusal n t room) (nextTable n t)
