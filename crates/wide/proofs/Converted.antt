@@ -19,6 +19,7 @@ use Rattle.stab.specs.declared.Verdict.{Verdict}
 use Rattle.stab.specs.declared.Verdict.the-variants.{Accepted}
 use Rattle.stab.proofs.Trees.{tree-agrees}
 use Rattle.stab.proofs.Soundness.{sound, sound-older}
+use Rattle.stab.proofs.Texts.Outcomes.{padded-none}
 use Rattle.wide.specs.WideFormula.{wideTree}
 use Rattle.wide.specs.WideMeaning.{wideTruth}
 use Rattle.wide.specs.Plain.{constantRow, row}
@@ -37,6 +38,11 @@ padded-length n t h =
 count-length : (W : WideSchema) → length (plainTable W) ≡ 4 * plainCount W
 unfolding plainTable plainCount
 count-length W = columns-length _
+
+-- "Lent result memory is then all 0": after a refusal
+pub refused-zeros : (W : WideSchema) (v : Verdict) → convertRefusal W ≡ some v → convertedTable W ≡ replicate (W .room) (pos 0)
+unfolding convertedTable convertedTableBy
+refused-zeros W v h = ap (λ (x : Option Verdict). convertedTableBy x W) h ∙ padded-none (pos 0) (W .room)
 
 -- the lent table keeps its length
 pub converted-length : (W : WideSchema) → length (convertedTable W) ≡ W .room
