@@ -12,6 +12,7 @@ ghost use Rattle.stab.specs.Formula.{joined, tree, loose};
 ghost use Rattle.stab.specs.Node.{nodeAt, set, setOf};
 ghost use Rattle.stab.specs.Rule.{isLowered, hasLowered};
 ghost use Rattle.classes.specs.Class.{Ready};
+ghost use Rattle.classes.specs.Agreed.{Remembers};
 ghost use Rattle.branch.specs.Lent.{lent, SetOfRows};
 
 // The first place from lo up to hi in the set of node j at which row z stands, lowered by k; hi where it stands at none.
@@ -27,19 +28,22 @@ fn place(
     z: usize,
     lo: usize,
     hi: usize,
+    agreed: &mut [u32],
 ) -> usize
     requires { ⌜ (j < 2 ^ 32) × (z < t .schema + t .proof) × (lo ≤ hi) × (hi ≤ nat (nodeAt (now nodes) j .size)) ⌝ }
     requires { ⌜ Ready (joined (now schema) (t .schema) (now proof)) (now forms) (t .schema + t .proof) ⌝ }
     requires { ⌜ loose (tree (joined (now schema) (t .schema) (now proof)) z) ≡ false ⌝ }
     requires { ⌜ SetOfRows (joined (now schema) (t .schema) (now proof)) (now nodes) (now members) (t .schema + t .proof) j ⌝ }
+    requires { ⌜ Remembers (joined (now schema) (t .schema) (now proof)) (now agreed) × (t .schema + t .proof ≤ length (now agreed)) ⌝ }
     ensures { λ r. ⌜ (r < hi → isLowered (lent (now (schema .entry)) (now (proof .entry)) (now (nodes .entry)) (now (members .entry)) t) k (pos z) (getD (setOf (now (members .entry)) (nodeAt (now (nodes .entry)) j)) r (pos 0)) ≡ true) ⌝ }
     ensures { λ r. ⌜ (hi ≤ r → (i : ℕ) → lo ≤ i → i < hi → isLowered (lent (now (schema .entry)) (now (proof .entry)) (now (nodes .entry)) (now (members .entry)) t) k (pos z) (getD (setOf (now (members .entry)) (nodeAt (now (nodes .entry)) j)) i (pos 0)) ≡ false) ⌝ }
+    ensures { λ _. ⌜ Remembers (joined (now (schema .entry)) (t .schema) (now (proof .entry))) (now (agreed .exit)) ⌝ }
 {
     let start = node::natural_of(nodes, j, node::START);
     let mut i = lo;
     while i < hi {
         let x = signed::natural_at(members, start + i);
-        if compare::is_lowered(schema, t.schema, proof, forms, k, z, x) {
+        if compare::is_lowered(schema, t.schema, proof, forms, k, z, x, agreed) {
             return i;
         }
         i += 1;
@@ -60,20 +64,49 @@ fn partner(
     k: i32,
     z: usize,
     from: usize,
+    agreed: &mut [u32],
 ) -> usize
     requires { ⌜ (j < 2 ^ 32) × (z < t .schema + t .proof) × (from ≤ nat (nodeAt (now nodes) j .size)) ⌝ }
     requires { ⌜ Ready (joined (now schema) (t .schema) (now proof)) (now forms) (t .schema + t .proof) ⌝ }
     requires { ⌜ loose (tree (joined (now schema) (t .schema) (now proof)) z) ≡ false ⌝ }
     requires { ⌜ SetOfRows (joined (now schema) (t .schema) (now proof)) (now nodes) (now members) (t .schema + t .proof) j ⌝ }
+    requires { ⌜ Remembers (joined (now schema) (t .schema) (now proof)) (now agreed) × (t .schema + t .proof ≤ length (now agreed)) ⌝ }
     ensures { λ r. ⌜ (r < nat (nodeAt (now (nodes .entry)) j .size) → true ≡ hasLowered (lent (now (schema .entry)) (now (proof .entry)) (now (nodes .entry)) (now (members .entry)) t) k (set (lent (now (schema .entry)) (now (proof .entry)) (now (nodes .entry)) (now (members .entry)) t) j) (pos z)) ⌝ }
     ensures { λ r. ⌜ (nat (nodeAt (now (nodes .entry)) j .size) ≤ r → false ≡ hasLowered (lent (now (schema .entry)) (now (proof .entry)) (now (nodes .entry)) (now (members .entry)) t) k (set (lent (now (schema .entry)) (now (proof .entry)) (now (nodes .entry)) (now (members .entry)) t) j) (pos z)) ⌝ }
+    ensures { λ _. ⌜ Remembers (joined (now (schema .entry)) (t .schema) (now (proof .entry))) (now (agreed .exit)) ⌝ }
 {
     let size = node::natural_of(nodes, j, node::SIZE);
-    let after = place(schema, proof, nodes, members, forms, t, j, k, z, from, size);
+    let after = place(
+        schema,
+        proof,
+        nodes,
+        members,
+        forms,
+        t,
+        j,
+        k,
+        z,
+        from,
+        size,
+        agreed,
+    );
     if after < size {
         return after;
     }
-    let before = place(schema, proof, nodes, members, forms, t, j, k, z, 0, from);
+    let before = place(
+        schema,
+        proof,
+        nodes,
+        members,
+        forms,
+        t,
+        j,
+        k,
+        z,
+        0,
+        from,
+        agreed,
+    );
     if before < from {
         return before;
     }
@@ -128,12 +161,15 @@ pub fn all_lowered(
     j: usize,
     to: usize,
     k: i32,
+    agreed: &mut [u32],
 ) -> bool
     requires { ⌜ (j < 2 ^ 32) × (to < 2 ^ 32) ⌝ }
     requires { ⌜ Ready (joined (now schema) (t .schema) (now proof)) (now forms) (t .schema + t .proof) ⌝ }
     requires { ⌜ SetOfRows (joined (now schema) (t .schema) (now proof)) (now nodes) (now members) (t .schema + t .proof) j ⌝ }
     requires { ⌜ SetOfRows (joined (now schema) (t .schema) (now proof)) (now nodes) (now members) (t .schema + t .proof) to ⌝ }
+    requires { ⌜ Remembers (joined (now schema) (t .schema) (now proof)) (now agreed) × (t .schema + t .proof ≤ length (now agreed)) ⌝ }
     ensures { λ r. ⌜ r ≡ allOf (hasLowered (lent (now (schema .entry)) (now (proof .entry)) (now (nodes .entry)) (now (members .entry)) t) k (set (lent (now (schema .entry)) (now (proof .entry)) (now (nodes .entry)) (now (members .entry)) t) j)) (set (lent (now (schema .entry)) (now (proof .entry)) (now (nodes .entry)) (now (members .entry)) t) to) ⌝ }
+    ensures { λ _. ⌜ Remembers (joined (now (schema .entry)) (t .schema) (now (proof .entry))) (now (agreed .exit)) ⌝ }
 {
     let size = node::natural_of(nodes, to, node::SIZE);
     let width = node::natural_of(nodes, j, node::SIZE);
@@ -142,7 +178,19 @@ pub fn all_lowered(
     let mut i: usize = 0;
     while i < size {
         let z = signed::natural_at(members, start + i);
-        let found = partner(schema, proof, nodes, members, forms, t, j, k, z, from);
+        let found = partner(
+            schema,
+            proof,
+            nodes,
+            members,
+            forms,
+            t,
+            j,
+            k,
+            z,
+            from,
+            agreed,
+        );
         if width <= found {
             return false;
         }

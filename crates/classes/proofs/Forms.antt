@@ -35,11 +35,11 @@ module _ (z : ℤ) (c : ℤ) where
   unfolding within baseOf
   base-nothing h e = if-true _ _ _ (eqZ-of z (pos 0) (sym (nat-pos z (and-left _ _ h)) ∙ ap pos e))
 
-  base-other : (nat z ≡ 0 → ⊥) → baseOf z ≡ (if eqZ z (pos 1) then parameter else index)
+  pub base-other : (nat z ≡ 0 → ⊥) → baseOf z ≡ (if eqZ z (pos 1) then parameter else index)
   unfolding baseOf nat
   base-other h = if-false _ _ _ (eqZ-not z (pos 0) (λ e. h (ap nat e)))
 
-  pub off-other : (nat z ≡ 0 → ⊥) → offLit (baseOf z) c ≡ some c
+  off-other : (nat z ≡ 0 → ⊥) → offLit (baseOf z) c ≡ some c
   unfolding offLit if_then_else_
   off-other h = ap (λ (x : Base). offLit x c) (base-other h) ∙ go (eqZ z (pos 1))
     where
@@ -57,7 +57,7 @@ module _ (z : ℤ) (c : ℤ) where
 
 -- ---- a row's numbers
 
-pub literal-off : (rows : ℕ → Row) (r : ℕ) (v : Bool) → kindOf (rows r .kind) ≡ literal v → off (tree rows r) ≡ offLit (baseOf (rows r .b)) (rows r .c)
+literal-off : (rows : ℕ → Row) (r : ℕ) (v : Bool) → kindOf (rows r .kind) ≡ literal v → off (tree rows r) ≡ offLit (baseOf (rows r .b)) (rows r .c)
 unfolding off
 literal-off rows r v e = ap off (tree-literal rows r v e)
 

@@ -17,7 +17,7 @@ use Rattle.stab.proofs.Scans.{below-suc}
 use Rattle.formula.specs.Facts.{AllFormed}
 use Rattle.formula.proofs.SpreadLaws.{spread-small}
 use Rattle.classes.specs.Class.{akin, classOf, Worked}
-use Rattle.classes.specs.Key.{lowOf, highOf, formOf, hashOf, hashAt, latest, Listed, Done, formsWith, sidesWith}
+use Rattle.classes.specs.Key.{lowOf, highOf, formOf, hashOf, hashAt, latest, Listed, Done, formsWith, sidesWith, formsAfter, sidesAfter, headsAfter}
 use Rattle.classes.specs.declared.form.Form.{Form}
 use Rattle.classes.proofs.Least.{class-same, class-new}
 use Rattle.classes.proofs.Keys.{key-akin, akin-key}
@@ -258,8 +258,8 @@ module _ (rows : ℕ → Row) (forms sides heads : List ℕ) (r : ℕ) (f : Form
           high = getD-set-same sides₁ (2 * r + 1) (f .high) 0 (simp length-set (omega arith)) ∙ ap (λ (g : Form). g .high) ef;
         }
 
-    heads-more : (x : ℕ) → x < 2048 → getD (set heads h (r + 1)) x 0 ≡ latest rows x (suc r)
-    heads-more x l =
+    latest-more : (x : ℕ) → x < 2048 → getD (set heads h (r + 1)) x 0 ≡ latest rows x (suc r)
+    latest-more x l =
         ⊎-elim
         (λ t.
         let e = eqb-true x h t in
@@ -286,7 +286,7 @@ module _ (rows : ℕ → Row) (forms sides heads : List ℕ) (r : ℕ) (f : Form
         (record {
           worked = each-more worked-before worked-here;
           listed = each-more listed-before listed-here;
-          latest-of = λ x l. heads-more x l ∙ ap (latest rows x) (sym (add-one r));
+          latest-of = λ x l. latest-more x l ∙ ap (latest rows x) (sym (add-one r));
         })))
 
 -- no row yet
@@ -294,3 +294,17 @@ pub done-none : (rows : ℕ → Row) (forms sides heads : List ℕ) → ((h : �
 unfolding latest
 done-none rows forms sides heads z =
     record { worked = λ a l. absurd (omega arith); listed = λ a l. absurd (omega arith); latest-of = z }
+
+-- the tables after one row more, by those before it
+module _ (rows : ℕ → Row) (t : List ℕ) (r : ℕ) {u w : List ℕ} where
+  pub forms-more : u ≡ formsAfter rows t r → w ≡ formsWith u r (classOf rows r) (formOf rows r) (latest rows (hashAt rows r) r) → w ≡ formsAfter rows t (r + 1)
+  unfolding formsAfter
+  forms-more p q = q ∙ ap (λ (x : List ℕ). formsWith x r (classOf rows r) (formOf rows r) (latest rows (hashAt rows r) r)) p ∙ ap (formsAfter rows t) (sym (add-one r))
+
+  pub sides-more : u ≡ sidesAfter rows t r → w ≡ sidesWith u r (formOf rows r) → w ≡ sidesAfter rows t (r + 1)
+  unfolding sidesAfter
+  sides-more p q = q ∙ ap (λ (x : List ℕ). sidesWith x r (formOf rows r)) p ∙ ap (sidesAfter rows t) (sym (add-one r))
+
+  pub heads-more : u ≡ headsAfter rows t r → w ≡ set u (hashAt rows r) (r + 1) → w ≡ headsAfter rows t (r + 1)
+  unfolding headsAfter
+  heads-more p q = q ∙ ap (λ (x : List ℕ). set x (hashAt rows r) (r + 1)) p ∙ ap (headsAfter rows t) (sym (add-one r))

@@ -1,4 +1,4 @@
--- Two well-formed rows have the same key exactly if they are akin; and the leading part of an and or an or has its shift.
+-- Two well-formed rows have the same key exactly if they are akin; then leading parts meet, and so do the others.
 use Prim.Native.Nat.{ℕ, _+_, _*_, _≤_, _<_}
 use native.Mathlib.Omega.{arith}
 use mathlib.Core.Path.{_≡_, refl, sym, _∙_, ap, ap₂, subst}
@@ -7,7 +7,7 @@ use mathlib.Core.Bool.{Bool, true, false}
 use mathlib.Core.Option.{Option, none, some}
 use lib.Dec.{leb}
 use lib.IntN.{ℤ, pos}
-use borrow.Author.Tests.{leb-true, leb-false}
+use borrow.Author.Tests.{eq-eqb, ne-eqb, leb-true, leb-false}
 use Rattle.stab.specs.Basic.{if_then_else_, _and_, within, nat}
 use Rattle.stab.specs.Formula.{Row, Op, Kind, constant, literal, junction, iteration, unknown, kindOf, Base, nothing, parameter, index, Formula, const, lit, join, iter, tree, fixed, offset}
 use Rattle.stab.specs.Alike.{lowerBase, lower, instance, instanceLit, eqOp, alike}
@@ -17,11 +17,11 @@ use Rattle.stab.proofs.Whole.{atom, num, _⊕_, _⊖_, less, eq-of, eqZ-true, e
 use Rattle.stab.proofs.Decoded.{tree-constant, tree-literal, tree-junction, tree-iteration}
 use Rattle.stab.proofs.Alikes.{eqOp-refl, alike-refl, alike-tests, lower-zero}
 use Rattle.formula.specs.Facts.{AllFormed}
-use Rattle.classes.specs.Class.{ground, lesser, offLit, off, orZero, level, akin, classOf, shiftCode, shiftOf, partCode, leftCode, rightCode, leadAs, leadOf}
+use Rattle.classes.specs.Class.{ground, lesser, offLit, off, orZero, level, akin, classOf, shiftCode, shiftOf, partCode, leftCode, rightCode, leadAs, leadOf, besides, otherOf}
 use Rattle.classes.specs.Key.{addedOf, lowAs, highAs, lowOf, highOf, smaller}
-use Rattle.classes.proofs.Slides.{down, alike-off, alike-ground, bodies-back, shifts-fit, alike-akin, akin-alike, lesser-comm}
+use Rattle.classes.proofs.Slides.{down, alike-off, alike-ground, bodies-back, lesser-none, shifts-fit, alike-akin, akin-alike}
 use Rattle.classes.proofs.Least.{akin-refl, class-small, class-same, class-akin}
-use Rattle.classes.proofs.Shifts.{Part, over, offset-stands, stands-same, lesser-code, smaller-below, overs-fit, fit-overs, lowest, coded-same}
+use Rattle.classes.proofs.Shifts.{Part, offset-stands, stands-same, lesser-code, smaller-below, overs-fit, fit-overs, coded-same}
 use Rattle.classes.proofs.ByKind.{known, has-shift, akin-kinds, numbers-same, kinds-same, symbol-within, added-offset, left-less, right-less, off-junction, body-less, body-fixed, first-offset}
 
 -- ---- literals
@@ -76,7 +76,7 @@ module _ (v : Bool) (s t : ℤ) where
   literals-akin index parameter c d p q e h = on-zero _ _ e (eq-of ((atom c ⊖ num 0) ⊖ atom c) (atom d ⊖ atom d) (omega arith))
   literals-akin index index c d p q e h = on-zero _ _ e (eq-of ((atom c ⊖ num 0) ⊖ atom c) ((atom d ⊖ num 0) ⊖ atom d) (omega arith))
 
-symbols-same : (s t : ℤ) → within (pos 0) (pos 255) s ≡ true → within (pos 0) (pos 255) t ≡ true → nat s ≡ nat t → s ≡ t
+pub symbols-same : (s t : ℤ) → within (pos 0) (pos 255) s ≡ true → within (pos 0) (pos 255) t ≡ true → nat s ≡ nat t → s ≡ t
 unfolding within
 symbols-same s t p q e = sym (nat-pos s (and-left _ _ p)) ∙ ap pos e ∙ nat-pos t (and-left _ _ q)
 
@@ -134,7 +134,7 @@ alike-joins o f g h k e =
     (λ p. inr (and-left _ _ p, and-right (alike f k) _ p))
     (or-cases (alike f h and alike g k) _ (and-right (eqOp o o) _ e))
 
-joins-alike : (o : Op) (f g h k : Formula) → ((alike f h ≡ true) × (alike g k ≡ true)) ⊎ ((alike f k ≡ true) × (alike g h ≡ true)) → alike (join o f g) (join o h k) ≡ true
+pub joins-alike : (o : Op) (f g h k : Formula) → ((alike f h ≡ true) × (alike g k ≡ true)) ⊎ ((alike f k ≡ true) × (alike g h ≡ true)) → alike (join o f g) (join o h k) ≡ true
 unfolding alike
 joins-alike o f g h k e =
     and-both _ _ (eqOp-refl o)
@@ -300,7 +300,7 @@ module _ (rows : ℕ → Row) (n : ℕ) (formed : AllFormed rows n) (few : n ≤
         let k = akin-key-as (kindOf (rows r .kind)) e refl h in
         (numbers-same rows q r wq wr e, ap (lowAs rows q) e ∙ k .0, ap (highAs rows q) e ∙ k .1)
 
-  -- ---- the leading part
+  -- ---- the leading part and the other
 
   module _ (r : ℕ) (l : r < n) (o : Op) (e : kindOf (rows r .kind) ≡ junction o) where
     abbrev L : ℕ
@@ -309,13 +309,28 @@ module _ (rows : ℕ → Row) (n : ℕ) (formed : AllFormed rows n) (few : n ≤
     abbrev R : ℕ
     R = rightCode rows r
 
+    -- the leading part is p and the other q, with the codes x and y
+    abbrev Leading : ℕ → ℕ → ℕ → ℕ → Type 0
+    Leading p q x y = (leadOf rows r ≡ p) × (otherOf rows r ≡ q) × (lowOf rows r ≡ x) × (highOf rows r ≡ y)
+
+    left-leads : leadOf rows r ≡ nat (rows r .a) → otherOf rows r ≡ nat (rows r .b)
+    unfolding besides
+    left-leads h = if-true _ _ _ (eq-eqb (leadOf rows r) (nat (rows r .a)) h)
+
+    right-leads : leadOf rows r ≡ nat (rows r .b) → R < L → otherOf rows r ≡ nat (rows r .a)
+    unfolding besides
+    right-leads h k =
+        if-false _ _ _
+        (ne-eqb (leadOf rows r) (nat (rows r .a))
+        (λ d. omega (arith, ap (partCode rows (shiftOf rows r)) (sym h ∙ d))))
+
     -- it is the part with the first code
-    lead-cases : ((leadOf rows r ≡ nat (rows r .a)) × (lowOf rows r ≡ L) × (L ≤ R)) ⊎ ((leadOf rows r ≡ nat (rows r .b)) × (lowOf rows r ≡ R) × (R < L))
-    unfolding leadOf leadAs lowOf lowAs
+    pub lead-cases : Leading (nat (rows r .a)) (nat (rows r .b)) L R ⊎ Leading (nat (rows r .b)) (nat (rows r .a)) R L
+    unfolding leadOf leadAs lowOf lowAs highOf highAs
     lead-cases =
         ⊎-elim
-        (λ t. inl (ap (leadAs rows r) e ∙ if-true _ _ _ t, ap (lowAs rows r) e ∙ if-true _ _ _ t, leb-true L R t))
-        (λ t. inr (ap (leadAs rows r) e ∙ if-false _ _ _ t, ap (lowAs rows r) e ∙ if-false _ _ _ t, leb-false L R t))
+        (λ t. let h = ap (leadAs rows r) e ∙ if-true _ _ _ t in inl (h, left-leads h, ap (lowAs rows r) e ∙ if-true _ _ _ t, ap (highAs rows r) e ∙ if-true _ _ _ t))
+        (λ t. let h = ap (leadAs rows r) e ∙ if-false _ _ _ t in inr (h, right-leads h (leb-false L R t), ap (lowAs rows r) e ∙ if-false _ _ _ t, ap (highAs rows r) e ∙ if-false _ _ _ t))
         (decide (leb L R))
 
     pub lead-less : leadOf rows r < r
@@ -325,55 +340,58 @@ module _ (rows : ℕ → Row) (n : ℕ) (formed : AllFormed rows n) (few : n ≤
         (λ c. omega (arith, c .0, right-less rows r (formed r l) o e))
         lead-cases
 
-    -- its code holds its class
-    pub lead-code : (x : ℕ) × (lowOf rows r ≡ classOf rows (leadOf rows r) + 1024 * x)
-    unfolding partCode
+    pub other-less : otherOf rows r < r
+    other-less =
+        ⊎-elim
+        (λ c. omega (arith, c .1, right-less rows r (formed r l) o e))
+        (λ c. omega (arith, c .1, left-less rows r (formed r l) o e))
+        lead-cases
+
+    -- the key holds both codes
+    lead-code : lowOf rows r ≡ partCode rows (shiftOf rows r) (leadOf rows r)
     lead-code =
         ⊎-elim
-        (λ c. (_, c .1 ∙ ap (partCode rows (shiftOf rows r)) (sym (c .0))))
-        (λ c. (_, c .1 ∙ ap (partCode rows (shiftOf rows r)) (sym (c .0))))
+        (λ c. c .2 ∙ ap (partCode rows (shiftOf rows r)) (sym (c .0)))
+        (λ c. c .2 ∙ ap (partCode rows (shiftOf rows r)) (sym (c .0)))
         lead-cases
 
-    no-higher : (c d x y : ℕ) → c < 1024 → d < 1024 → c + 1024 * x ≤ d + 1024 * y → x ≤ y
-    no-higher c d x y p q h = omega arith
-
-    -- it has the row's shift
-    pub lead-off : off (tree rows (leadOf rows r)) ≡ off (tree rows r)
-    unfolding partCode shiftOf
-    lead-off =
+    other-code : highOf rows r ≡ partCode rows (shiftOf rows r) (otherOf rows r)
+    other-code =
         ⊎-elim
-        (λ c. ap (λ (m : ℕ). off (tree rows m)) (c .0) ∙ left-off (c .2))
-        (λ c. ap (λ (m : ℕ). off (tree rows m)) (c .0) ∙ right-off (c .2))
+        (λ c. c .3 ∙ ap (partCode rows (shiftOf rows r)) (sym (c .1)))
+        (λ c. c .3 ∙ ap (partCode rows (shiftOf rows r)) (sym (c .1)))
         lead-cases
-      where
-        x : Option ℤ
-        x = off (tree rows (nat (rows r .a)))
 
-        y : Option ℤ
-        y = off (tree rows (nat (rows r .b)))
+    -- a part of a row without a shift has none
+    parts-none : off (tree rows r) ≡ none → (off (tree rows (nat (rows r .a))) ≡ none) × (off (tree rows (nat (rows r .b))) ≡ none)
+    parts-none h = lesser-none _ _ (sym (off-junction rows r (formed r l) o e) ∙ h)
 
-        w : off (tree rows r) ≡ lesser x y
-        w = off-junction rows r (formed r l) o e
+    abbrev offAt : ℕ → Option ℤ
+    offAt m = off (tree rows m)
 
-        left-off : L ≤ R → x ≡ off (tree rows r)
-        left-off h =
-            lowest x y (subst (λ (z : Option ℤ). Part z x) w (left-part r l o e)) (subst (λ (z : Option ℤ). Part z y) w (right-part r l o e))
-            (subst (λ (z : Option ℤ). over z x ≤ over z y) w (no-higher (classOf rows (nat (rows r .a))) (classOf rows (nat (rows r .b))) _ _ (class-few _ (left-row r l o e)) (class-few _ (right-row r l o e)) h))
-            ∙ sym w
+    pub lead-none : off (tree rows r) ≡ none → off (tree rows (leadOf rows r)) ≡ none
+    lead-none h = ⊎-elim (λ c. ap offAt (c .0) ∙ parts-none h .0) (λ c. ap offAt (c .0) ∙ parts-none h .1) lead-cases
 
-        v : off (tree rows r) ≡ lesser y x
-        v = w ∙ lesser-comm x y
+    pub other-none : off (tree rows r) ≡ none → off (tree rows (otherOf rows r)) ≡ none
+    other-none h = ⊎-elim (λ c. ap offAt (c .1) ∙ parts-none h .1) (λ c. ap offAt (c .1) ∙ parts-none h .0) lead-cases
 
-        right-off : R < L → y ≡ off (tree rows r)
-        right-off h =
-            lowest y x (subst (λ (z : Option ℤ). Part z y) v (right-part r l o e)) (subst (λ (z : Option ℤ). Part z x) v (left-part r l o e))
-            (subst (λ (z : Option ℤ). over z y ≤ over z x) v (no-higher (classOf rows (nat (rows r .b))) (classOf rows (nat (rows r .a))) _ _ (class-few _ (right-row r l o e)) (class-few _ (left-row r l o e)) (omega arith)))
-            ∙ sym v
+    abbrev PartOf : ℕ → Type 0
+    PartOf m = Part (off (tree rows r)) (off (tree rows m))
 
-  -- rows of one class have leading parts of one class
-  pub leads-same : (q r : ℕ) → q < n → r < n → (o p : Op) → kindOf (rows q .kind) ≡ junction o → kindOf (rows r .kind) ≡ junction p → classOf rows q ≡ classOf rows r → classOf rows (leadOf rows q) ≡ classOf rows (leadOf rows r)
-  leads-same q r lq lr o p eq er h =
-      let k = akin-key q r lq lr (class-akin rows q r h) in
-      let a = lead-code q lq o eq in
-      let b = lead-code r lr p er in
-      split _ _ _ _ (class-few _ (omega (arith, lead-less q lq o eq))) (class-few _ (omega (arith, lead-less r lr p er))) (sym (a .1) ∙ k .1 ∙ b .1) .0
+    lead-part : PartOf (leadOf rows r)
+    lead-part = ⊎-elim (λ c. subst PartOf (sym (c .0)) (left-part r l o e)) (λ c. subst PartOf (sym (c .0)) (right-part r l o e)) lead-cases
+
+    other-part : PartOf (otherOf rows r)
+    other-part = ⊎-elim (λ c. subst PartOf (sym (c .1)) (right-part r l o e)) (λ c. subst PartOf (sym (c .1)) (left-part r l o e)) lead-cases
+
+  -- of akin rows the leading parts are alike without the rows' shifts, and so are the others
+  module _ (q r : ℕ) (lq : q < n) (lr : r < n) (o p : Op) (eq : kindOf (rows q .kind) ≡ junction o) (er : kindOf (rows r .kind) ≡ junction p) (h : akin (tree rows q) (tree rows r) ≡ true) where
+    pub leads-level : alike (lower (orZero (off (tree rows q))) (ground (tree rows (leadOf rows q)))) (lower (orZero (off (tree rows r))) (ground (tree rows (leadOf rows r)))) ≡ true
+    leads-level =
+        codes-alike q r _ _ (omega (arith, lead-less q lq o eq)) (omega (arith, lead-less r lr p er)) (lead-part q lq o eq) (lead-part r lr p er)
+        (sym (lead-code q lq o eq) ∙ akin-key q r lq lr h .1 ∙ lead-code r lr p er)
+
+    pub others-level : alike (lower (orZero (off (tree rows q))) (ground (tree rows (otherOf rows q)))) (lower (orZero (off (tree rows r))) (ground (tree rows (otherOf rows r)))) ≡ true
+    others-level =
+        codes-alike q r _ _ (omega (arith, other-less q lq o eq)) (omega (arith, other-less r lr p er)) (other-part q lq o eq) (other-part r lr p er)
+        (sym (other-code q lq o eq) ∙ akin-key q r lq lr h .2 ∙ other-code r lr p er)

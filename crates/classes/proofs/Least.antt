@@ -52,7 +52,7 @@ pub akin-sym : (f g : Formula) → akin f g ≡ true → akin g f ≡ true
 unfolding akin
 akin-sym f g h = alike-sym (level f) (level g) h
 
-akin-trans : (f g h : Formula) → akin f g ≡ true → akin g h ≡ true → akin f h ≡ true
+pub akin-trans : (f g h : Formula) → akin f g ≡ true → akin g h ≡ true → akin f h ≡ true
 unfolding akin
 akin-trans f g h p q = alike-trans (level f) (level g) (level h) p q
 

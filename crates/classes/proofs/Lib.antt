@@ -6,4 +6,5 @@ mod Keys
 mod Forms
 mod GoingBack
 mod Meets
+pub mod Remembering
 pub mod Twins

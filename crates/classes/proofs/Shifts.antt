@@ -169,21 +169,6 @@ fit-overs none (some z) w′ (some z′) h h′ e = absurd (omega (arith, h .row
 fit-overs (some w) (some z) none (some z′) h h′ e = absurd (omega (arith, h′ .row, h′ .under (h′ .own .some-where)))
 fit-overs (some w) (some z) (some w′) (some z′) h h′ e = over-same w w′ z z′ h h′ (let k : z -ℤ w ≡ z′ -ℤ w′ = cc in k)
 
--- a part that lies no higher than the other has the row's shift
-pub lowest : (x y : Option ℤ) → Part (lesser x y) x → Part (lesser x y) y → over (lesser x y) x ≤ over (lesser x y) y → x ≡ lesser x y
-unfolding lesser if_then_else_
-lowest none none h k l = refl
-lowest none (some b) h k l = absurd (omega (arith, over-small (some b) b k, above-none (shiftCode (some b)) (shiftCode none) (h .own)))
-lowest (some a) none h k l = refl
-lowest (some a) (some b) h k l = go (leZ a b) refl h k l
-  where
-    go : (t : Bool) → leZ a b ≡ t → Part (if t then some a else some b) (some a) → Part (if t then some a else some b) (some b) → over (if t then some a else some b) (some a) ≤ over (if t then some a else some b) (some b) → some a ≡ (if t then some a else some b)
-    go true e h k l = refl
-    go false e h k l =
-        absurd
-        (omega
-        (arith, l, of-not-le (atom a) (atom b) e, h .own .more, k .own .more, above-some (shiftCode (some b)) (shiftCode (some a)) (h .own .some-where), above-some (shiftCode (some b)) (shiftCode (some b)) (k .own .some-where)))
-
 -- shifts with the same number are the same
 pub coded-same : (x y : Option ℤ) → Coded x (shiftCode x) → Coded y (shiftCode y) → shiftCode x ≡ shiftCode y → x ≡ y
 coded-same none none h k e = refl

@@ -142,7 +142,7 @@ off-lower k (lit v s index c) = ap some (eq-of ((atom c ⊖ num 0) ⊖ atom k) (
 off-lower k (join o f g) = ap₂ lesser (off-lower k f) (off-lower k g) ∙ lesser-down k (off f) (off g)
 off-lower k (iter o f b c) = ap some (eq-of (less (atom c ⊕ atom k)) (less (atom c) ⊖ atom k) (omega arith))
 
-lesser-none : (x y : Option ℤ) → lesser x y ≡ none → (x ≡ none) × (y ≡ none)
+pub lesser-none : (x y : Option ℤ) → lesser x y ≡ none → (x ≡ none) × (y ≡ none)
 unfolding lesser
 lesser-none none y h = (refl, h)
 lesser-none (some a) none h = (cc, refl)
@@ -153,7 +153,7 @@ lesser-none (some a) (some b) h =
     (decide (leZ a b))
 
 -- a formula without a shift stays as it is
-none-lower : (k : ℤ) (f : Formula) → off f ≡ none → lower k (ground f) ≡ ground f
+pub none-lower : (k : ℤ) (f : Formula) → off f ≡ none → lower k (ground f) ≡ ground f
 unfolding off offLit lower lowerBase instance instanceLit
 none-lower k (const v) h = refl
 none-lower k (lit v s nothing c) h = refl
@@ -172,7 +172,7 @@ further f a x y e = lower-lower x a (ground f) ∙ ap (λ (z : ℤ). lower z (gr
 
 module _ (f g : Formula) (a b : ℤ) where
   -- both lowered by x more
-  both-further : (x y z : ℤ) → (a +ℤ x) ≡ y → (b +ℤ x) ≡ z → alike (lower a (ground f)) (lower b (ground g)) ≡ true → alike (lower y (ground f)) (lower z (ground g)) ≡ true
+  pub both-further : (x y z : ℤ) → (a +ℤ x) ≡ y → (b +ℤ x) ≡ z → alike (lower a (ground f)) (lower b (ground g)) ≡ true → alike (lower y (ground f)) (lower z (ground g)) ≡ true
   both-further x y z p q h =
       ap₂ alike (sym (further f a x y p)) (sym (further g b x z q)) ∙ alike-lower x _ _ h
 

@@ -99,6 +99,14 @@ leadAs rows r unknown = r
 unfoldable pub leadOf : (ℕ → Row) → ℕ → ℕ
 leadOf rows r = leadAs rows r (kindOf (rows r .kind))
 
+-- the part of row r that part p is not
+unfoldable pub besides : (ℕ → Row) → ℕ → ℕ → ℕ
+besides rows r p = if eqb p (nat (rows r .a)) then nat (rows r .b) else nat (rows r .a)
+
+-- the other part of an and or an or
+abbrev pub otherOf : (ℕ → Row) → ℕ → ℕ
+otherOf rows r = besides rows r (leadOf rows r)
+
 -- ---- what is kept
 
 -- three of the four numbers of row r: its class, its shift, its leading part

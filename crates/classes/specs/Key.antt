@@ -138,3 +138,16 @@ formsWith forms r class f before = set (set (set (set forms (4 * r) class) (4 * 
 
 unfoldable pub sidesWith : List ℕ → ℕ → Form → List ℕ
 sidesWith sides r f = set (set sides (2 * r) (f .low)) (2 * r + 1) (f .high)
+
+-- the tables with the numbers of the first n rows; past these they are as they were
+unfoldable pub formsAfter : (ℕ → Row) → List ℕ → ℕ → List ℕ
+formsAfter rows forms zero = forms
+formsAfter rows forms (suc n) = formsWith (formsAfter rows forms n) n (classOf rows n) (formOf rows n) (latest rows (hashAt rows n) n)
+
+unfoldable pub sidesAfter : (ℕ → Row) → List ℕ → ℕ → List ℕ
+sidesAfter rows sides zero = sides
+sidesAfter rows sides (suc n) = sidesWith (sidesAfter rows sides n) n (formOf rows n)
+
+unfoldable pub headsAfter : (ℕ → Row) → List ℕ → ℕ → List ℕ
+headsAfter rows heads zero = heads
+headsAfter rows heads (suc n) = set (headsAfter rows heads n) (hashAt rows n) (n + 1)

@@ -1,4 +1,9 @@
-// When two formulas are alike, one of them lowered or an instance, found by going down their leading parts side by side.
+// When two formulas are alike, one of them lowered or an instance, found by going down the two side by side.
+use crate::agreed::is_known;
+use crate::agreed::remember;
+use crate::numbers::literals_agree;
+use crate::numbers::ranges_agree;
+use crate::numbers::shifts_fit;
 use formula::A;
 use formula::B;
 use formula::C;
@@ -8,40 +13,33 @@ use formula::natural_in;
 use formula::rows::LOOSE;
 use formula::under_in;
 ghost use mathlib.Core.Path.{_≡_};
-ghost use mathlib.Core.Bool.{true, false};
-ghost use Prim.Native.Nat.{ℕ, _+_, _*_, _<_, _≤_, _^_};
-ghost use lib.IntN.{pos, _+ℤ_, _-ℤ_};
-ghost use lib.ListN.{getD};
-ghost use Rattle.stab.specs.Basic.{eqZ, nat};
-ghost use Rattle.stab.specs.Formula.{joined, offset, tree, loose};
+ghost use mathlib.Core.Bool.{false};
+ghost use Prim.Native.Nat.{ℕ, _<_, _≤_, _^_};
+ghost use lib.IntN.{pos, _-ℤ_};
+ghost use lib.ListN.{length};
+ghost use Rattle.stab.specs.Basic.{nat};
+ghost use Rattle.stab.specs.Formula.{joined, tree, loose};
 ghost use Rattle.stab.specs.Alike.{lower, instance, alike};
 ghost use Rattle.formula.specs.Facts.{AllKnown};
-ghost use Rattle.classes.specs.Class.{ground, Ready};
-ghost use Rattle.classes.specs.Key.{fitting};
+ghost use Rattle.classes.specs.Class.{ground, besides, Ready};
+ghost use Rattle.classes.specs.Agreed.{Remembers};
 
-// Column c of row g is that of row f, and up - down more.
-fn is_raised(
-    schema: &[i32],
-    s: usize,
-    proof: &[i32],
-    up: usize,
-    down: usize,
-    f: usize,
-    g: usize,
-) -> bool
-    requires { ⌜ (f < 2 ^ 32) × (g < 2 ^ 32) ⌝ }
-    requires { ⌜ (up < 2 ^ 32) × (down < 2 ^ 32) ⌝ }
-    requires { ⌜ offset (joined (now schema) s (now proof) f .c) ≡ true ⌝ }
-    requires { ⌜ offset (joined (now schema) s (now proof) g .c) ≡ true ⌝ }
-    ensures { λ v. ⌜ v ≡ eqZ (joined (now (schema .entry)) s (now (proof .entry)) f .c +ℤ (pos up -ℤ pos down)) (joined (now (schema .entry)) s (now (proof .entry)) g .c) ⌝ }
+// The part of row r that part p is not.
+fn besides(schema: &[i32], s: usize, proof: &[i32], r: usize, p: usize) -> usize
+    requires { ⌜ r < 1024 ⌝ }
+    ensures { λ v. ⌜ v ≡ besides (joined (now (schema .entry)) s (now (proof .entry))) r p ⌝ }
 {
-    natural_in(schema, s, proof, f, C) + up + under_in(schema, s, proof, g, C)
-        == natural_in(schema, s, proof, g, C) + under_in(schema, s, proof, f, C) + down
+    let left = natural_in(schema, s, proof, r, A);
+    if p == left {
+        return natural_in(schema, s, proof, r, B);
+    }
+    left
 }
 
-// Row g is alike to row f lowered by k = up - down, each literal on i outside an iteration taken for one on n. Rows of
-// different classes are told apart at once; in one class the first number on the way down settles the shift. The first row
-// number falls at each part.
+// Row g is alike to row f lowered by k = up - down, each literal on i outside an iteration taken for one on n. The two are gone
+// down side by side, both parts of each and and or, and bodies, which are not lowered; the first row number falls at each part.
+// Classes turn unlike rows away at once, and the leading part of one meets that of the other. Rows that were found to agree are
+// remembered, and not gone down again.
 fn agrees(
     schema: &[i32],
     s: usize,
@@ -51,43 +49,54 @@ fn agrees(
     down: usize,
     f: usize,
     g: usize,
+    agreed: &mut [u32],
 ) -> bool
     requires { ⌜ (up < 2 ^ 32) × (down < 2 ^ 32) ⌝ }
-    requires { ⌜ ((n : ℕ) × (f < n) × (g < n) × Ready (joined (now schema) s (now proof)) (now forms) n) ⌝ }
+    requires { ⌜ ((n : ℕ) × (f < n) × (g < n) × Ready (joined (now schema) s (now proof)) (now forms) n × (n ≤ length (now agreed))) ⌝ }
+    requires { ⌜ Remembers (joined (now schema) s (now proof)) (now agreed) ⌝ }
     ensures { λ v. ⌜ v ≡ alike (lower (pos up -ℤ pos down) (ground (tree (joined (now (schema .entry)) s (now (proof .entry))) f))) (ground (tree (joined (now (schema .entry)) s (now (proof .entry))) g)) ⌝ }
+    ensures { λ _. ⌜ Remembers (joined (now (schema .entry)) s (now (proof .entry))) (now (agreed .exit)) ⌝ }
 {
     if kept_at(forms, 4 * f) != kept_at(forms, 4 * g) {
         return false;
     }
     let kind = natural_in(schema, s, proof, f, KIND);
+    if kind != natural_in(schema, s, proof, g, KIND) {
+        return false;
+    }
     if kind < 2 {
         return true;
     }
     if kind < 4 {
-        if natural_in(schema, s, proof, f, B) == 0 {
-            return true;
-        }
-        return is_raised(schema, s, proof, down, up, f, g);
+        return literals_agree(schema, s, proof, up, down, f, g);
+    }
+    if is_known(forms, agreed, up, down, f, g) {
+        return true;
     }
     if kind < 6 {
-        let part = kept_at(forms, 4 * f + 2);
+        let lead = kept_at(forms, 4 * f + 2);
         let twin = kept_at(forms, 4 * g + 2);
-        return agrees(schema, s, proof, forms, up, down, part, twin);
+        if !agrees(schema, s, proof, forms, up, down, lead, twin, agreed) {
+            return false;
+        }
+        let other = besides(schema, s, proof, f, lead);
+        let other_twin = besides(schema, s, proof, g, twin);
+        if !agrees(schema, s, proof, forms, up, down, other, other_twin, agreed) {
+            return false;
+        }
+        remember(agreed, f, g);
+        return true;
     }
-    is_raised(schema, s, proof, up, down, f, g)
-}
-
-// The shift of row f, lowered by up - down, is that of row g.
-fn shifts_fit(forms: &[u32], up: usize, down: usize, f: usize, g: usize) -> bool
-    requires { ⌜ (up < 2 ^ 32) × (down < 2 ^ 32) × (f < 1024) × (g < 1024) ⌝ }
-    ensures { λ v. ⌜ v ≡ fitting up down (getD (now (forms .entry)) (4 * f + 1) 0) (getD (now (forms .entry)) (4 * g + 1) 0) ⌝ }
-{
-    let shift = kept_at(forms, 4 * f + 1);
-    let other = kept_at(forms, 4 * g + 1);
-    if shift == 0 {
-        return other == 0;
+    if !ranges_agree(schema, s, proof, up, down, f, g) {
+        return false;
     }
-    other + up == shift + down
+    let body = natural_in(schema, s, proof, f, A);
+    let body_twin = natural_in(schema, s, proof, g, A);
+    if !agrees(schema, s, proof, forms, 0, 0, body, body_twin, agreed) {
+        return false;
+    }
+    remember(agreed, f, g);
+    true
 }
 
 // Row x is alike to row z lowered by k. Both are outer. Rows that are not are told apart by what is kept of them.
@@ -99,10 +108,13 @@ pub fn is_lowered(
     k: i32,
     z: usize,
     x: usize,
+    agreed: &mut [u32],
 ) -> bool
-    requires { ⌜ ((n : ℕ) × (z < n) × (x < n) × Ready (joined (now schema) s (now proof)) (now forms) n) ⌝ }
+    requires { ⌜ ((n : ℕ) × (z < n) × (x < n) × Ready (joined (now schema) s (now proof)) (now forms) n × (n ≤ length (now agreed))) ⌝ }
     requires { ⌜ (loose (tree (joined (now schema) s (now proof)) z) ≡ false) × (loose (tree (joined (now schema) s (now proof)) x) ≡ false) ⌝ }
+    requires { ⌜ Remembers (joined (now schema) s (now proof)) (now agreed) ⌝ }
     ensures { λ v. ⌜ v ≡ alike (lower k (tree (joined (now (schema .entry)) s (now (proof .entry))) z)) (tree (joined (now (schema .entry)) s (now (proof .entry))) x) ⌝ }
+    ensures { λ _. ⌜ Remembers (joined (now (schema .entry)) s (now (proof .entry))) (now (agreed .exit)) ⌝ }
 {
     if kept_at(forms, 4 * z) != kept_at(forms, 4 * x) {
         return false;
@@ -112,7 +124,7 @@ pub fn is_lowered(
     if !shifts_fit(forms, up, down, z, x) {
         return false;
     }
-    agrees(schema, s, proof, forms, up, down, z, x)
+    agrees(schema, s, proof, forms, up, down, z, x, agreed)
 }
 
 // Row z is alike to the instance at n - c of the body of the iteration in row `on`. An instance is outer, so that a row in
@@ -125,10 +137,13 @@ pub fn is_instance(
     forms: &[u32],
     on: usize,
     z: usize,
+    agreed: &mut [u32],
 ) -> bool
-    requires { ⌜ ((n : ℕ) × (on < n) × (z < n) × Ready (joined (now schema) s (now proof)) (now forms) n × AllKnown (joined (now schema) s (now proof)) (now facts) n) ⌝ }
+    requires { ⌜ ((n : ℕ) × (on < n) × (z < n) × Ready (joined (now schema) s (now proof)) (now forms) n × AllKnown (joined (now schema) s (now proof)) (now facts) n × (n ≤ length (now agreed))) ⌝ }
     requires { ⌜ 6 ≤ nat (joined (now schema) s (now proof) on .kind) ⌝ }
+    requires { ⌜ Remembers (joined (now schema) s (now proof)) (now agreed) ⌝ }
     ensures { λ v. ⌜ v ≡ alike (instance (joined (now (schema .entry)) s (now (proof .entry)) on .c) (tree (joined (now (schema .entry)) s (now (proof .entry))) (nat (joined (now (schema .entry)) s (now (proof .entry)) on .a)))) (tree (joined (now (schema .entry)) s (now (proof .entry))) z) ⌝ }
+    ensures { λ _. ⌜ Remembers (joined (now (schema .entry)) s (now (proof .entry))) (now (agreed .exit)) ⌝ }
 {
     if kept_at(facts, 4 * z + LOOSE) != 0 {
         return false;
@@ -144,5 +159,6 @@ pub fn is_instance(
         down,
         natural_in(schema, s, proof, on, A),
         z,
+        agreed,
     )
 }

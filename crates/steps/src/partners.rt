@@ -5,14 +5,16 @@ use classes::compare;
 ghost use mathlib.Core.Path.{_≡_};
 ghost use mathlib.Core.Bool.{true};
 ghost use mathlib.Core.List.{[]};
-ghost use Prim.Native.Nat.{_+_, _<_, _^_};
+ghost use Prim.Native.Nat.{_+_, _<_, _≤_, _^_};
 ghost use lib.IntN.{pos, _+ℤ_};
+ghost use lib.ListN.{length};
 ghost use Rattle.stab.specs.Basic.{_or_, eqZ};
 ghost use Rattle.stab.specs.Formula.{joined, offset};
 ghost use Rattle.stab.specs.Node.{nodeAt};
 ghost use Rattle.stab.specs.Rule.{ofRule, shortened, partnersFit};
 ghost use Rattle.formula.specs.Facts.{AllKnown};
 ghost use Rattle.classes.specs.Class.{Ready};
+ghost use Rattle.classes.specs.Agreed.{Remembers};
 ghost use Rattle.branch.specs.Lent.{lent, FieldsKnown};
 
 // Node j unfolds an iteration.
@@ -65,12 +67,15 @@ pub fn partners_fit(
     forms: &[u32],
     t: Counts,
     j: usize,
+    agreed: &mut [u32],
 ) -> bool
     requires { ⌜ j < 2 ^ 32 ⌝ }
     requires { ⌜ FieldsKnown (lent (now schema) (now proof) (now nodes) [] t) j ⌝ }
     requires { ⌜ AllKnown (joined (now schema) (t .schema) (now proof)) (now facts) (t .schema + t .proof) ⌝ }
     requires { ⌜ Ready (joined (now schema) (t .schema) (now proof)) (now forms) (t .schema + t .proof) ⌝ }
+    requires { ⌜ Remembers (joined (now schema) (t .schema) (now proof)) (now agreed) × (t .schema + t .proof ≤ length (now agreed)) ⌝ }
     ensures { λ r. ⌜ r ≡ partnersFit (lent (now (schema .entry)) (now (proof .entry)) (now (nodes .entry)) [] t) j ⌝ }
+    ensures { λ _. ⌜ Remembers (joined (now (schema .entry)) (t .schema) (now (proof .entry))) (now (agreed .exit)) ⌝ }
 {
     if !unfolds(nodes, j) {
         return true;
@@ -81,5 +86,5 @@ pub fn partners_fit(
         return false;
     }
     let other = node::natural_of(nodes, j, node::OTHER);
-    compare::is_instance(schema, t.schema, proof, facts, forms, on, other)
+    compare::is_instance(schema, t.schema, proof, facts, forms, on, other, agreed)
 }

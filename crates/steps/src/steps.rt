@@ -11,15 +11,16 @@ use stab::Place;
 use stab::Refusal;
 ghost use mathlib.Core.Path.{_≡_};
 ghost use mathlib.Core.Bool.{true};
-ghost use Prim.Native.Nat.{_+_, _*_, _<_, _^_};
+ghost use Prim.Native.Nat.{_+_, _*_, _<_, _≤_, _^_};
 ghost use lib.Dec.{eqb, leb};
-ghost use lib.ListN.{getD};
+ghost use lib.ListN.{length, getD};
 ghost use Rattle.stab.specs.Basic.{if_then_else_, _implies_, nat, below, scan};
 ghost use Rattle.stab.specs.Formula.{joined};
 ghost use Rattle.stab.specs.Node.{nodeAt};
 ghost use Rattle.stab.specs.Rule.{ruleOf, ofRule, drawn, loweredFits};
 ghost use Rattle.stab.specs.Check.{finding, stepRefusal};
 ghost use Rattle.classes.specs.Class.{Ready as Compared};
+ghost use Rattle.classes.specs.Agreed.{Remembers};
 ghost use Rattle.branch.specs.Lent.{lent, SetOfRows, ChildKnown};
 ghost use Rattle.steps.specs.Ready.{Ready};
 ghost use Rattle.steps.specs.Judged.{nodeRefusalAs};
@@ -64,19 +65,22 @@ fn lowered_fits(
     forms: &[u32],
     t: Counts,
     j: usize,
+    agreed: &mut [u32],
 ) -> bool
     requires { ⌜ j < 2 ^ 32 ⌝ }
     requires { ⌜ Compared (joined (now schema) (t .schema) (now proof)) (now forms) (t .schema + t .proof) ⌝ }
     requires { ⌜ SetOfRows (joined (now schema) (t .schema) (now proof)) (now nodes) (now members) (t .schema + t .proof) j ⌝ }
     requires { ⌜ (ofRule 8 (nodeAt (now nodes) j) ≡ true → (nat (nodeAt (now nodes) j .to) < 2 ^ 32) × SetOfRows (joined (now schema) (t .schema) (now proof)) (now nodes) (now members) (t .schema + t .proof) (nat (nodeAt (now nodes) j .to))) ⌝ }
+    requires { ⌜ Remembers (joined (now schema) (t .schema) (now proof)) (now agreed) × (t .schema + t .proof ≤ length (now agreed)) ⌝ }
     ensures { λ r. ⌜ r ≡ loweredFits (lent (now (schema .entry)) (now (proof .entry)) (now (nodes .entry)) (now (members .entry)) t) j ⌝ }
+    ensures { λ _. ⌜ Remembers (joined (now (schema .entry)) (t .schema) (now (proof .entry))) (now (agreed .exit)) ⌝ }
 {
     if !node::is_of(nodes, j, node::RULE, 8) {
         return true;
     }
     let to = node::natural_of(nodes, j, node::TO);
     let by = signed::at(nodes, 9 * j + node::BY);
-    lowered::all_lowered(schema, proof, nodes, members, forms, t, j, to, by)
+    lowered::all_lowered(schema, proof, nodes, members, forms, t, j, to, by, agreed)
 }
 
 // 17: the number of children is the rule's; among rows that are held it is not beyond it.
@@ -104,10 +108,13 @@ fn step(
     work: &[u32],
     t: Counts,
     j: usize,
+    agreed: &mut [u32],
 ) -> Finding
     requires { ⌜ j < t .nodes ⌝ }
     requires { ⌜ Ready (lent (now schema) (now proof) (now nodes) (now members) t) (now facts) (now forms) (now work) ⌝ }
+    requires { ⌜ Remembers (joined (now schema) (t .schema) (now proof)) (now agreed) × (t .schema + t .proof ≤ length (now agreed)) ⌝ }
     ensures { λ r. ⌜ finding r ≡ stepRefusal (lent (now (schema .entry)) (now (proof .entry)) (now (nodes .entry)) (now (members .entry)) t) j ⌝ }
+    ensures { λ _. ⌜ Remembers (joined (now (schema .entry)) (t .schema) (now (proof .entry))) (now (agreed .exit)) ⌝ }
 {
     if !drawn_fits(schema, proof, nodes, members, work, t, j) {
         return Finding::Found {
@@ -133,13 +140,13 @@ fn step(
             place: Place::At(j),
         };
     }
-    if !partners::partners_fit(schema, proof, nodes, facts, forms, t, j) {
+    if !partners::partners_fit(schema, proof, nodes, facts, forms, t, j, agreed) {
         return Finding::Found {
             why: Refusal::Partner,
             place: Place::At(j),
         };
     }
-    if !lowered_fits(schema, proof, nodes, members, forms, t, j) {
+    if !lowered_fits(schema, proof, nodes, members, forms, t, j, agreed) {
         return Finding::Found {
             why: Refusal::Lowered,
             place: Place::At(j),
@@ -160,12 +167,26 @@ fn judge(
     work: &[u32],
     t: Counts,
     j: usize,
+    agreed: &mut [u32],
 ) -> Finding
     requires { ⌜ j < t .nodes ⌝ }
     requires { ⌜ Ready (lent (now schema) (now proof) (now nodes) (now members) t) (now facts) (now forms) (now work) ⌝ }
+    requires { ⌜ Remembers (joined (now schema) (t .schema) (now proof)) (now agreed) × (t .schema + t .proof ≤ length (now agreed)) ⌝ }
     ensures { λ r. ⌜ finding r ≡ nodeRefusalAs whole (lent (now (schema .entry)) (now (proof .entry)) (now (nodes .entry)) (now (members .entry)) t) j ⌝ }
+    ensures { λ _. ⌜ Remembers (joined (now (schema .entry)) (t .schema) (now (proof .entry))) (now (agreed .exit)) ⌝ }
 {
-    let found = step(schema, proof, nodes, members, facts, forms, work, t, j);
+    let found = step(
+        schema,
+        proof,
+        nodes,
+        members,
+        facts,
+        forms,
+        work,
+        t,
+        j,
+        agreed,
+    );
     let Finding::Nothing = found else {
         return found;
     };
@@ -189,9 +210,12 @@ pub fn each_node(
     forms: &[u32],
     work: &[u32],
     t: Counts,
+    agreed: &mut [u32],
 ) -> Finding
     requires { ⌜ Ready (lent (now schema) (now proof) (now nodes) (now members) t) (now facts) (now forms) (now work) ⌝ }
+    requires { ⌜ Remembers (joined (now schema) (t .schema) (now proof)) (now agreed) × (t .schema + t .proof ≤ length (now agreed)) ⌝ }
     ensures { λ r. ⌜ finding r ≡ scan (nodeRefusalAs whole (lent (now (schema .entry)) (now (proof .entry)) (now (nodes .entry)) (now (members .entry)) t)) (t .nodes) ⌝ }
+    ensures { λ _. ⌜ Remembers (joined (now (schema .entry)) (t .schema) (now (proof .entry))) (now (agreed .exit)) ⌝ }
 {
     let mut j: usize = 0;
     while j < t.nodes {
@@ -206,6 +230,7 @@ pub fn each_node(
             work,
             t,
             j,
+            agreed,
         );
         let Finding::Nothing = found else {
             return found;

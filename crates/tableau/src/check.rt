@@ -17,6 +17,7 @@ ghost use Rattle.stab.specs.Refuted.{Refuted};
 ghost use Rattle.stab.specs.declared.Verdict.the-variants.{Accepted};
 ghost use Rattle.formula.specs.Facts.{AllKnown, AllFormed};
 ghost use Rattle.classes.specs.Class.{AllWorked as AllClassed};
+ghost use Rattle.classes.specs.Agreed.{Remembers};
 ghost use Rattle.branch.specs.Work.{tableau};
 ghost use Rattle.steps.specs.Judged.{nodeRefusalAs};
 ghost use Rattle.growing.specs.Growing.{heldRefusal};
@@ -169,10 +170,12 @@ fn single_steps(
     members: &[i32],
     m: usize,
     work: &mut [u32],
+    agreed: &mut [u32],
 ) -> Finding
     requires { ⌜ (s + p ≤ 1024) × (4 * (s + p) ≤ length (now forms)) × (2 * (s + p) ≤ length (now sides)) × (k ≤ 1024) × (m ≤ 8192) × (9 * k ≤ length (now nodes)) × (m ≤ length (now members)) × (4 * k ≤ length (now work)) ⌝ }
     requires { ⌜ AllKnown (joined (now schema) s (now proof)) (now facts) (s + p) × AllFormed (joined (now schema) s (now proof)) (s + p) ⌝ }
     requires { ⌜ (rowsRefusal (tableau (now schema) s (now proof) p root least (now nodes) k (now members) m) otherwise nodesRefusal whole (tableau (now schema) s (now proof) p root least (now nodes) k (now members) m)) ≡ none ⌝ }
+    requires { ⌜ Remembers (joined (now schema) s (now proof)) (now agreed) × (s + p ≤ length (now agreed)) ⌝ }
     ensures { λ r. ⌜ finding r ≡ scan (nodeRefusalAs whole (tableau (now (schema .entry)) s (now (proof .entry)) p root least (now (nodes .entry)) k (now (members .entry)) m)) k ⌝ }
 {
     bounds::work_out(nodes, k, least, work);
@@ -185,7 +188,18 @@ fn single_steps(
         nodes: k,
         members: m,
     };
-    steps::steps::each_node(whole, schema, proof, nodes, members, facts, forms, work, t)
+    steps::steps::each_node(
+        whole,
+        schema,
+        proof,
+        nodes,
+        members,
+        facts,
+        forms,
+        work,
+        t,
+        agreed,
+    )
 }
 
 // What is found from refusal 6 on in a record of few rows and nodes, which need not wait for the tables of a large one.
@@ -226,6 +240,7 @@ fn small_record(
     let mut forms = [0u32; 1024];
     let mut sides = [0u32; 512];
     let mut work = [0u32; 1024];
+    let mut agreed = [0u32; 256];
     single_steps(
         whole,
         schema,
@@ -242,6 +257,7 @@ fn small_record(
         members,
         m,
         &mut work,
+        &mut agreed,
     )
 }
 
@@ -283,6 +299,7 @@ fn large_record(
     let mut forms = [0u32; 4096];
     let mut sides = [0u32; 2048];
     let mut work = [0u32; 4096];
+    let mut agreed = [0u32; 1024];
     single_steps(
         whole,
         schema,
@@ -299,6 +316,7 @@ fn large_record(
         members,
         m,
         &mut work,
+        &mut agreed,
     )
 }
 

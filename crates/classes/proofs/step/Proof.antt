@@ -1,12 +1,14 @@
 use native.Mathlib.Omega.{arith}
-use Prim.Native.Nat.{ℕ}
-use mathlib.Core.Path.{_≡_, sym, _∙_, ap}
+use Prim.Native.Nat.{ℕ, _+_}
+use mathlib.Core.Path.{_≡_, sym, _∙_, ap, ap₂}
 use borrow.Author.Needs.{needs}
+use lib.ListN.{getD, set}
 use Rattle.stab.specs.Basic.{nat}
 use Rattle.stab.specs.Formula.{Row, joined}
 use Rattle.signed.proofs.Signs.{read-back}
 use Rattle.formula.specs.Cells.{rowOf}
-use Rattle.classes.specs.Key.{formOf, keptForm, hashOf, hashAt}
+use Rattle.classes.specs.Class.{classOf}
+use Rattle.classes.specs.Key.{formOf, keptForm, hashOf, hashAt, latest, formsWith, sidesWith}
 use Rattle.classes.specs.declared.form.Form.{Form}
 use Rattle.classes.proofs.Least.{class-small}
 use Rattle.classes.proofs.ByKind.{kind-small}
@@ -102,16 +104,31 @@ returns c =
     let e = k .before .before .before .before in
     let d = e .before .before .before .before in
     let b = start (d .before) in
-    done-more (rows (d .before)) _ _ _ (b .args .r) (d .before .of-row2 .result) (d .hash .result)
-    (b .pre .1 .1) (b .pre .0 .1) (b .pre .0 .2)
-    (omega (arith, hash-is d, hash-small (rows (d .before)) (b .args .r)))
-    (omega (arith, hash-is d, hash-small (rows (d .before)) (b .args .r), b .pre .0 .3))
-    (form-is (d .before))
-    (hash-is d)
-    (e .class-of .ensures)
-    (k .keep .ensures .0)
-    (k .keep .ensures .1 .0)
-    (k .keep .ensures .1 .1)
+    let a = b .args in
+    let f = form-is (d .before) in
+    let h = hash-is d in
+    let small = hash-small (rows (d .before)) (a .r) in
+    let first = b .pre .1 .1 .latest-of _ (omega (arith, h, small)) ∙ ap (λ (x : ℕ). latest (rows (d .before)) x (a .r)) h in (
+      k .keep .ensures .0
+          ∙ ap (λ (m : ℕ). formsWith (a .forms .now) (a .r) m (d .before .of-row2 .result) (getD (a .heads .now) (d .hash .result) 0)) (e .class-of .ensures)
+          ∙ ap₂ (formsWith (a .forms .now) (a .r) (classOf (rows (d .before)) (a .r))) f first,
+      (
+        k .keep .ensures .1 .0 ∙ ap (sidesWith (a .sides .now) (a .r)) f,
+        (
+          k .keep .ensures .1 .1 ∙ ap (λ (x : ℕ). set (a .heads .now) x (a .r + 1)) h,
+          done-more (rows (d .before)) _ _ _ (a .r) (d .before .of-row2 .result) (d .hash .result)
+              (b .pre .1 .1) (b .pre .0 .1) (b .pre .0 .2)
+              (omega (arith, h, small))
+              (omega (arith, h, small, b .pre .0 .3))
+              f
+              h
+              (e .class-of .ensures)
+              (k .keep .ensures .0)
+              (k .keep .ensures .1 .0)
+              (k .keep .ensures .1 .1),
+        ),
+      ),
+    )
 
 pub step-spec : {M : Type 1} → statement M
 step-spec =

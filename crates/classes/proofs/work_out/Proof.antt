@@ -1,10 +1,10 @@
 use native.Mathlib.Omega.{arith}
 use Prim.Native.Nat.{_-_, _≤_}
-use mathlib.Core.Path.{_≡_, refl, _∙_}
+use mathlib.Core.Path.{_≡_, refl, _∙_, ap}
 use lib.ListN.{length}
 use Rattle.stab.specs.Formula.{joined}
-use Rattle.classes.specs.Key.{Done}
-use Rattle.classes.proofs.GoingBack.{done-none}
+use Rattle.classes.specs.Key.{Done, formsAfter, sidesAfter, headsAfter}
+use Rattle.classes.proofs.GoingBack.{done-none, forms-more, sides-more, heads-more}
 use Rattle.classes.proofs.work_out.Statement.{statement}
 use Rattle.classes.proofs.work_out.Tie as tie
 
@@ -15,14 +15,18 @@ Inv-loop schema s proof n forms₀ sides₀ heads₀ r₀ forms sides heads r =
     × (length sides ≡ length sides₀)
     × (length heads ≡ length heads₀)
     × Done (joined schema s proof) forms sides heads r
+    × (forms ≡ formsAfter (joined schema s proof) forms₀ r)
+    × (sides ≡ sidesAfter (joined schema s proof) sides₀ r)
+    × (heads ≡ headsAfter (joined schema s proof) heads₀ r)
 
 abbrev μ-loop : tie.MeasureT-loop
 μ-loop schema s proof n forms₀ sides₀ heads₀ r₀ forms sides heads r = n - r
 
 loop-holds : tie.Need-loop-holds Inv-loop μ-loop
+unfolding formsAfter sidesAfter headsAfter
 loop-holds c =
     let b = c .before .before .before in
-    (omega arith, refl, refl, refl, done-none _ _ _ _ (b .pre .1 .0))
+    (omega arith, refl, refl, refl, done-none _ _ _ _ (b .pre .1 .0), refl, refl, refl)
 
 step-requires : tie.Need-step-requires Inv-loop μ-loop
 step-requires c κs =
@@ -42,7 +46,7 @@ loop-again : tie.Need-loop-again Inv-loop μ-loop
 loop-again c =
     let s = c .before .before .before .before .before .before in
     let l = s .before .before .before .before .before .loop in
-    (omega arith, s .step .kept .1 .1 .1 .1 .0 ∙ l .inv .1, s .step .kept .1 .1 .1 .1 .1 .0 ∙ l .inv .2, s .step .kept .1 .1 .1 .1 .1 .1 .0 ∙ l .inv .3, s .step .ensures)
+    (omega arith, s .step .kept .1 .1 .1 .1 .0 ∙ l .inv .1, s .step .kept .1 .1 .1 .1 .1 .0 ∙ l .inv .2, s .step .kept .1 .1 .1 .1 .1 .1 .0 ∙ l .inv .3, s .step .ensures .1 .1 .1, forms-more _ _ _ (l .inv .5) (s .step .ensures .0), sides-more _ _ _ (l .inv .6) (s .step .ensures .1 .0), heads-more _ _ _ (l .inv .7) (s .step .ensures .1 .1 .0))
 
 same-length : tie.Need-same-length Inv-loop μ-loop
 same-length c = c .before .loop .inv .1
@@ -54,7 +58,14 @@ same-length-3 : tie.Need-same-length-3 Inv-loop μ-loop
 same-length-3 c = c .before .loop .inv .3
 
 returns : tie.Need-returns Inv-loop μ-loop
-returns c = λ q l. c .before .loop .inv .4 .worked q (omega arith)
+returns c =
+    let b = c .before .before .before .before .before in
+    let l = c .before .loop in
+    let rows = joined (b .args .schema .now) (b .args .s) (b .args .proof .now) in
+    let e : l .r ≡ b .args .n = omega arith in (
+      l .inv .5 ∙ ap (formsAfter rows _) e,
+      (l .inv .6 ∙ ap (sidesAfter rows _) e, (l .inv .7 ∙ ap (headsAfter rows _) e, λ q k. l .inv .4 .worked q (omega arith))),
+    )
 
 pub work-out-spec : {M : Type 1} → statement M
 work-out-spec =

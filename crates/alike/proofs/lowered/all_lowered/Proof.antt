@@ -1,7 +1,7 @@
 use borrow.Author.Needs.{needs}
 use Prim.Native.Nat.{ℕ, _+_, _-_, _<_, _≤_}
 use native.Mathlib.Omega.{arith}
-use mathlib.Core.Path.{_≡_, sym, _∙_, ap, subst}
+use mathlib.Core.Path.{_≡_, refl, sym, _∙_, ap, subst}
 use mathlib.Core.Bool.{true, false, true≢false}
 use mathlib.Core.List.{List}
 use lib.IntN.{ℤ, pos}
@@ -10,12 +10,13 @@ use mir.Syntax.{w32}
 use mir.Val.{toZ, ofZ}
 use mir.Facts.{toZ-ofZ}
 use Rattle.stab.specs.Basic.{nat, below}
-use Rattle.stab.specs.Formula.{tree, loose}
+use Rattle.stab.specs.Formula.{joined, tree, loose}
 use Rattle.stab.specs.Alike.{alike}
 use Rattle.stab.specs.Node.{Tableau, node, nodeAt, set, setOf, rows, formula}
 use Rattle.stab.specs.Rule.{hasLowered}
 use Rattle.stab.proofs.Trees.{below-nat, below-pos}
 use Rattle.classes.proofs.Twins.{twins-alike}
+use Rattle.classes.specs.Agreed.{Remembers}
 use Rattle.branch.specs.Lent.{lent}
 use Rattle.branch.proofs.HeldLaws.{part-set, set-length, member-nat}
 use Rattle.sets.proofs.SetLaws.{all-at, at-all, fails}
@@ -24,13 +25,15 @@ use Rattle.alike.proofs.lowered.all_lowered.Statement.{statement}
 use Rattle.alike.proofs.lowered.all_lowered.Tie as tie
 
 abbrev Inv-loop : tie.InvT-loop
-Inv-loop schema proof nodes members forms t j to k size width start from₀ i₀ from i =
+Inv-loop schema proof nodes members forms t j to k agreed₀ size width start from₀ i₀ agreed from i =
     (i ≤ nat (nodeAt nodes to .size))
     × ((a : ℕ) → a < i → hasLowered (lent schema proof nodes members t) (toZ w32 k) (setOf members (nodeAt nodes j)) (getD (setOf members (nodeAt nodes to)) a (pos 0)) ≡ true)
     × (from ≤ nat (nodeAt nodes j .size))
+    × Remembers (joined schema (t .schema) proof) agreed
+    × (length agreed ≡ length agreed₀)
 
 abbrev μ-loop : tie.MeasureT-loop
-μ-loop schema proof nodes members forms t j to k size width start from₀ i₀ from i = size - i
+μ-loop schema proof nodes members forms t j to k agreed₀ size width start from₀ i₀ agreed from i = size - i
 
 natural-of-requires : tie.Need-natural-of-requires Inv-loop μ-loop
 natural-of-requires c κs = omega arith
@@ -42,7 +45,7 @@ natural-of-requires-3 : tie.Need-natural-of-requires-3 Inv-loop μ-loop
 natural-of-requires-3 c κs = omega arith
 
 loop-holds : tie.Need-loop-holds Inv-loop μ-loop
-loop-holds c = (omega arith, λ a p. absurd (omega arith), omega arith)
+loop-holds c = (omega arith, λ a p. absurd (omega arith), omega arith, c .before .before .before .before .before .pre .1 .1 .1 .1 .0, refl)
 
 add-natural-at : tie.Need-add-natural-at Inv-loop μ-loop
 add-natural-at c = omega (arith, c .before .before .natural-of3 .ensures .1, c .before .before .before .before .natural-of .ensures .1)
@@ -66,17 +69,17 @@ Member s a = getD (setOf (s .args .members .now) (nodeAt (s .args .nodes .now) (
 
 module _ (s : Start) (a : ℕ) (l : a < Size s) where
   named : below (s .args .t .schema + s .args .t .proof) (Member s a) ≡ true
-  named = s .pre .1 .1 .1 .named a l
+  named = s .pre .1 .1 .1 .0 .named a l
 
   small : nat (Member s a) < s .args .t .schema + s .args .t .proof
   small = below-nat _ _ named
 
   outer : loose (tree (rows (Lent s)) (nat (Member s a))) ≡ false
   unfolding rows
-  outer = s .pre .1 .1 .1 .outer a l
+  outer = s .pre .1 .1 .1 .0 .outer a l
 
 long : (s : Start) → length (setOf (s .args .members .now) (nodeAt (s .args .nodes .now) (s .args .to))) ≡ Size s
-long s = set-length (s .args .nodes .now) (s .args .members .now) (s .args .to) (s .pre .1 .1 .1 .held)
+long s = set-length (s .args .nodes .now) (s .args .members .now) (s .args .to) (s .pre .1 .1 .1 .0 .held)
 
 -- ---- at the head of the loop
 
@@ -84,7 +87,7 @@ abbrev Head : Type 0
 Head = tie.At-loop Inv-loop μ-loop
 
 abbrev begin : Head → Start
-begin h = h .before .before .before .before .before
+begin h = h .before .before .before .before .before .before
 
 -- what is lent on is the set
 part : (h : Head) → let a = h .before .natural-of3 .result in take (a + h .before .before .before .natural-of .result - a) (drop a (begin h .args .members .now)) ≡ setOf (begin h .args .members .now) (nodeAt (begin h .args .nodes .now) (begin h .args .to))
@@ -108,24 +111,36 @@ read : (c : Read) → c .natural-at .result ≡ nat (Member (begin (head c)) (he
 read c =
     let h = head c in
     let s = begin h in
-    member-nat (s .args .nodes .now) (s .args .members .now) (s .args .to) (s .pre .1 .1 .1 .held) _ (inside c) _ _ (c .natural-at .ensures .0) (h .before .natural-of3 .ensures .0)
+    member-nat (s .args .nodes .now) (s .args .members .now) (s .args .to) (s .pre .1 .1 .1 .0 .held) _ (inside c) _ _ (c .natural-at .ensures .0) (h .before .natural-of3 .ensures .0)
 
 partner-requires : tie.Need-partner-requires Inv-loop μ-loop
 unfolding rows
-partner-requires c κs =
+partner-requires a κs =
+    let c = a .before in
     let s = begin (head c) in
-    ((s .pre .0 .0, omega (arith, read c, small s _ (inside c)), head c .loop .inv .2), (s .pre .1 .0, (ap (λ (m : ℕ). loose (tree (rows (Lent s)) m)) (read c) ∙ outer s _ (inside c), s .pre .1 .1 .0)))
+    let l = head c .loop in
+    ((s .pre .0 .0, omega (arith, read c, small s _ (inside c)), l .inv .2), (s .pre .1 .0, (ap (λ (m : ℕ). loose (tree (rows (Lent s)) m)) (read c) ∙ outer s _ (inside c), (s .pre .1 .1 .0, (l .inv .3, omega (arith, l .inv .4, s .pre .1 .1 .1 .1 .1))))))
 
 is : (c : Read) → Member (begin (head c)) (head c .loop .i) ≡ pos (c .natural-at .result)
 is c = sym (below-pos _ _ (named (begin (head c)) _ (inside c))) ∙ ap pos (sym (read c))
 
+-- what is lent is as long as it was
+as-long : (c : tie.After-partner Inv-loop μ-loop) → length (c .partner .last .1 .1 .1 .1 .1 .1 .1 .1 .1 .1 .0) ≡ length (begin (head (c .before .before)) .args .agreed .now)
+as-long c = c .partner .kept .1 .1 .1 .1 .1 .1 .1 .1 .1 .1 .0 ∙ head (c .before .before) .loop .inv .4
+
+same-length : tie.Need-same-length Inv-loop μ-loop
+same-length c = as-long (c .before .before .before)
+
 returns : tie.Need-returns Inv-loop μ-loop
 unfolding set node
 returns c =
-    let r = c .before .before in
+    let p = c .before .before .before in
+    let r = p .before .before in
     let h = head r in
-    let s = begin h in
-    sym (fails _ (λ t. true≢false (sym (at-all _ (pos 0) _ t (h .loop .i) (omega (arith, inside r, long s))) ∙ ap (hasLowered _ _ _) (is r) ∙ sym (rw (toZ-ofZ (s .fits .k)) at (c .before .partner .ensures .1 (omega (arith, wide h, c .if1 .taken)))))))
+    let s = begin h in (
+      sym (fails _ (λ t. true≢false (sym (at-all _ (pos 0) _ t (h .loop .i) (omega (arith, inside r, long s))) ∙ ap (hasLowered _ _ _) (is r) ∙ sym (rw (toZ-ofZ (s .fits .k)) at (p .partner .ensures .1 .0 (omega (arith, wide h, c .if1 .taken))))))),
+      p .partner .ensures .1 .1,
+    )
 
 add-from : tie.Need-add-from Inv-loop μ-loop
 add-from c = omega arith
@@ -143,11 +158,13 @@ part-past-start : tie.Need-part-past-start Inv-loop μ-loop
 part-past-start c = search needs
 
 part-past-end : tie.Need-part-past-end Inv-loop μ-loop
-part-past-end c = search needs
+part-past-end c =
+    let h = head (c .before .before .before .before .before) in
+    omega (arith, h .before .natural-of3 .ensures .0, h .before .before .before .natural-of .ensures .0, begin h .pre .1 .1 .1 .0 .held .within)
 
 past-requires : tie.Need-past-requires Inv-loop μ-loop
 past-requires c κs =
-    let r = c .before .before .before in
+    let r = c .before .before .before .before .before .before in
     omega (arith, inside r, long (begin (head r)), ap length (part (head r)))
 
 -- ---- past the rows of one form
@@ -156,7 +173,7 @@ abbrev Past : Type 0
 Past = tie.After-past Inv-loop μ-loop
 
 abbrev from-read : Past → Read
-from-read c = c .before .before .before .before
+from-read c = c .before .before .before .before .before .before .before
 
 within : (c : Past) → c .past .result ≤ Size (begin (head (from-read c)))
 within c = let h = head (from-read c) in omega (arith, c .past .ensures .0 .1, long (begin h), ap length (part h))
@@ -171,7 +188,7 @@ found : (c : Past) → let r = from-read c in let s = begin (head r) in hasLower
 unfolding set node
 found c =
     let r = from-read c in
-    ap (hasLowered _ _ _) (is r) ∙ sym (c .before .before .before .partner .ensures .0 (omega (arith, wide (head r), c .before .before .if1 .left)))
+    ap (hasLowered _ _ _) (is r) ∙ sym (c .before .before .before .before .before .partner .ensures .0 (omega (arith, wide (head r), c .before .before .if1 .left)))
 
 module _ (c : Past) (a : ℕ) (l : a < c .past .result) (p : head (from-read c) .loop .i < a) where
   abbrev own : Start
@@ -197,14 +214,18 @@ module _ (c : Past) (a : ℕ) (l : a < c .past .result) (p : head (from-read c) 
 loop-again : tie.Need-loop-again Inv-loop μ-loop
 loop-again c =
     let h = head (from-read c) in
-    (within c, all-past _ _ (h .loop .inv .1) (found c) (later c), omega (arith, wide h, c .before .before .if1 .left))
+    let p = c .before .before .before .before .before in
+    (within c, all-past _ _ (h .loop .inv .1) (found c) (later c), omega (arith, wide h, c .before .before .if1 .left), p .partner .ensures .1 .1, as-long p)
+
+same-length-2 : tie.Need-same-length-2 Inv-loop μ-loop
+same-length-2 c = c .before .loop .inv .4
 
 returns-2 : tie.Need-returns-2 Inv-loop μ-loop
 unfolding set node
 returns-2 c =
     let h = c .before in
     let s = begin h in
-    sym (all-at _ (pos 0) _ (λ i q. rw (toZ-ofZ (s .fits .k)) at (h .loop .inv .1 i (omega (arith, h .before .before .before .natural-of .ensures .0, long s)))))
+    (sym (all-at _ (pos 0) _ (λ i q. rw (toZ-ofZ (s .fits .k)) at (h .loop .inv .1 i (omega (arith, h .before .before .before .natural-of .ensures .0, long s))))), h .loop .inv .3)
 
 pub all-lowered-spec : {M : Type 1} → statement M
 all-lowered-spec =
@@ -219,6 +240,7 @@ all-lowered-spec =
     add-natural-at
     natural-at-requires
     partner-requires
+    same-length
     returns
     add-from
     add-past
@@ -229,4 +251,5 @@ all-lowered-spec =
     past-requires
     loop-less
     loop-again
+    same-length-2
     returns-2)

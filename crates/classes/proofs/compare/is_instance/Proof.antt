@@ -21,7 +21,7 @@ formed : (b : tie.Start) → wellFormed (rows b) (b .args .on) ≡ true
 formed b = b .pre .0 .3 .formed (b .args .on) (b .pre .0 .1)
 
 iterates : (b : tie.Start) → (o : Op) × (kindOf (rows b (b .args .on) .kind) ≡ iteration o)
-iterates b = is-iteration (rows b) (b .args .on) (formed b) (b .pre .1)
+iterates b = is-iteration (rows b) (b .args .on) (formed b) (b .pre .1 .0)
 
 mul-kept-at : tie.Need-mul-kept-at
 mul-kept-at c = search needs
@@ -35,10 +35,12 @@ kept-at-requires c κs = search needs
 returns : tie.Need-returns
 returns c =
     let a = c .before in
-    let b = a .before .before .before in
-    sym
-    (loose-none _ _ _
-    (bit-one _ (λ e. c .if1 .taken (a .kept-at .ensures .0 ∙ b .pre .0 .4 (b .args .z) (b .pre .0 .2) .loose ∙ e))))
+    let b = a .before .before .before .before in (
+      sym
+          (loose-none _ _ _
+          (bit-one _ (λ e. c .if1 .taken (a .kept-at .ensures .0 ∙ b .pre .0 .4 (b .args .z) (b .pre .0 .2) .loose ∙ e)))),
+      b .pre .1 .1,
+    )
 
 natural-in-requires : tie.Need-natural-in-requires
 natural-in-requires c κs = search needs
@@ -51,7 +53,7 @@ natural-in-requires-2 c κs = search needs
 
 -- where the body has been read
 abbrev start : tie.After-natural-in2 → tie.Start
-start c = c .before .before .before .before .before .before .before
+start c = c .before .before .before .before .before .before .before .before
 
 body-below : (c : tie.After-natural-in2) → c .natural-in2 .result < start c .args .on
 unfolding column
@@ -61,23 +63,30 @@ body-below c =
 
 agrees-requires : tie.Need-agrees-requires
 unfolding column
-agrees-requires c κs =
+agrees-requires d κs =
+    let c = d .before in
     let b = start c in
     let small = offset-small _ (limit-offset (rows b) (b .args .on) (formed b) _ (iterates b .1)) in
-    ((omega (arith, c .before .before .natural-in .ensures, small), omega (arith, c .before .under-in .ensures, small)), (b .pre .0 .0, omega (arith, body-below c, b .pre .0 .1), b .pre .0 .2, b .pre .0 .3))
+    ((omega (arith, c .before .before .natural-in .ensures, small), omega (arith, c .before .under-in .ensures, small)), ((b .pre .0 .0, omega (arith, body-below c, b .pre .0 .1), b .pre .0 .2, b .pre .0 .3, b .pre .0 .5), b .pre .1 .1))
+
+same-length : tie.Need-same-length
+same-length c = c .before .before .agrees .kept .1 .1 .1 .1 .1 .1 .1 .1 .0
 
 returns-2 : tie.Need-returns-2
 unfolding column
 returns-2 c =
-    let n = c .before in
+    let a = c .before .before in
+    let n = a .before .before in
     let e = n .before .before .before in
-    let b = start n in
-    c .agrees .ensures
-    ∙ ap₂ (λ (k : ℤ) (m : ℕ). alike (lower k (ground (tree (rows b) m))) (ground (tree (rows b) (b .args .z))))
-    (ap₂ (λ (m n : ℕ). pos m -ℤ pos n) (n .before .before .natural-in .ensures) (n .before .under-in .ensures) ∙ whole-parts (rows b (b .args .on) .c))
-    (n .natural-in2 .ensures)
-    ∙ body-met (rows b (b .args .on) .c) _ _ (body-fixed (rows b) (b .args .on) (formed b) _ (iterates b .1))
-    (bit-zero _ (sym (b .pre .0 .4 (b .args .z) (b .pre .0 .2) .loose) ∙ sym (e .before .kept-at .ensures .0) ∙ e .if1 .left))
+    let b = start n in (
+      a .agrees .ensures .0
+          ∙ ap₂ (λ (k : ℤ) (m : ℕ). alike (lower k (ground (tree (rows b) m))) (ground (tree (rows b) (b .args .z))))
+          (ap₂ (λ (m n : ℕ). pos m -ℤ pos n) (n .before .before .natural-in .ensures) (n .before .under-in .ensures) ∙ whole-parts (rows b (b .args .on) .c))
+          (n .natural-in2 .ensures)
+          ∙ body-met (rows b (b .args .on) .c) _ _ (body-fixed (rows b) (b .args .on) (formed b) _ (iterates b .1))
+          (bit-zero _ (sym (b .pre .0 .4 (b .args .z) (b .pre .0 .2) .loose) ∙ sym (e .before .kept-at .ensures .0) ∙ e .if1 .left)),
+      a .agrees .ensures .1,
+    )
 
 pub is-instance-spec : {M : Type 1} → statement M
 is-instance-spec =
@@ -91,4 +100,5 @@ is-instance-spec =
     under-in-requires
     natural-in-requires-2
     agrees-requires
+    same-length
     returns-2)

@@ -23,35 +23,37 @@ small : (b : tie.Start) → (b .args .z < 1024) × (b .args .x < 1024)
 small b = let p = b .pre .0 in (omega (arith, p .1, p .3 .few), omega (arith, p .2, p .3 .few))
 
 mul-kept-at : tie.Need-mul-kept-at
-mul-kept-at c = omega (arith, small (c .before))
+mul-kept-at c = omega (arith, small (c .before .before))
 
 kept-at-requires : tie.Need-kept-at-requires
 kept-at-requires c κs = search needs
 
 mul-kept-at-2 : tie.Need-mul-kept-at-2
-mul-kept-at-2 c = omega (arith, small (c .before .before))
+mul-kept-at-2 c = omega (arith, small (c .before .before .before))
 
 kept-at-requires-2 : tie.Need-kept-at-requires-2
 kept-at-requires-2 c κs = search needs
 
 abbrev begin : tie.After-kept-at2 → tie.Start
-begin c = c .before .before .before
+begin c = c .before .before .before .before
 
 -- the answer where two rows do not meet
 unmet :
     (b : tie.Start)
     → alike (lower (b .args .k) (ground (tree (rows b) (b .args .z)))) (ground (tree (rows b) (b .args .x))) ≡ false
     → false ≡ alike (lower (b .args .k) (tree (rows b) (b .args .z))) (tree (rows b) (b .args .x))
-unmet b h = sym h ∙ outer-met (b .args .k) _ _ (b .pre .1 .0) (b .pre .1 .1)
+unmet b h = sym h ∙ outer-met (b .args .k) _ _ (b .pre .1 .0 .0) (b .pre .1 .0 .1)
 
 returns : tie.Need-returns
 returns c =
     let a = c .before in
     let b = begin a in
-    let p = b .pre .0 in
-    unmet b
-    (classes-differ (rows b) _ _ (p .3) (b .args .k) _ _ (p .1) (p .2)
-    (λ e. c .if1 .taken (a .before .kept-at .ensures .0 ∙ p .3 .worked _ (p .1) .class ∙ e ∙ sym (a .kept-at2 .ensures .0 ∙ p .3 .worked _ (p .2) .class))))
+    let p = b .pre .0 in (
+      unmet b
+          (classes-differ (rows b) _ _ (p .3) (b .args .k) _ _ (p .1) (p .2)
+          (λ e. c .if1 .taken (a .before .kept-at .ensures .0 ∙ p .3 .worked _ (p .1) .class ∙ e ∙ sym (a .kept-at2 .ensures .0 ∙ p .3 .worked _ (p .2) .class)))),
+      b .pre .1 .1,
+    )
 
 natural-requires : tie.Need-natural-requires
 natural-requires c κs = search needs
@@ -86,23 +88,32 @@ returns-2 c =
     let f = c .before in
     let u = f .before in
     let b = start u in
-    let p = b .pre .0 in
-    unmet b
-    (shifts-differ (rows b) _ _ (p .3) (b .args .k) _ _ (p .1) (p .2) _ _ (by u)
-    (sym (ap₂ (fitting _ _) (p .3 .worked _ (p .1) .shift) (p .3 .worked _ (p .2) .shift)) ∙ asked-false (f .shifts-fit .ensures) (c .if2 .taken)))
+    let p = b .pre .0 in (
+      unmet b
+          (shifts-differ (rows b) _ _ (p .3) (b .args .k) _ _ (p .1) (p .2) _ _ (by u)
+          (sym (ap₂ (fitting _ _) (p .3 .worked _ (p .1) .shift) (p .3 .worked _ (p .2) .shift)) ∙ asked-false (f .shifts-fit .ensures) (c .if2 .taken))),
+      b .pre .1 .1,
+    )
 
 agrees-requires : tie.Need-agrees-requires
 agrees-requires c κs =
-    let u = c .before .before in
-    ((up-small u, down-small u), start u .pre .0)
+    let u = c .before .before .before in
+    let b = start u in
+    ((up-small u, down-small u), (b .pre .0, b .pre .1 .1))
+
+same-length : tie.Need-same-length
+same-length c = c .before .before .agrees .kept .1 .1 .1 .1 .1 .1 .1 .1 .0
 
 returns-3 : tie.Need-returns-3
 returns-3 c =
-    let u = c .before .before .before in
-    let b = start u in
-    c .agrees .ensures
-    ∙ ap (λ (k : ℤ). alike (lower k (ground (tree (rows b) (b .args .z)))) (ground (tree (rows b) (b .args .x)))) (by u)
-    ∙ outer-met (b .args .k) _ _ (b .pre .1 .0) (b .pre .1 .1)
+    let a = c .before .before in
+    let u = a .before .before .before .before in
+    let b = start u in (
+      a .agrees .ensures .0
+          ∙ ap (λ (k : ℤ). alike (lower k (ground (tree (rows b) (b .args .z)))) (ground (tree (rows b) (b .args .x)))) (by u)
+          ∙ outer-met (b .args .k) _ _ (b .pre .1 .0 .0) (b .pre .1 .0 .1),
+      a .agrees .ensures .1,
+    )
 
 pub is-lowered-spec : {M : Type 1} → statement M
 is-lowered-spec =
@@ -118,4 +129,5 @@ is-lowered-spec =
     shifts-fit-requires
     returns-2
     agrees-requires
+    same-length
     returns-3)

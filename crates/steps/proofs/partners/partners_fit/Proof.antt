@@ -17,7 +17,7 @@ abbrev Lent : tie.Start → Tableau
 Lent s = lent (s .args .schema .now) (s .args .proof .now) (s .args .nodes .now) [] (s .args .t)
 
 abbrev begin : tie.Else1 → tie.Start
-begin c = c .before .before .before .before
+begin c = c .before .before .before .before .before
 
 -- the rule is 3 or 4
 numbered : (c : tie.Else1) → (n : ℕ) × (node (Lent (begin c)) (begin c .args .j) .rule ≡ pos n) × (3 ≤ n) × (n < 5)
@@ -29,7 +29,9 @@ unfolds-requires c κs = search needs
 
 returns : tie.Need-returns
 unfolding node
-returns c = no-partners (Lent (c .before .before .before .before)) _ (asked-false (c .before .unfolds .ensures) (c .if1 .taken))
+returns c =
+    let s = c .before .before .before .before .before in
+    (no-partners (Lent s) _ (asked-false (c .before .unfolds .ensures) (c .if1 .taken)), s .pre .1 .1 .1 .1 .0)
 
 natural-of-requires : tie.Need-natural-of-requires
 natural-of-requires c κs = search needs
@@ -42,17 +44,19 @@ unfolding node row rows rowCount
 is-shortened-requires c κs =
     let s = begin (c .before .before) in
     let k = numbered (c .before .before) in
-    let p = unfold-on (Lent s) _ _ (k .1) (s .pre .1 .0) (s .pre .1 .1 .1 .formed) (k .2) (k .3) in
-    let q = unfold-with (Lent s) _ _ (k .1) (s .pre .1 .0) (s .pre .1 .1 .1 .formed) (k .2) (k .3) in
-    rw (c .before .natural-of .ensures .0, c .natural-of2 .ensures .0) ((omega (arith, p .0, s .pre .1 .1 .1 .few), omega (arith, q .0, s .pre .1 .1 .1 .few)), (p .2, q .2))
+    let p = unfold-on (Lent s) _ _ (k .1) (s .pre .1 .0) (s .pre .1 .1 .1 .0 .formed) (k .2) (k .3) in
+    let q = unfold-with (Lent s) _ _ (k .1) (s .pre .1 .0) (s .pre .1 .1 .1 .0 .formed) (k .2) (k .3) in
+    rw (c .before .natural-of .ensures .0, c .natural-of2 .ensures .0) ((omega (arith, p .0, s .pre .1 .1 .1 .0 .few), omega (arith, q .0, s .pre .1 .1 .1 .0 .few)), (p .2, q .2))
 
 returns-2 : tie.Need-returns-2
 unfolding node row rows
 returns-2 c =
-    let s = begin (c .before .before .before .before) in
-    not-shortened (Lent s) _
-    (asked-true (c .before .before .before .before .before .unfolds .ensures) (c .before .before .before .before .if1 .left))
-    (rw (c .before .before .before .natural-of .ensures .0, c .before .before .natural-of2 .ensures .0) at (asked-false (c .before .is-shortened .ensures) (c .if2 .taken)))
+    let s = begin (c .before .before .before .before) in (
+      not-shortened (Lent s) _
+          (asked-true (c .before .before .before .before .before .unfolds .ensures) (c .before .before .before .before .if1 .left))
+          (rw (c .before .before .before .natural-of .ensures .0, c .before .before .natural-of2 .ensures .0) at (asked-false (c .before .is-shortened .ensures) (c .if2 .taken))),
+      s .pre .1 .1 .1 .1 .0,
+    )
 
 natural-of-requires-3 : tie.Need-natural-of-requires-3
 natural-of-requires-3 c κs = search needs
@@ -60,25 +64,33 @@ natural-of-requires-3 c κs = search needs
 is-instance-requires : tie.Need-is-instance-requires
 unfolding node row rows rowCount
 is-instance-requires c κs =
-    let e = c .before .before .before .before .before in
+    let o = c .before in
+    let e = o .before .before .before .before .before in
     let s = begin e in
     let k = numbered e in
-    let p = unfold-on (Lent s) _ _ (k .1) (s .pre .1 .0) (s .pre .1 .1 .1 .formed) (k .2) (k .3) in
-    let q = unfold-kind (Lent s) _ _ (k .1) (s .pre .1 .0) (s .pre .1 .1 .1 .formed) (k .2) (k .3) in
-    let r = unfold-other (Lent s) _ _ (k .1) (s .pre .1 .0) (s .pre .1 .1 .1 .formed) (k .2) (k .3) in
-    rw (c .before .before .before .before .natural-of .ensures .0, c .natural-of3 .ensures .0)
-    ((_, p .0, r, s .pre .1 .1 .1, s .pre .1 .1 .0), q)
+    let p = unfold-on (Lent s) _ _ (k .1) (s .pre .1 .0) (s .pre .1 .1 .1 .0 .formed) (k .2) (k .3) in
+    let q = unfold-kind (Lent s) _ _ (k .1) (s .pre .1 .0) (s .pre .1 .1 .1 .0 .formed) (k .2) (k .3) in
+    let r = unfold-other (Lent s) _ _ (k .1) (s .pre .1 .0) (s .pre .1 .1 .1 .0 .formed) (k .2) (k .3) in
+    rw (o .before .before .before .before .natural-of .ensures .0, o .natural-of3 .ensures .0)
+    ((_, p .0, r, s .pre .1 .1 .1 .0, s .pre .1 .1 .0, s .pre .1 .1 .1 .1 .1), (q, s .pre .1 .1 .1 .1 .0))
+
+same-length : tie.Need-same-length
+same-length c = c .before .before .is-instance .kept .1 .1 .1 .1 .1 .1 .1 .0
 
 returns-3 : tie.Need-returns-3
 unfolding node row rows isInstance formula
 returns-3 c =
-    let e = c .before .before .before .before .before .before in
-    let s = begin e in
-    c .is-instance .ensures
-    ∙ rw (c .before .before .before .before .before .natural-of .ensures .0, c .before .natural-of3 .ensures .0)
-    (instance-decides (Lent s) _
-    (asked-true (e .before .unfolds .ensures) (e .if1 .left))
-    (rw (c .before .before .before .before .before .natural-of .ensures .0, c .before .before .before .before .natural-of2 .ensures .0) at (asked-true (c .before .before .before .is-shortened .ensures) (c .before .before .if2 .left))))
+    let i = c .before .before in
+    let o = i .before .before in
+    let e = o .before .before .before .before .before in
+    let s = begin e in (
+      i .is-instance .ensures .0
+          ∙ rw (o .before .before .before .before .natural-of .ensures .0, o .natural-of3 .ensures .0)
+          (instance-decides (Lent s) _
+          (asked-true (e .before .unfolds .ensures) (e .if1 .left))
+          (rw (o .before .before .before .before .natural-of .ensures .0, o .before .before .before .natural-of2 .ensures .0) at (asked-true (o .before .before .is-shortened .ensures) (o .before .if2 .left)))),
+      i .is-instance .ensures .1,
+    )
 
 pub partners-fit-spec : {M : Type 1} → statement M
 partners-fit-spec =
@@ -92,4 +104,5 @@ partners-fit-spec =
     returns-2
     natural-of-requires-3
     is-instance-requires
+    same-length
     returns-3)

@@ -1,27 +1,47 @@
 use borrow.Author.Needs.{needs}
 use Prim.Native.Nat.{ℕ, _-_, _≤_}
 use native.Mathlib.Omega.{arith}
-use mathlib.Core.Path.{_≡_, sym, _∙_, ap, subst}
+use mathlib.Core.Path.{_≡_, refl, sym, _∙_, ap, subst}
 use mathlib.Core.Option.{none}
+use lib.ListN.{length}
 use Rattle.stab.specs.Basic.{scan}
+use Rattle.stab.specs.Formula.{joined}
 use Rattle.stab.specs.Check.{finding}
 use Rattle.stab.proofs.Scans.{scan-none, scan-more, scan-found}
+use Rattle.classes.specs.Agreed.{Remembers}
 use Rattle.branch.specs.Lent.{lent}
 use Rattle.steps.specs.Judged.{nodeRefusalAs}
 use Rattle.steps.proofs.steps.each_node.Statement.{statement}
 use Rattle.steps.proofs.steps.each_node.Tie as tie
 
 abbrev Inv-loop : tie.InvT-loop
-Inv-loop whole schema proof nodes members facts forms work t j₀ j = (j ≤ t .nodes) × (scan (nodeRefusalAs whole (lent schema proof nodes members t)) j ≡ none)
+Inv-loop whole schema proof nodes members facts forms work t agreed₀ j₀ agreed j =
+    (j ≤ t .nodes)
+    × (scan (nodeRefusalAs whole (lent schema proof nodes members t)) j ≡ none)
+    × Remembers (joined schema (t .schema) proof) agreed
+    × (length agreed ≡ length agreed₀)
 
 abbrev μ-loop : tie.MeasureT-loop
-μ-loop whole schema proof nodes members facts forms work t j₀ j = t .nodes - j
+μ-loop whole schema proof nodes members facts forms work t agreed₀ j₀ agreed j = t .nodes - j
+
+abbrev begin : tie.At-loop Inv-loop μ-loop → tie.Start Inv-loop μ-loop
+begin l = l .before .before .before .before .before
 
 loop-holds : tie.Need-loop-holds Inv-loop μ-loop
-loop-holds c = (omega arith, scan-none _ 0 (λ k l. absurd (omega arith)))
+loop-holds c = (omega arith, scan-none _ 0 (λ k l. absurd (omega arith)), c .before .before .before .before .pre .1 .0, refl)
 
 judge-requires : tie.Need-judge-requires Inv-loop μ-loop
-judge-requires c κs = (omega arith, c .before .before .before .before .before .before .pre)
+judge-requires c κs =
+    let l = c .before .before .before in
+    let s = begin l in
+    (omega arith, (s .pre .0, (l .loop .inv .2, omega (arith, l .loop .inv .3, s .pre .1 .1))))
+
+-- where a node has been judged
+abbrev within : tie.After-judge Inv-loop μ-loop → tie.At-loop Inv-loop μ-loop
+within c = c .before .before .before .before
+
+as-long : (c : tie.After-judge Inv-loop μ-loop) → length (c .judge .last .1 .1 .1 .1 .1 .1 .1 .1 .1 .1 .0) ≡ length (begin (within c) .args .agreed .now)
+as-long c = c .judge .kept .1 .1 .1 .1 .1 .1 .1 .1 .1 .1 .0 ∙ within c .loop .inv .3
 
 enum-told : tie.Need-enum-told Inv-loop μ-loop
 enum-told c = search needs
@@ -29,15 +49,18 @@ enum-told c = search needs
 enum-told-2 : tie.Need-enum-told-2 Inv-loop μ-loop
 enum-told-2 c = search needs
 
+same-length : tie.Need-same-length Inv-loop μ-loop
+same-length c = as-long (c .before .before .before .before)
+
 returns : tie.Need-returns Inv-loop μ-loop
 unfolding finding
 returns c =
-    let l = c .before .before .before .before .before in
+    let n = c .before .before .before .before in
     let e = ap finding (c .enum-told2 .given .1) in
-    e ∙ sym (scan-found _ _ _ _ (c .before .before .before .if1 .taken) (l .loop .inv .1) (sym (c .before .before .judge .ensures) ∙ e))
+    (e ∙ sym (scan-found _ _ _ _ (n .before .before .if1 .taken) (within n .loop .inv .1) (sym (n .judge .ensures .0) ∙ e)), n .judge .ensures .1)
 
 add-j : tie.Need-add-j Inv-loop μ-loop
-add-j c = omega (arith, c .before .before .before .before .before .before .before .before .before .pre .nodeLimit)
+add-j c = omega (arith, begin (within (c .before .before .before .before)) .pre .0 .nodeLimit)
 
 loop-less : tie.Need-loop-less Inv-loop μ-loop
 loop-less c = omega arith
@@ -45,16 +68,19 @@ loop-less c = omega arith
 loop-again : tie.Need-loop-again Inv-loop μ-loop
 unfolding finding
 loop-again c =
-    let l = c .before .before .before .before .before in
-    (omega arith, scan-more _ _ (l .loop .inv .1) (sym (c .before .before .judge .ensures) ∙ ap finding (c .enum-told .given .1)))
+    let n = c .before .before .before .before in
+    (omega arith, scan-more _ _ (within n .loop .inv .1) (sym (n .judge .ensures .0) ∙ ap finding (c .enum-told .given .1)), n .judge .ensures .1, as-long n)
+
+same-length-2 : tie.Need-same-length-2 Inv-loop μ-loop
+same-length-2 c = c .before .before .loop .inv .3
 
 returns-2 : tie.Need-returns-2 Inv-loop μ-loop
 unfolding finding
 returns-2 c =
-    let s = c .before .before .before .before .before .before in
     let l = c .before .before in
+    let s = begin l in
     let e : l .loop .j ≡ s .args .t .nodes = omega arith in
-    sym (subst (λ (n : ℕ). scan (nodeRefusalAs (s .args .whole) (lent (s .args .schema .now) (s .args .proof .now) (s .args .nodes .now) (s .args .members .now) (s .args .t))) n ≡ none) e (l .loop .inv .1))
+    (sym (subst (λ (n : ℕ). scan (nodeRefusalAs (s .args .whole) (lent (s .args .schema .now) (s .args .proof .now) (s .args .nodes .now) (s .args .members .now) (s .args .t))) n ≡ none) e (l .loop .inv .1)), l .loop .inv .2)
 
 pub each-node-spec : {M : Type 1} → statement M
 each-node-spec =
@@ -66,8 +92,10 @@ each-node-spec =
     judge-requires
     enum-told
     enum-told-2
+    same-length
     returns
     add-j
     loop-less
     loop-again
+    same-length-2
     returns-2)

@@ -13,7 +13,7 @@ is-of-requires c κs = search needs
 
 returns : tie.Need-returns
 unfolding loweredFits ofRule node
-returns c = implies-spared _ _ (asked-false (c .before .is-of .ensures) (c .if1 .taken))
+returns c = (implies-spared _ _ (asked-false (c .before .is-of .ensures) (c .if1 .taken)), c .before .before .before .before .pre .1 .1 .1 .1 .0)
 
 natural-of-requires : tie.Need-natural-of-requires
 natural-of-requires c κs = search needs
@@ -30,17 +30,25 @@ at-requires c κs = search needs
 all-lowered-requires : tie.Need-all-lowered-requires
 unfolding ofRule
 all-lowered-requires c κs =
-    let e = c .before .before in
-    let p = e .before .before .before .pre in
-    let q = p .1 .1 .1 (asked-true (e .before .is-of .ensures) (e .if1 .left)) in
-    rw (c .before .natural-of .ensures .0) ((p .0, q .0), (p .1 .0, (p .1 .1 .0, q .1)))
+    let a = c .before in
+    let e = a .before .before in
+    let p = e .before .before .before .before .pre in
+    let q = p .1 .1 .1 .0 (asked-true (e .before .is-of .ensures) (e .if1 .left)) in
+    rw (a .before .natural-of .ensures .0) ((p .0, q .0), (p .1 .0, (p .1 .1 .0, (q .1, p .1 .1 .1 .1))))
+
+same-length : tie.Need-same-length
+same-length c = c .before .before .all-lowered .kept .1 .1 .1 .1 .1 .1 .1 .1 .1 .0
 
 returns-2 : tie.Need-returns-2
 unfolding loweredFits ofRule node nodeAt
 returns-2 c =
-    let e = c .before .before .before in
-    rw (read-back _ (c .before .at .ok), c .before .at .ensures, c .before .before .natural-of .ensures .0) at (c .all-lowered .ensures)
-    ∙ implies-made _ _ (asked-true (e .before .is-of .ensures) (e .if1 .left))
+    let l = c .before .before in
+    let a = l .before .before in
+    let e = a .before .before in (
+      rw (read-back _ (a .at .ok), a .at .ensures, a .before .natural-of .ensures .0) at (l .all-lowered .ensures .0)
+          ∙ implies-made _ _ (asked-true (e .before .is-of .ensures) (e .if1 .left)),
+      l .all-lowered .ensures .1,
+    )
 
 pub lowered-fits-spec : {M : Type 1} → statement M
 lowered-fits-spec =
@@ -53,4 +61,5 @@ lowered-fits-spec =
     add-at
     at-requires
     all-lowered-requires
+    same-length
     returns-2)

@@ -19,7 +19,7 @@ same-length-2 : tie.Need-same-length-2
 same-length-2 c = search needs
 
 returns : tie.Need-returns
-returns c = c .before .before .before .before .before .work-out .ensures
+returns c = c .before .before .before .before .before .work-out .ensures .1 .1 .1
 
 pub classify-spec : {M : Type 1} → statement M
 classify-spec = tie.close (tie.spec slice-aggregate-work-out work-out-requires same-length same-length-2 returns)

@@ -8,6 +8,7 @@ use Rattle.stab.specs.Basic.{_otherwise_, scan}
 use Rattle.stab.specs.Node.{Tableau}
 use Rattle.stab.specs.Check.{finding}
 use Rattle.stab.proofs.Findings.{stays, nothing-found, later}
+use Rattle.classes.proofs.Remembering.{nothing-agreed}
 use Rattle.branch.specs.Work.{tableau}
 use Rattle.steps.specs.Judged.{nodeRefusalAs}
 use Rattle.tableau.specs.Passes.{rowsRefusal, nodesRefusal}
@@ -61,20 +62,23 @@ slice-aggregate-single-steps-3 c = search needs
 slice-aggregate-single-steps-4 : tie.Need-slice-aggregate-single-steps-4
 slice-aggregate-single-steps-4 c = search needs
 
+slice-aggregate-single-steps-5 : tie.Need-slice-aggregate-single-steps-5
+slice-aggregate-single-steps-5 c = search needs
+
 single-steps-requires : tie.Need-single-steps-requires
 unfolding finding
 single-steps-requires c κs =
-    let told = c .before .before .before .before in
+    let told = c .before .before .before .before .before in
     let found = told .before .before .before in
     let p = found .before .before .pre in (
       (omega (arith, p .0), omega (arith, p .0), omega (arith, p .0), omega (arith, p .1), p .2, p .3, p .4, omega (arith, p .1)),
-      (found .passes .ensures .1 (ap finding (told .enum-told .given .1)), nothing-found _ _ (found .passes .ensures .0) (told .enum-told .given .1)),
+      (found .passes .ensures .1 (ap finding (told .enum-told .given .1)), (nothing-found _ _ (found .passes .ensures .0) (told .enum-told .given .1), (nothing-agreed _ 1024, omega (arith, p .0)))),
     )
 
 returns-2 : tie.Need-returns-2
 returns-2 c =
-    let judged = c .before .before .before in
-    let told = judged .before .before .before .before .before in
+    let judged = c .before .before .before .before in
+    let told = judged .before .before .before .before .before .before in
     let found = told .before .before .before in
     let start = found .before .before in
     later _ _ _ (nothing-found _ _ (passes-found found) (told .enum-told .given .1))
@@ -94,5 +98,6 @@ large-record-spec =
     slice-aggregate-single-steps-2
     slice-aggregate-single-steps-3
     slice-aggregate-single-steps-4
+    slice-aggregate-single-steps-5
     single-steps-requires
     returns-2)

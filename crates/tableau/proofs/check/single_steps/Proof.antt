@@ -31,7 +31,7 @@ lent c = lentAt c (toZ w32 (ofZ w32 (c .args .root))) (toZ w32 (ofZ w32 (c .args
 passed : (c : tie.Start) → (rowsRefusal (lent c) otherwise nodesRefusal (c .args .whole) (lent c)) ≡ none
 passed c =
     ap₂ (λ (r l : ℤ). rowsRefusal (lentAt c r l) otherwise nodesRefusal (c .args .whole) (lentAt c r l)) (toZ-ofZ (c .fits .root)) (toZ-ofZ (c .fits .least))
-    ∙ c .pre .1 .1
+    ∙ c .pre .1 .1 .0
 
 rows-passed : (c : tie.Start) → rowsRefusal (lent c) ≡ none
 rows-passed c = otherwise-first _ _ (passed c)
@@ -42,7 +42,7 @@ nodes-passed c = otherwise-second (rowsRefusal (lent c)) _ (passed c)
 work-out-requires : tie.Need-work-out-requires
 unfolding tableau
 work-out-requires c κs =
-    let start = c .before .before .before .before .before in
+    let start = c .before .before .before .before .before .before in
     let T = lent start in (
       start .pre .0 .3,
       start .pre .0 .7,
@@ -51,30 +51,32 @@ work-out-requires c κs =
     )
 
 add-classify : tie.Need-add-classify
-add-classify c = omega (arith, c .before .before .before .before .before .before .before .before .pre .0 .0)
+add-classify c = omega (arith, c .before .before .before .before .before .before .before .before .before .pre .0 .0)
 
 classify-requires : tie.Need-classify-requires
 classify-requires c κs =
-    let start = c .before .before .before .before .before .before .before .before .before .before in
+    let start = c .before .before .before .before .before .before .before .before .before .before .before in
     ((start .pre .0 .0, start .pre .0 .1, start .pre .0 .2), start .pre .1 .0 .1)
 
 each-node-requires : tie.Need-each-node-requires
 unfolding tableau rows rowCount
 each-node-requires c κs =
-    let start = c .before .before .before .before .before .before .before .before .before .before .before .before .before .before .before .before .before in
-    let T = lent start in
-    record {
-      nodeLimit = start .pre .0 .3;
-      memberLimit = start .pre .0 .4;
-      nodesHeld = start .pre .0 .5;
-      membersHeld = start .pre .0 .6;
-      leastFits = least-fits T (rows-passed start);
-      known = start .pre .1 .0 .0;
-      compared = record { few = start .pre .0 .0; formed = start .pre .1 .0 .1; worked = c .before .before .before .before .before .before .classify .ensures };
-      sets = set-fits T _ (nodes-passed start);
-      parents = parent-fits T _ (nodes-passed start);
-      worked = c .before .before .before .before .before .before .before .before .before .before .before .work-out .ensures .0;
-    }
+    let start = c .before .before .before .before .before .before .before .before .before .before .before .before .before .before .before .before .before .before .before in
+    let T = lent start in (
+      record {
+        nodeLimit = start .pre .0 .3;
+        memberLimit = start .pre .0 .4;
+        nodesHeld = start .pre .0 .5;
+        membersHeld = start .pre .0 .6;
+        leastFits = least-fits T (rows-passed start);
+        known = start .pre .1 .0 .0;
+        compared = record { few = start .pre .0 .0; formed = start .pre .1 .0 .1; worked = c .before .before .before .before .before .before .before .classify .ensures };
+        sets = set-fits T _ (nodes-passed start);
+        parents = parent-fits T _ (nodes-passed start);
+        worked = c .before .before .before .before .before .before .before .before .before .before .before .before .work-out .ensures .0;
+      },
+      start .pre .1 .1 .1,
+    )
 
 same-length : tie.Need-same-length
 same-length c = search needs
@@ -85,11 +87,14 @@ same-length-2 c = search needs
 same-length-3 : tie.Need-same-length-3
 same-length-3 c = search needs
 
+same-length-4 : tie.Need-same-length-4
+same-length-4 c = search needs
+
 returns : tie.Need-returns
 unfolding tableau
 returns c =
-    let start = c .before .before .before .before .before .before .before .before .before .before .before .before .before .before .before .before .before .before in
-    c .each-node .ensures
+    let start = c .before .before .before .before .before .before .before .before .before .before .before .before .before .before .before .before .before .before .before .before .before .before in
+    c .before .before .each-node .ensures .0
     ∙ ap₂ (λ (r l : ℤ). scan (nodeRefusalAs (start .args .whole) (lentAt start r l)) (start .args .k)) (toZ-ofZ (start .fits .root)) (toZ-ofZ (start .fits .least))
 
 pub single-steps-spec : {M : Type 1} → statement M
@@ -103,4 +108,5 @@ single-steps-spec =
     same-length
     same-length-2
     same-length-3
+    same-length-4
     returns)

@@ -6,8 +6,8 @@ use lib.Dec.{eqb}
 use Rattle.formula.specs.Column.{column}
 use Rattle.formula.proofs.RowLaws.{offset-small}
 use Rattle.classes.proofs.Meets.{raised-test}
-use Rattle.classes.proofs.compare.is_raised.Statement.{statement}
-use Rattle.classes.proofs.compare.is_raised.Tie as tie
+use Rattle.classes.proofs.numbers.is_raised.Statement.{statement}
+use Rattle.classes.proofs.numbers.is_raised.Tie as tie
 
 natural-in-requires : tie.Need-natural-in-requires
 natural-in-requires c κs = search needs

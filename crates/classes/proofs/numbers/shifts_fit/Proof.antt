@@ -6,8 +6,8 @@ use lib.Dec.{eqb}
 use borrow.Author.Tests.{eq-eqb, ne-eqb}
 use Rattle.stab.proofs.Bools.{if-true, if-false}
 use Rattle.classes.specs.Key.{fitting}
-use Rattle.classes.proofs.compare.shifts_fit.Statement.{statement}
-use Rattle.classes.proofs.compare.shifts_fit.Tie as tie
+use Rattle.classes.proofs.numbers.shifts_fit.Statement.{statement}
+use Rattle.classes.proofs.numbers.shifts_fit.Tie as tie
 
 mul-kept-at : tie.Need-mul-kept-at
 mul-kept-at c = search needs
