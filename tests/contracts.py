@@ -30,6 +30,11 @@ PRIVATE = {
     "text::reader::read_lines members": "as table",
 }
 OTHERS = {
+    "classes::compare::is_lowered agreed": "what is remembered of comparisons: each call finds it true (`Remembers`) and leaves it so; answers rest on no more",
+    "classes::compare::is_instance agreed": "as of is_lowered",
+    "alike::lowered::all_lowered agreed": "as of is_lowered",
+    "steps::partners::partners_fit agreed": "as of is_lowered",
+    "steps::steps::each_node agreed": "as of is_lowered",
     "files::load buf": "the bytes of a file; past those counted there are zeros",
 }
 
