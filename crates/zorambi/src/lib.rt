@@ -13,11 +13,12 @@ pub mod wider;
 ghost use mathlib.Core.Path.{_≡_};
 ghost use Rattle.stab.specs.Check.{check, checkOlder};
 ghost use Rattle.stab.specs.Model.{checkModel};
-ghost use Rattle.stab.specs.Answer.{packed, answerIn};
-ghost use Rattle.stab.specs.Refuted.{Refuted, Irrefutable};
+ghost use Rattle.stab.specs.Answer.{packed};
+ghost use Rattle.branch.specs.Work.{tableau};
+ghost use Rattle.told.specs.Demands.{CheckSays, OlderSays, ModelSays};
 
-// The check. An answer of 0 in the number says that the schema is false at every natural n from its least value up, under every
-// assignment.
+// The check. The number's answer is 0 exactly when the tableau keeps the rules; then its counts are those of the rows, the schema is
+// false at every natural n from its least value up, under every assignment, and no model of it is accepted.
 #[no_mangle]
 pub extern "C" fn zorambi_check(
     schema: &[i32],
@@ -31,8 +32,8 @@ pub extern "C" fn zorambi_check(
     members: &[i32],
     member_count: usize,
 ) -> u64
-    ensures { λ r. ⌜ r ≡ packed (check (record { schema = now (schema .entry); schemaRows = «schema_rows»; proof = now (proof .entry); proofRows = «proof_rows»; root = root; least = least; nodes = now (nodes .entry); nodeRows = «node_rows»; members = now (members .entry); memberCount = «member_count» })) ⌝ }
-    ensures { λ r. ⌜ (answerIn r ≡ 0 → Refuted (now (schema .entry)) root least) ⌝ }
+    ensures { λ r. ⌜ r ≡ packed (check (tableau (now (schema .entry)) «schema_rows» (now (proof .entry)) «proof_rows» root least (now (nodes .entry)) «node_rows» (now (members .entry)) «member_count»)) ⌝ }
+    ensures { λ r. ⌜ CheckSays (tableau (now (schema .entry)) «schema_rows» (now (proof .entry)) «proof_rows» root least (now (nodes .entry)) «node_rows» (now (members .entry)) «member_count») r ⌝ }
 {
     answer::pack(tableau::check::check(
         schema,
@@ -62,8 +63,8 @@ pub extern "C" fn zorambi_check_older(
     members: &[i32],
     member_count: usize,
 ) -> u64
-    ensures { λ r. ⌜ r ≡ packed (checkOlder (record { schema = now (schema .entry); schemaRows = «schema_rows»; proof = now (proof .entry); proofRows = «proof_rows»; root = root; least = least; nodes = now (nodes .entry); nodeRows = «node_rows»; members = now (members .entry); memberCount = «member_count» })) ⌝ }
-    ensures { λ r. ⌜ (answerIn r ≡ 0 → Refuted (now (schema .entry)) root least) ⌝ }
+    ensures { λ r. ⌜ r ≡ packed (checkOlder (tableau (now (schema .entry)) «schema_rows» (now (proof .entry)) «proof_rows» root least (now (nodes .entry)) «node_rows» (now (members .entry)) «member_count»)) ⌝ }
+    ensures { λ r. ⌜ OlderSays (tableau (now (schema .entry)) «schema_rows» (now (proof .entry)) «proof_rows» root least (now (nodes .entry)) «node_rows» (now (members .entry)) «member_count») r ⌝ }
 {
     answer::pack(tableau::check::check_older(
         schema,
@@ -79,8 +80,8 @@ pub extern "C" fn zorambi_check_older(
     ))
 }
 
-// The model check. An answer of 0 says that no tableau of the same schema rows, root and least value is accepted, by the check or by
-// the older one.
+// The model check. The number's answer is 0 exactly when the model is right; then no tableau of the same schema rows, root and least
+// value is accepted, by the check or by the older one.
 #[no_mangle]
 pub extern "C" fn zorambi_check_model(
     schema: &[i32],
@@ -92,7 +93,7 @@ pub extern "C" fn zorambi_check_model(
     pair_rows: usize,
 ) -> u64
     ensures { λ r. ⌜ r ≡ packed (checkModel (record { schema = now (schema .entry); schemaRows = «schema_rows»; root = root; least = least; n = n; pairs = now (pairs .entry); pairRows = «pair_rows» })) ⌝ }
-    ensures { λ r. ⌜ (answerIn r ≡ 0 → Irrefutable (now (schema .entry)) «schema_rows» root least) ⌝ }
+    ensures { λ r. ⌜ ModelSays (record { schema = now (schema .entry); schemaRows = «schema_rows»; root = root; least = least; n = n; pairs = now (pairs .entry); pairRows = «pair_rows» }) r ⌝ }
 {
     answer::pack(model::check_model(schema, schema_rows, root, least, n, pairs, pair_rows))
 }
