@@ -1,14 +1,7 @@
 use mathlib.Core.Path.{sym, _∙_, ap, subst}
-use mathlib.Core.List.{List}
-use lib.IntN.{ℤ, pos}
-use lib.ListN.{length}
 use borrow.Author.Needs.{needs}
-use Rattle.stab.specs.Read.{readModel, pairTable}
-use Rattle.stab.specs.Answer.{writtenNumbers}
 use Rattle.stab.specs.Entry.{writtenPacked, WrittenFits}
-use Rattle.stab.specs.declared.Written.{Written}
 use Rattle.stab.proofs.Entries.{stops-model}
-use Rattle.round.specs.Again.{kept}
 use Rattle.zorambi.proofs.Fits.{text-fits}
 use Rattle.zorambi.proofs.again.zorambi_model_again.Statement.{statement}
 use Rattle.zorambi.proofs.again.zorambi_model_again.Tie as tie
@@ -25,18 +18,10 @@ same-length c = search needs
 same-length-2 : tie.Need-same-length-2
 same-length-2 c = search needs
 
--- what is left in a table by the answer
-left : List ℤ → Written → List ℤ
-left t w = kept (pos 0) (writtenNumbers w .answer) t
-
 returns : tie.Need-returns
-unfolding left
 returns c =
-    let r = c .before .before .before .before in
-    let a = r .before .before .before .before .before .args in
-    let R = readModel (length (a .pairs .now)) (a .text .now) in
-    let e = r .model-again .ensures in
-    (c .written .ensures ∙ ap writtenPacked (e .0), (e .1 .0, e .1 .1 ∙ ap (left (pairTable (length (a .pairs .now)) R)) (e .0)))
+    let e = c .before .before .before .before .model-again .ensures in
+    (c .written .ensures ∙ ap writtenPacked (e .0), rw (e .0) at (e .1))
 
 pub zorambi-model-again-spec : {M : Type 1} → statement M
 zorambi-model-again-spec =

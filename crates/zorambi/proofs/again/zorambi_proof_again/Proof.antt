@@ -1,14 +1,7 @@
 use mathlib.Core.Path.{sym, _∙_, ap, subst}
-use mathlib.Core.List.{List}
-use lib.IntN.{ℤ, pos}
-use lib.ListN.{length}
 use borrow.Author.Needs.{needs}
-use Rattle.stab.specs.Read.{readProof, proofTable, nodeTable, memberTable}
-use Rattle.stab.specs.Answer.{writtenNumbers}
 use Rattle.stab.specs.Entry.{writtenPacked, WrittenFits}
-use Rattle.stab.specs.declared.Written.{Written}
 use Rattle.stab.proofs.Entries.{stops-proof}
-use Rattle.round.specs.Again.{kept}
 use Rattle.zorambi.proofs.Fits.{text-fits}
 use Rattle.zorambi.proofs.again.zorambi_proof_again.Statement.{statement}
 use Rattle.zorambi.proofs.again.zorambi_proof_again.Tie as tie
@@ -31,18 +24,10 @@ same-length-3 c = search needs
 same-length-4 : tie.Need-same-length-4
 same-length-4 c = search needs
 
--- what is left in a table by the answer
-left : List ℤ → Written → List ℤ
-left t w = kept (pos 0) (writtenNumbers w .answer) t
-
 returns : tie.Need-returns
-unfolding left
 returns c =
-    let r = c .before .before .before .before .before .before in
-    let a = r .before .before .before .before .before .before .before .args in
-    let R = readProof (length (a .table .now)) (length (a .nodes .now)) (length (a .members .now)) (a .text .now) in
-    let e = r .proof-again .ensures in
-    (c .written .ensures ∙ ap writtenPacked (e .0), (e .1 .0, (e .1 .1 .0 ∙ ap (left (proofTable (length (a .table .now)) R)) (e .0), (e .1 .1 .1 .0 ∙ ap (left (nodeTable (length (a .nodes .now)) R)) (e .0), e .1 .1 .1 .1 ∙ ap (left (memberTable (length (a .members .now)) R)) (e .0)))))
+    let e = c .before .before .before .before .before .before .proof-again .ensures in
+    (c .written .ensures ∙ ap writtenPacked (e .0), rw (e .0) at (e .1))
 
 pub zorambi-proof-again-spec : {M : Type 1} → statement M
 zorambi-proof-again-spec =
