@@ -66,7 +66,8 @@ pub extern "C" fn zorambi_check_older(
     ensures { λ r. ⌜ r ≡ packed (checkOlder (tableau (now (schema .entry)) «schema_rows» (now (proof .entry)) «proof_rows» root least (now (nodes .entry)) «node_rows» (now (members .entry)) «member_count»)) ⌝ }
     ensures { λ r. ⌜ OlderSays (tableau (now (schema .entry)) «schema_rows» (now (proof .entry)) «proof_rows» root least (now (nodes .entry)) «node_rows» (now (members .entry)) «member_count») r ⌝ }
 {
-    answer::pack(tableau::check::check_older(
+    answer::pack(tableau::check::check_as(
+        true,
         schema,
         schema_rows,
         proof,

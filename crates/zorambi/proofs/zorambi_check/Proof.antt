@@ -1,6 +1,5 @@
 use mathlib.Core.Path.{sym, subst}
 use mir.Facts.{toZ-ofZ}
-use borrow.Author.Needs.{needs}
 use Rattle.stab.specs.Answer.{Packs}
 use Rattle.stab.proofs.Packed.{check-packs}
 use Rattle.branch.specs.Work.{tableau}
@@ -9,7 +8,7 @@ use Rattle.zorambi.proofs.zorambi_check.Statement.{statement}
 use Rattle.zorambi.proofs.zorambi_check.Tie as tie
 
 check-requires : tie.Need-check-requires
-check-requires c κs = search needs
+check-requires c κs = tt
 
 pack-requires : tie.Need-pack-requires
 pack-requires c κs = subst Packs (sym (c .check .ensures .0)) (check-packs _)

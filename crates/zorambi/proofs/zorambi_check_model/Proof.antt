@@ -1,6 +1,5 @@
 use mathlib.Core.Path.{sym, subst}
 use mir.Facts.{toZ-ofZ}
-use borrow.Author.Needs.{needs}
 use Rattle.stab.specs.Answer.{Packs}
 use Rattle.stab.proofs.Packed.{model-packs}
 use Rattle.told.proofs.Says.{model-told}
@@ -8,7 +7,7 @@ use Rattle.zorambi.proofs.zorambi_check_model.Statement.{statement}
 use Rattle.zorambi.proofs.zorambi_check_model.Tie as tie
 
 check-model-requires : tie.Need-check-model-requires
-check-model-requires c κs = search needs
+check-model-requires c κs = tt
 
 pack-requires : tie.Need-pack-requires
 pack-requires c κs = subst Packs (sym (c .check-model .ensures .0)) (model-packs _)

@@ -7,7 +7,7 @@ use Rattle.zorambi.proofs.again.zorambi_model_again.Statement.{statemen
 use Rattle.zorambi.proofs.again.zorambi_model_again.Tie as tie
 
 model-again-requires : tie.Need-model-again-requires
-model-again-requires c κs = search needs
+model-again-requires c κs = tt
 
 written-requires : tie.Need-written-requires
 written-requires c κs = subst WrittenFits (sym (c .before .before .before .model-again .ensures .0)) (text-fits _ _ _ (stops-model _ _))

@@ -8,7 +8,7 @@ use Rattle.zorambi.proofs.again.zorambi_model_rows_again.Statement.{sta
 use Rattle.zorambi.proofs.again.zorambi_model_rows_again.Tie as tie
 
 model-rows-again-requires : tie.Need-model-rows-again-requires
-model-rows-again-requires c κs = search needs
+model-rows-again-requires c κs = tt
 
 model-requires : tie.Need-model-requires
 model-requires c κs = subst ModelFits (sym (c .before .before .before .before .model-rows-again .ensures .0)) (model-rows-fit _ _ _ _ _)

@@ -7,7 +7,7 @@ use Rattle.zorambi.proofs.again.zorambi_proof_again.Statement.{statemen
 use Rattle.zorambi.proofs.again.zorambi_proof_again.Tie as tie
 
 proof-again-requires : tie.Need-proof-again-requires
-proof-again-requires c κs = search needs
+proof-again-requires c κs = tt
 
 written-requires : tie.Need-written-requires
 written-requires c κs = subst WrittenFits (sym (c .before .before .before .before .before .proof-again .ensures .0)) (text-fits _ _ _ (stops-proof _ _ _ _))

@@ -7,7 +7,7 @@ use Rattle.zorambi.proofs.again.zorambi_proof_rows_again.Statement.{sta
 use Rattle.zorambi.proofs.again.zorambi_proof_rows_again.Tie as tie
 
 proof-rows-again-requires : tie.Need-proof-rows-again-requires
-proof-rows-again-requires c κs = search needs
+proof-rows-again-requires c κs = tt
 
 proof-requires : tie.Need-proof-requires
 proof-requires c κs = subst ProofFits (sym (c .before .before .before .before .before .before .proof-rows-again .ensures .0)) (proof-rows-fit _ _ _ _ _ _ _ _)

@@ -7,7 +7,7 @@ use Rattle.zorambi.proofs.again.zorambi_schema_again.Statement.{stateme
 use Rattle.zorambi.proofs.again.zorambi_schema_again.Tie as tie
 
 schema-again-requires : tie.Need-schema-again-requires
-schema-again-requires c κs = search needs
+schema-again-requires c κs = tt
 
 written-requires : tie.Need-written-requires
 written-requires c κs = subst WrittenFits (sym (c .before .before .before .schema-again .ensures .0)) (text-fits _ _ _ (stops-schema _ _))

@@ -8,7 +8,7 @@ use Rattle.zorambi.proofs.again.zorambi_schema_rows_again.Statement.{st
 use Rattle.zorambi.proofs.again.zorambi_schema_rows_again.Tie as tie
 
 schema-rows-again-requires : tie.Need-schema-rows-again-requires
-schema-rows-again-requires c κs = search needs
+schema-rows-again-requires c κs = tt
 
 schema-requires : tie.Need-schema-requires
 schema-requires c κs = subst SchemaFits (sym (c .before .before .before .before .schema-rows-again .ensures .0)) (schema-rows-fit _ _ _ _ _ _)

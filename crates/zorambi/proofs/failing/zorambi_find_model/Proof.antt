@@ -10,7 +10,7 @@ use Rattle.zorambi.proofs.failing.zorambi_find_model.Statement.{stateme
 use Rattle.zorambi.proofs.failing.zorambi_find_model.Tie as tie
 
 find-model-requires : tie.Need-find-model-requires
-find-model-requires c κs = search needs
+find-model-requires c κs = tt
 
 first-model-requires : tie.Need-first-model-requires
 first-model-requires c κs =

@@ -1,6 +1,5 @@
 use Prim.Native.Nat.{_<_}
 use mathlib.Core.Path.{sym, _∙_, ap, subst}
-use borrow.Author.Needs.{needs}
 use Rattle.stab.specs.Entry.{faultNumber}
 use Rattle.stab.specs.declared.Fault.{Fault}
 use Rattle.stab.proofs.Entries.{model-fault-fits}
@@ -8,7 +7,7 @@ use Rattle.zorambi.proofs.fault.zorambi_model_fault.Statement.{statemen
 use Rattle.zorambi.proofs.fault.zorambi_model_fault.Tie as tie
 
 model-fault-requires : tie.Need-model-fault-requires
-model-fault-requires c κs = search needs
+model-fault-requires c κs = tt
 
 fault-requires : tie.Need-fault-requires
 fault-requires c κs = subst (λ (f : Fault). f .line < 16384) (sym (c .model-fault .ensures)) (model-fault-fits _ _)

@@ -1,13 +1,17 @@
-use mathlib.Core.Path.{sym, _∙_, ap, subst}
+use mathlib.Core.Path.{sym, ap₂, subst}
+use lib.IntN.{ℤ}
 use mir.Facts.{toZ-ofZ}
+use denote.Ref.{now}
 use borrow.Author.Needs.{needs}
-use Rattle.joint.specs.Joint.{joinedPacked, joinedResults}
+use Rattle.stab.specs.Node.{Tableau}
+use Rattle.branch.specs.Work.{tableau}
 use Rattle.joint.proofs.Lent.{JoinedFits, join-fits}
+use Rattle.zorambi.proofs.Gives.{join-gives}
 use Rattle.zorambi.proofs.joiner.zorambi_join.Statement.{statement}
 use Rattle.zorambi.proofs.joiner.zorambi_join.Tie as tie
 
 join-requires : tie.Need-join-requires
-join-requires c κs = search needs
+join-requires c κs = tt
 
 joined-requires : tie.Need-joined-requires
 joined-requires c κs = subst JoinedFits (sym (c .before .before .before .before .before .join .ensures .0)) (join-fits _ _ _)
@@ -24,13 +28,26 @@ same-length-3 c = search needs
 same-length-4 : tie.Need-same-length-4
 same-length-4 c = search needs
 
+abbrev first : tie.Start → ℤ → ℤ → Tableau
+first s root least =
+    let a = s .args in
+    tableau (now (a .first-schema)) (a .first-schema-rows) (now (a .first-proof)) (a .first-proof-rows) root least (now (a .first-nodes)) (a .first-node-rows) (now (a .first-members)) (a .first-member-count)
+
+abbrev second : tie.Start → ℤ → ℤ → Tableau
+second s root least =
+    let a = s .args in
+    tableau (now (a .second-schema)) (a .second-schema-rows) (now (a .second-proof)) (a .second-proof-rows) root least (now (a .second-nodes)) (a .second-node-rows) (now (a .second-members)) (a .second-member-count)
+
+-- a signed number is kept as bits, and read back from them
 returns : tie.Need-returns
 returns c =
     let k = c .before .before .before .before .before .before in
     let s = k .before .before .before .before .before in
-    -- a signed number is kept as bits, and read back from them
-    let e = rw (toZ-ofZ (s .fits .first-root), toZ-ofZ (s .fits .first-least), toZ-ofZ (s .fits .second-root), toZ-ofZ (s .fits .second-least)) at (k .join .ensures) in
-    (c .joined .ensures .0 ∙ ap joinedPacked (e .0), (c .joined .ensures .1 ∙ ap joinedResults (e .0), e .1))
+    join-gives
+    (ap₂ (first s) (toZ-ofZ (s .fits .first-root)) (toZ-ofZ (s .fits .first-least)))
+    (ap₂ (second s) (toZ-ofZ (s .fits .second-root)) (toZ-ofZ (s .fits .second-least)))
+    (k .join .ensures)
+    (c .joined .ensures)
 
 pub zorambi-join-spec : {M : Type 1} → statement M
 zorambi-join-spec =

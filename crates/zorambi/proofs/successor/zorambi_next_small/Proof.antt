@@ -8,7 +8,7 @@ use Rattle.zorambi.proofs.successor.zorambi_next_small.Statement.{state
 use Rattle.zorambi.proofs.successor.zorambi_next_small.Tie as tie
 
 next-small-requires : tie.Need-next-small-requires
-next-small-requires c κs = search needs
+next-small-requires c κs = tt
 
 next-table-requires : tie.Need-next-table-requires
 next-table-requires c κs = subst (λ (r : NextSmall). Packs (asVerdict r)) (sym (c .before .next-small .ensures .0)) (next-packs _ _ _)

@@ -1,15 +1,14 @@
 use Prim.Native.Nat.{ℕ}
 use mathlib.Core.Path.{_∙_, ap₂}
 use mathlib.Core.List.{[], _∷_}
-use borrow.Author.Needs.{needs}
 use Rattle.zorambi.proofs.texts.zorambi_line.Statement.{statement}
 use Rattle.zorambi.proofs.texts.zorambi_line.Tie as tie
 
 span-of-requires : tie.Need-span-of-requires
-span-of-requires c κs = search needs
+span-of-requires c κs = tt
 
 span-requires : tie.Need-span-requires
-span-requires c κs = search needs
+span-requires c κs = tt
 
 returns : tie.Need-returns
 returns c =

@@ -6,7 +6,7 @@ use Rattle.zorambi.proofs.texts.zorambi_read_model.Statement.{statement
 use Rattle.zorambi.proofs.texts.zorambi_read_model.Tie as tie
 
 read-model-requires : tie.Need-read-model-requires
-read-model-requires c κs = search needs
+read-model-requires c κs = tt
 
 model-requires : tie.Need-model-requires
 model-requires c κs = subst ModelFits (sym (c .before .before .read-model .ensures .0)) (model-fits _ _)

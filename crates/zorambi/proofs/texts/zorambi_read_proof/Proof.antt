@@ -6,7 +6,7 @@ use Rattle.zorambi.proofs.texts.zorambi_read_proof.Statement.{statement
 use Rattle.zorambi.proofs.texts.zorambi_read_proof.Tie as tie
 
 read-proof-requires : tie.Need-read-proof-requires
-read-proof-requires c κs = search needs
+read-proof-requires c κs = tt
 
 proof-requires : tie.Need-proof-requires
 proof-requires c κs = subst ProofFits (sym (c .before .before .before .before .read-proof .ensures .0)) (proof-fits _ _ _ _)

@@ -6,7 +6,7 @@ use Rattle.zorambi.proofs.texts.zorambi_read_schema.Statement.{statemen
 use Rattle.zorambi.proofs.texts.zorambi_read_schema.Tie as tie
 
 read-schema-requires : tie.Need-read-schema-requires
-read-schema-requires c κs = search needs
+read-schema-requires c κs = tt
 
 schema-requires : tie.Need-schema-requires
 schema-requires c κs = subst SchemaFits (sym (c .before .before .read-schema .ensures .0)) (schema-fits _ _)

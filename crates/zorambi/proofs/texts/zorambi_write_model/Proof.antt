@@ -8,7 +8,7 @@ use Rattle.zorambi.proofs.texts.zorambi_write_model.Statement.{statemen
 use Rattle.zorambi.proofs.texts.zorambi_write_model.Tie as tie
 
 write-model-requires : tie.Need-write-model-requires
-write-model-requires c κs = search needs
+write-model-requires c κs = tt
 
 written-requires : tie.Need-written-requires
 unfolding writeModel

@@ -7,7 +7,7 @@ use Rattle.zorambi.proofs.texts.zorambi_write_proof.Statement.{statemen
 use Rattle.zorambi.proofs.texts.zorambi_write_proof.Tie as tie
 
 write-proof-requires : tie.Need-write-proof-requires
-write-proof-requires c κs = search needs
+write-proof-requires c κs = tt
 
 written-requires : tie.Need-written-requires
 unfolding writeProof

@@ -8,7 +8,7 @@ use Rattle.zorambi.proofs.texts.zorambi_write_schema.Statement.{stateme
 use Rattle.zorambi.proofs.texts.zorambi_write_schema.Tie as tie
 
 write-schema-requires : tie.Need-write-schema-requires
-write-schema-requires c κs = search needs
+write-schema-requires c κs = tt
 
 written-requires : tie.Need-written-requires
 unfolding writeSchema

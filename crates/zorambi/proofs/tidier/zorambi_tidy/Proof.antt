@@ -1,14 +1,18 @@
-use mathlib.Core.Path.{sym, _∙_, ap, subst}
+use mathlib.Core.Path.{sym, ap₂, subst}
+use lib.IntN.{ℤ}
 use mir.Facts.{toZ-ofZ}
+use denote.Ref.{now}
 use borrow.Author.Needs.{needs}
-use Rattle.stab.specs.Entry.{proofPacked, proofResults}
+use Rattle.stab.specs.Node.{Tableau}
 use Rattle.stab.proofs.Entries.{ProofFits}
+use Rattle.branch.specs.Work.{tableau}
 use Rattle.tidied.proofs.Lent.{tidy-fits}
+use Rattle.zorambi.proofs.Gives.{tidy-gives}
 use Rattle.zorambi.proofs.tidier.zorambi_tidy.Statement.{statement}
 use Rattle.zorambi.proofs.tidier.zorambi_tidy.Tie as tie
 
 tidy-requires : tie.Need-tidy-requires
-tidy-requires c κs = search needs
+tidy-requires c κs = tt
 
 proof-requires : tie.Need-proof-requires
 proof-requires c κs = subst ProofFits (sym (c .before .before .before .before .tidy .ensures .0)) (tidy-fits _ _)
@@ -22,13 +26,17 @@ same-length-2 c = search needs
 same-length-3 : tie.Need-same-length-3
 same-length-3 c = search needs
 
+abbrev lent : tie.Start → ℤ → ℤ → Tableau
+lent s root least =
+    let a = s .args in
+    tableau (now (a .schema)) (a .schema-rows) (now (a .proof)) (a .proof-rows) root least (now (a .nodes)) (a .node-rows) (now (a .members)) (a .member-count)
+
+-- a signed number is kept as bits, and read back from them
 returns : tie.Need-returns
 returns c =
     let k = c .before .before .before .before .before in
     let s = k .before .before .before .before in
-    -- a signed number is kept as bits, and read back from them
-    let e = rw (toZ-ofZ (s .fits .root), toZ-ofZ (s .fits .least)) at (k .tidy .ensures) in
-    (c .proof .ensures .0 ∙ ap proofPacked (e .0), (c .proof .ensures .1 ∙ ap proofResults (e .0), e .1))
+    tidy-gives (ap₂ (lent s) (toZ-ofZ (s .fits .root)) (toZ-ofZ (s .fits .least))) (k .tidy .ensures) (c .proof .ensures)
 
 pub zorambi-tidy-spec : {M : Type 1} → statement M
 zorambi-tidy-spec =

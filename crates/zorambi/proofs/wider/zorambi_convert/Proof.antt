@@ -8,7 +8,7 @@ use Rattle.zorambi.proofs.wider.zorambi_convert.Statement.{statement}
 use Rattle.zorambi.proofs.wider.zorambi_convert.Tie as tie
 
 convert-requires : tie.Need-convert-requires
-convert-requires c κs = search needs
+convert-requires c κs = tt
 
 schema-requires : tie.Need-schema-requires
 schema-requires c κs = subst SchemaFits (sym (c .before .before .convert .ensures .0)) (converted-fits _)
