@@ -9,7 +9,7 @@ a theorem, a function or an edit has to exist in the tree:
 - `crate::module::name`, `module::name` and `name_*` are functions, types or modules of the code, there and not elsewhere;
 - `NAME` (`FILE`) is defined in that file; a theorem of THEOREMS.md in one of the files of its row; a function that DECISIONS.md
   lists after another's path in its crate;
-- any other name is a definition, a theorem, a function, a type, one of its cases or fields, a crate or a record.
+- any other name is a definition, a theorem, a function, a type, one of its cases or fields, a crate, a record or an edit of any crate.
 
 What is left out: what has a space in it (commands, lines of text), numbers, and the words of WORDS, which name nothing of the tree.
 
@@ -132,6 +132,8 @@ def fault(tree, page, word, named):
         return None if any(re.fullmatch(word.replace("*", r"\w+"), name) for name in tree.names) else "no such name"
     if not NAME.match(word):
         return ""
+    if any(CRATES.glob(f"*/must-fail/{word}.edit")):
+        return None
     return None if word in tree.names else "no such name"
 
 
