@@ -66,9 +66,14 @@
 //! ```
 
 pub mod entries;
+mod identity;
 mod record;
+mod sha256;
 mod text;
 mod verdict;
+
+pub use identity::IDENTITY;
+pub use sha256::{hex, sha256};
 
 pub use record::{check, check_model, check_older, Model, Node, Pair, Proof, Record, Row, Schema};
 pub use text::{
