@@ -67,11 +67,16 @@
 pub mod details;
 pub mod entries;
 pub mod files;
+mod identity;
 mod record;
+mod sha256;
 mod shown;
 mod text;
 mod verdict;
 pub mod words;
+
+pub use identity::IDENTITY;
+pub use sha256::{hex, sha256};
 
 pub use record::{check, check_model, check_older, Model, Node, Pair, Proof, Record, Row, Schema};
 pub use shown::{shown, shown_name};
