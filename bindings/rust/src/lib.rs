@@ -79,7 +79,7 @@ pub use identity::IDENTITY;
 pub use sha256::{hex, sha256};
 
 pub use record::{check, check_model, check_older, Model, Node, Pair, Proof, Record, Row, Schema};
-pub use shown::{shown, shown_name};
+pub use shown::{json_string, shown, shown_name};
 pub use text::{
     check_fault, check_model_texts, check_older_fault, check_older_texts, check_texts, line, model_fault, read_model,
     read_proof, read_schema, write_model, write_proof, write_schema, Text, MAX_TEXT,

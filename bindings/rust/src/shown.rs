@@ -30,6 +30,23 @@ pub fn shown_name(name: impl AsRef<OsStr>) -> String {
     shown(name.as_ref().as_bytes())
 }
 
+/// A JSON string (RFC 8259) of this text.
+///
+/// ```
+/// assert_eq!(zorambi::json_string("a \"b\"\\\n"), r#""a \"b\"\\\u000a""#);
+/// ```
+pub fn json_string(text: &str) -> String {
+    let mut string = String::from("\"");
+    for c in text.chars() {
+        match c {
+            '"' | '\\' => string.extend(['\\', c]),
+            c if c.is_control() => string += &format!("\\u{:04x}", u32::from(c)),
+            c => string.push(c),
+        }
+    }
+    string + "\""
+}
+
 #[cfg(test)]
 mod tests {
     use super::shown;

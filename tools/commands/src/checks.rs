@@ -6,11 +6,6 @@ const JSON: Opt = flag("--json", "print one JSON object instead of the two lines
 const QUIET: Opt = flag("--quiet", "print and say nothing of a verdict: the exit status tells it");
 const FOLLOW: Opt = flag("--follow", "follow a link out of DIR that stands for a text");
 
-/// What the objects of --json have.
-pub const OBJECT: &str = "With --json the object has record (the folder), check (present, older or model), verdict (accepted or refused), answer, \
-place, nodes and links (the program's four numbers), and for a refusal words (why), file, line and text (the line at fault); what there \
-is not is null. In strings of bytes a backslash stands twice and any byte that is not printable ASCII as \\xNN.";
-
 pub const CHECK: Command = Command {
     name: "check",
     takes: "[--older] [--follow] [--json] [--quiet] DIR",
@@ -19,6 +14,9 @@ pub const CHECK: Command = Command {
 Answer 0 is accepted: the schema is false at every n from its least value up. Any other answer is a refusal; why, and the line at \
 fault, are then said on standard error.\n\n\
 A text is read from a regular file in DIR alone. One that is missing or cannot be read counts as empty, and the answer is 3.\n\n\
+With --json the object has record (the folder), verdict (accepted or refused), answer, place, nodes and links (the program's four \
+numbers), refusal (why), file, line and text (the line at fault), and check (present, older or model); what there is not is null. In \
+strings a backslash of a record or a name stands twice, and any byte that is not printable ASCII as \\xNN.\n\n\
 The exit status is 0 for accepted, 1 for refused, 2 for wrong use or a failure.",
     options: &[
         flag("--older", "check an older record, in which proof rows may repeat earlier rows"),
@@ -39,7 +37,7 @@ pub const MODEL: Command = Command {
     takes: "[--follow] [--json] [--quiet] DIR",
     about: "check the model in DIR: schema.txt and model.txt",
     text: "Runs the proved program on the two texts and prints what it prints, as check does. Answer 0 is accepted: the schema is true at the \
-model's n where exactly the model's pairs are true.\n\n\
+model's n where exactly the model's pairs are true. The object of --json is as check has it.\n\n\
 The exit status is 0 for accepted, 1 for refused, 2 for wrong use or a failure.",
     options: &[FOLLOW, JSON, QUIET],
     names: [1, 1],
@@ -56,6 +54,18 @@ pub const HELP: Command = Command {
     names: [0, 1],
     examples: &[example("zorambi help check", "what check does")],
     of_script: false,
+};
+
+pub const BUILD: Command = Command {
+    name: "build",
+    takes: "",
+    about: "prove and build all that the commands need",
+    text: "Every command does this for what it needs itself. Once it is done the commands work from a folder that cannot be written, for \
+other users, and without the kit and cargo.",
+    options: &[],
+    names: [0, 0],
+    examples: &[],
+    of_script: true,
 };
 
 pub const TEST: Command = Command {

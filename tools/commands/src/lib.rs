@@ -70,6 +70,7 @@ pub fn commands() -> &'static [&'static Command] {
         &texts::JOIN,
         &texts::GROW,
         &checks::HELP,
+        &checks::BUILD,
         &checks::TEST,
         &checks::FUZZ,
         &checks::BENCH,

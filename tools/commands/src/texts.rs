@@ -10,8 +10,8 @@ pub const FIND: Command = Command {
     about: "find a model of the schema in DIR at n = N, or say that there is none",
     text: "Prints a model text, which 'zorambi model' accepts once it stands as model.txt beside the schema, or 'none': the schema is then false \
 at that n under every assignment. At most 16 pairs may occur in the schema at that n.\n\n\
-With --json it prints one object: record (the folder), n, found (true or false), pairs (the true pairs, each a symbol and an index), and for \
-a refusal answer, place and words; what there is not is null.\n\n\
+With --json it prints one object: record (the folder), n, found (true or false), pairs (the true pairs, each a symbol and an index), \
+answer and place (0, or those of a refusal) and refusal (why); what there is not is null.\n\n\
 The exit status is 0 for a model and for none, 1 for a refusal, 2 for wrong use or a failure.",
     options: &[
         FOLLOW,
@@ -31,11 +31,14 @@ pub const CONVERT: Command = Command {
     takes: "[--follow] DIR [OUT]",
     about: "write the plain schema of DIR's wide.txt",
     text: "A wide schema also has rows of kinds 8 not, 9 implies, 10 equivalent and 11 exclusive or. The plain schema is true exactly where it \
-is. It is written to the file OUT, which must not be there, or printed if no OUT is named; a refusal's two lines then go to standard error.\n\n\
+is. It is written as schema.txt into OUT, a new or empty folder. Without OUT it is printed, and the two lines of a refusal go to standard \
+error.\n\n\
 The exit status is 0 for success, 1 for a refusal, 2 for wrong use or a failure.",
     options: &[FOLLOW],
     names: [1, 2],
-    examples: &[example("zorambi convert records/wide/differs_from_itself", "the plain schema, printed")],
+    examples: &[example("zorambi convert records/wide/differs_from_itself", "the plain schema, printed"),
+        example("zorambi convert records/wide/adder_zero /tmp/plain", "the same of another, as /tmp/plain/schema.txt"),
+    ],
     of_script: false,
 };
 
@@ -56,12 +59,14 @@ pub const TIDY: Command = Command {
     name: "tidy",
     takes: "[--follow] DIR [OUT]",
     about: "write the proof of the older record in DIR with no row twice",
-    text: "What check --older accepts, check accepts after tidying, with the same counts. The proof is written to the file OUT, which must not be \
-there, or printed if no OUT is named; a refusal's two lines then go to standard error.\n\n\
+    text: "What check --older accepts, check accepts after tidying, with the same counts. It is written as proof.txt into OUT, a new or empty \
+folder, with the schema beside it. Without OUT it is printed, and the two lines of a refusal go to standard error.\n\n\
 The exit status is 0 for success, 1 for a refusal, 2 for wrong use or a failure.",
     options: &[FOLLOW],
     names: [1, 2],
-    examples: &[example("zorambi tidy records/tidy/rows_twice", "the proof, printed")],
+    examples: &[example("zorambi tidy records/tidy/rows_twice", "the proof, printed"),
+        example("zorambi tidy records/tidy/rows_twice /tmp/present", "the record, present, in a folder of its own"),
+    ],
     of_script: false,
 };
 

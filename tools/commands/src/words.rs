@@ -73,11 +73,11 @@ fn help_on(given: &Given) -> Asked {
 
 fn unknown_command(name: &OsStr) -> String {
     let known = commands().iter().map(|command| command.name);
-    format!("zorambi: no command '{}'{}; 'zorambi help' lists them\n", shown_name(name), meant(name, known))
+    format!("zorambi: no command '{}';{} 'zorambi help' lists them\n", shown_name(name), meant(name, known))
 }
 
 fn meant(word: &OsStr, known: impl Iterator<Item = &'static str>) -> String {
-    nearest(&word.to_string_lossy(), known).map_or(String::new(), |known| format!(", did you mean '{known}'?"))
+    nearest(&word.to_string_lossy(), known).map_or(String::new(), |known| format!(" did you mean '{known}'?"))
 }
 
 /// The options and names among the words. `--` ends the options; a minus with digits is a number, not an option.
@@ -126,8 +126,7 @@ fn split_value(word: &[u8]) -> (&[u8], Option<&[u8]>) {
 
 fn unknown_option(command: &'static Command, name: &OsStr) -> String {
     let known = command.options.iter().map(|option| option.name);
-    let after = format!("; a name that begins with a dash stands after '--': {} -- {}", command.name, shown_name(name));
-    format!("no option '{}'{}{after}", shown_name(name), meant(name, known))
+    format!("no option '{}';{} a name that begins with a dash stands after '--'", shown_name(name), meant(name, known))
 }
 
 /// As many names as the command takes, none of them empty.
@@ -215,7 +214,7 @@ mod tests {
     #[test]
     fn wrong_words() {
         for (line, why) in [
-            (&["chekc", "a"][..], "zorambi: no command 'chekc', did you mean 'check'?; 'zorambi help' lists them"),
+            (&["chekc", "a"][..], "zorambi: no command 'chekc'; did you mean 'check'? 'zorambi help' lists them"),
             (&["cat\u{1b}[1m"], "zorambi: no command 'cat\\x1b[1m'; 'zorambi help' lists them"),
             (&["check"], "zorambi check: DIR is missing"),
             (&["find", "a"], "zorambi find: N is missing"),
@@ -226,11 +225,10 @@ mod tests {
             (&["check", "--older", "--older", "a"], "zorambi check: --older is given twice"),
             (&["check", "--older=x", "a"], "zorambi check: --older takes no value"),
             (&["catalogue", "a", "--csv"], "zorambi catalogue: --csv wants a FILE"),
-            (&["help", "jion"], "zorambi: no command 'jion', did you mean 'join'?; 'zorambi help' lists them"),
+            (&["help", "jion"], "zorambi: no command 'jion'; did you mean 'join'? 'zorambi help' lists them"),
             (
                 &["check", "--oldre", "a"],
-                "zorambi check: no option '--oldre', did you mean '--older'?; \
-                 a name that begins with a dash stands after '--': check -- --oldre",
+                "zorambi check: no option '--oldre'; did you mean '--older'? a name that begins with a dash stands after '--'",
             ),
         ] {
             assert_eq!(wrong(line), why);
