@@ -49,7 +49,7 @@ alike "at least 15 records grown" 1 "$((grown_whole >= 15))"
 
 # A refused one says at its begin what the check says of it.
 for r in records/refused/*; do
-  ./zorambi check "$r" >"$work/checked" 2>"$work/said"
+  "$zorambi" check "$r" >"$work/checked" 2>"$work/said"
   gives "grow $r" 1 "$(cat "$work/checked")"$'\n' "$(cat "$work/said")"$'\n' grow "$r" </dev/null
 done
 
@@ -274,7 +274,7 @@ saved $work/s/a file
 " "$work/g"
 saved "save" "$work/s/proof.txt"
 same "what was saved, checked" "answer place nodes links
-0 0 7 1" "$(./zorambi check "$work/s" 2>&1)" $?
+0 0 7 1" "$("$zorambi" check "$work/s" 2>&1)" $?
 cp "$work/s/a file" "$work/s/proof.txt"
 answers "what was saved, grown on" "${last#*$'\n'}save $work/s/whole
 " "0 0 6 1 open
@@ -284,14 +284,14 @@ saved $work/s/whole
 saved "grown on" "$work/s/whole"
 # A name is meant from where the caller stands; nothing but what is saved is written.
 before=$(find "$work/s" -type f | LC_ALL=C sort | xargs -d '\n' sha256sum)
-(cd "$work/s" && "$here/zorambi" grow . <<<"save here" >/dev/null 2>&1)
+(cd "$work/s" && "$zorambi" grow . <<<"save here" >/dev/null 2>&1)
 saved_here=$(find "$work/s" -type f ! -name here | LC_ALL=C sort | xargs -d '\n' sha256sum)
 alike "only what is saved is written" "$before" "$saved_here"
 alike "saved from another folder" "$(cat "$work/s/proof.txt")" "$(cat "$work/s/here")"
 
 # ---- each line is answered before the next one is given, in colour only on a terminal
 
-coproc GROWS { ./zorambi grow "$work/g" 2>"$work/err"; }
+coproc GROWS { "$zorambi" grow "$work/g" 2>"$work/err"; }
 grows_pid=$GROWS_PID
 told=''
 for line in "" "-1 0 4 -1 -1 -1 0 4" "0 9 -1 -1 -1 -1 0" "back"; do
@@ -305,7 +305,7 @@ wait "$grows_pid"
 alike "line by line" "0 0 0 0 open|0 0 1 0 open|12 1 0 0 open refused: no such rule (12) at node 1|0 0 0 0 open|0" "$told$?"
 # On a terminal that shows what is typed too.
 on_terminal=$({ printf '%s\n' "$first$last" "back" "x" "save $work/s/proof.txt"; sleep 2; } |
-  script -qec "./zorambi grow $work/g" /dev/null | tr -d '\r')
+  script -qec "$zorambi grow $work/g" /dev/null | tr -d '\r')
 for shown in $'0 0 7 1 \e[32mclosed\e[0m' $'4 10 0 0 open \e[31mrefused: a line\'s form (4) at line 10\e[0m' $'0 0 6 1 open' \
   $'\e[31mnot saved: '"$work/s/proof.txt exists and is not written over"$'\e[0m'; do
   alike "in colour" "$shown" "$(grep -F -x -m 1 -- "$shown" <<<"$on_terminal")"
