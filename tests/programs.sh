@@ -318,8 +318,8 @@ missing() { # PROGRAM FILE
   rm "$work/g/$file"
   # A regular file that gives an error when it is read.
   ln -s /proc/self/mem "$work/g/$file"
-  "$zorambi" "$1" --follow "$work/g" >"$work/out" 2>"$work/err"
-  same "$file that cannot be read" $'answer place nodes links\n3 1 0 0' "$(cat "$work/out")" $?
+  out=$("$zorambi" "$1" --follow "$work/g" 2>"$work/err")
+  same "$file that cannot be read" $'answer place nodes links\n3 1 0 0' "$out" $?
   said_exactly "$file that cannot be read" "refused: $file cannot be read: Input/output error (os error 5) (3)"
   rm "$work/g/$file"
   # A link within the folder is followed; one out of it only where that is asked for, and nothing of its target is shown.
@@ -363,11 +363,11 @@ gives "a folder's name that ends with a newline" 1 $'answer place nodes links\n3
 gives "no folder of a name that ends with newlines" 2 "" "zorambi check: no such folder: $work/near\x0a\x0a"$'\n' check "$work/near"$'\n\n'
 gives "a name with bytes that are not printable" 2 "" 'zorambi check: no such folder: a\xffb\x1b[31m\\'$'\n' check $'a\xffb\e[31m\\'
 gives "a file as a folder" 2 "" "zorambi check: $work/near/schema.txt is no folder"$'\n' check "$work/near/schema.txt"
-(cd "$work" && "$zorambi" check near) >"$work/out" 2>&1
-same "a folder meant from where the caller stands" $'answer place nodes links\n0 0 7 1' "$(cat "$work/out")" $?
+out=$(cd "$work" && "$zorambi" check near 2>&1)
+same "a folder meant from where the caller stands" $'answer place nodes links\n0 0 7 1' "$out" $?
 mv "$work/near" "$work/-n"
-(cd "$work" && "$zorambi" check -- -n) >"$work/out" 2>&1
-same "a folder whose name begins with a dash" $'answer place nodes links\n0 0 7 1' "$(cat "$work/out")" $?
+out=$(cd "$work" && "$zorambi" check -- -n 2>&1)
+same "a folder whose name begins with a dash" $'answer place nodes links\n0 0 7 1' "$out" $?
 if [ "$(id -u)" -eq 0 ]; then
   mkdir "$work/shut"
   chmod 755 "$work"
@@ -377,8 +377,8 @@ if [ "$(id -u)" -eq 0 ]; then
   said_exactly "a folder that cannot be entered" "zorambi check: $work/shut cannot be entered: Permission denied (os error 13)"
   record "$work/dim"
   chmod 000 "$work/dim/proof.txt"
-  setpriv --reuid=65534 --regid=65534 --clear-groups "$zorambi" check "$work/dim" >"$work/out" 2>"$work/err"
-  same "a file that may not be read" $'answer place nodes links\n3 1 0 0' "$(cat "$work/out")" $?
+  out=$(setpriv --reuid=65534 --regid=65534 --clear-groups "$zorambi" check "$work/dim" 2>"$work/err")
+  same "a file that may not be read" $'answer place nodes links\n3 1 0 0' "$out" $?
   said_exactly "a file that may not be read" "refused: proof.txt cannot be read: Permission denied (os error 13) (3)"
   rm -r "$work/shut" "$work/dim"
 fi
