@@ -387,7 +387,7 @@ fi
 
 # The texts are the same but for those of commands that make texts, which it has not, and what the program is held to is what
 # the records themselves expect.
-if diff -r --exclude=README.md --exclude=expected --exclude=why --exclude=older --exclude=wide --exclude=tidy records crates/cases/data; then
+if diff -r --exclude=README.md --exclude=expected --exclude=why --exclude=older --exclude=wide --exclude=tidy --exclude=paper records crates/cases/data; then
   passed=$((passed + 1))
 else
   failed=$((failed + 1))

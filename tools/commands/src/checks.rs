@@ -26,7 +26,7 @@ The exit status is 0 for accepted, 1 for refused, 2 for wrong use or a failure."
     ],
     names: [1, 1],
     examples: &[
-        example("zorambi check records/accepted/paper", "the record of the paper: accepted, 7 nodes and 1 link"),
+        example("zorambi check records/paper/some_and_none", "the record of the paper: accepted, 7 nodes and 1 link"),
         example("zorambi check --older records/tidy/rows_twice", "an older record"),
     ],
     of_script: false,

@@ -20,7 +20,7 @@ The exit status is 0 for a model and for none, 1 for a refusal, 2 for wrong use 
     ],
     names: [2, 2],
     examples: &[
-        example("zorambi find records/accepted/paper 3", "none: the record is accepted"),
+        example("zorambi find records/paper/some_and_none 3", "none: the record is accepted"),
         example("zorambi find records/refused/split_at_upper_bound 8", "a model"),
     ],
     of_script: false,
@@ -98,6 +98,6 @@ has '? ' before it. At the end of the input rows that were not saved are told on
 The exit status is 0 at the end of the input, 1 if DIR holds a row that is refused, 2 for wrong use or a failure.",
     options: &[FOLLOW],
     names: [1, 1],
-    examples: &[example("zorambi grow records/accepted/paper", "begins with a closed tableau of 7 nodes")],
+    examples: &[example("zorambi grow records/paper/some_and_none", "begins with a closed tableau of 7 nodes")],
     of_script: false,
 };
