@@ -16,7 +16,7 @@ pub const COLUMNS: [&str; 16] = [
     "place",
     "nodes",
     "links",
-    "words",
+    "refusal",
     "file",
     "line",
     "text",

@@ -402,7 +402,7 @@ fn interrupted() {
         put(&records.join(format!("{number:04}")), &schema, &proof);
     }
     let table = folder.join("t.csv");
-    for before in [None, Some(format!("{}\r\n", "record,verdict,answer,place,nodes,links,words,file,line,text,check,schema_sha256,proof_sha256,library,part,tree"))] {
+    for before in [None, Some(format!("{}\r\n", "record,verdict,answer,place,nodes,links,refusal,file,line,text,check,schema_sha256,proof_sha256,library,part,tree"))] {
         if let Some(text) = &before {
             fs::write(&table, text).unwrap();
         }
