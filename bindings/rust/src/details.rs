@@ -14,7 +14,7 @@ const MAX_DEPTH: u64 = 64;
 pub fn of_check(refused: Refused, record: &Record) -> Option<String> {
     match refused {
         Refused { refusal: Refusal::Repeated, place: Some(row) } => {
-            Some(format!("row {row} repeats row {}", repeats(record, row)?))
+            Some(format!("it repeats row {}", repeats(record, row)?))
         }
         _ => None,
     }

@@ -99,7 +99,6 @@ pub fn advice(refusal: Refusal) -> Option<&'static str> {
             "rows may repeat in an older record: 'zorambi check --older' checks it as one, and 'zorambi tidy' writes its \
              proof without repeated rows",
         ),
-        Refusal::Wires => Some("a smaller n has fewer pairs"),
         _ => None,
     }
 }

@@ -11,7 +11,7 @@ pub const FIND: Command = Command {
     text: "Prints a model text, which 'zorambi model' accepts once it stands as model.txt beside the schema, or 'none': the schema is then false \
 at that n under every assignment. At most 16 pairs may occur in the schema at that n.\n\n\
 With --json it prints one object: record (the folder), n, found (true or false), pairs (the true pairs, each a symbol and an index), \
-answer and place (0, or those of a refusal) and refusal (why); what there is not is null.\n\n\
+answer and place (0, or those of a refusal) and words (why); what there is not is null.\n\n\
 The exit status is 0 for a model and for none, 1 for a refusal, 2 for wrong use or a failure.",
     options: &[
         FOLLOW,
@@ -20,7 +20,7 @@ The exit status is 0 for a model and for none, 1 for a refusal, 2 for wrong use 
     ],
     names: [2, 2],
     examples: &[
-        example("zorambi find records/accepted/paper 3", "none: the record is accepted"),
+        example("zorambi find records/paper/some_and_none 3", "none: the record is accepted"),
         example("zorambi find records/refused/split_at_upper_bound 8", "a model"),
     ],
     of_script: false,
@@ -98,6 +98,6 @@ has '? ' before it. At the end of the input rows that were not saved are told on
 The exit status is 0 at the end of the input, 1 if DIR holds a row that is refused, 2 for wrong use or a failure.",
     options: &[FOLLOW],
     names: [1, 1],
-    examples: &[example("zorambi grow records/accepted/paper", "begins with a closed tableau of 7 nodes")],
+    examples: &[example("zorambi grow records/paper/some_and_none", "begins with a closed tableau of 7 nodes")],
     of_script: false,
 };

@@ -29,16 +29,17 @@ fn main() -> ExitCode {
             say(&why);
             2
         }
-        Asked::Run(command, given) => run(command, &given),
+        Asked::Run(command, given) => run(command, &given, &words[1..]),
     })
 }
 
-fn run(command: &Command, given: &Given) -> u8 {
+/// Runs a command; the words are those after its name.
+fn run(command: &Command, given: &Given, words: &[OsString]) -> u8 {
     let run = match command.name {
         "check" => check::check,
         "model" => check::model,
-        "catalogue" => return zorambi_catalogue::run(given),
-        "merge" => return zorambi_catalogue::merge(given),
+        "catalogue" => return zorambi_catalogue::run(words),
+        "merge" => return zorambi_catalogue::merge(words),
         "find" => find::find,
         "convert" => convert::convert,
         "small" => small::small,

@@ -2,8 +2,8 @@
 
 use super::pool::Pool;
 use super::rng::Rng;
-use crate::formula::{Row, AND, ON_I, ON_N, OR, PLAIN};
-use crate::{MAX_N, MAX_ROWS};
+use zorambi_reference::formula::{Row, AND, ON_I, ON_N, OR, PLAIN};
+use zorambi_reference::{MAX_N, MAX_ROWS};
 
 /// A schema whose rows are all rows of the pool.
 #[derive(Clone, Debug)]

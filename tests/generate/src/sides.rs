@@ -7,7 +7,7 @@ use super::prover::grow;
 use super::rng::Rng;
 use super::schemata::false_schema;
 use super::tables::{Tables, Tree, TreeNode};
-use crate::formula::{Row, AND, BIG_AND, BIG_OR, LITERAL, NEGATED, OR};
+use zorambi_reference::formula::{Row, AND, BIG_AND, BIG_OR, LITERAL, NEGATED, OR};
 
 /// What comes of the cases of a kind.
 #[derive(Clone, Copy, Debug, PartialEq, Eq)]

@@ -9,7 +9,7 @@ use super::prover::grow_by_ranges;
 use super::rng::Rng;
 use super::schemata::false_schema;
 use super::tables::{Tables, Tree};
-use crate::formula::{BIG_AND, BIG_OR, LITERAL, NEGATED, ON_I, ON_N, PLAIN};
+use zorambi_reference::formula::{BIG_AND, BIG_OR, LITERAL, NEGATED, ON_I, ON_N, PLAIN};
 
 const GROWN: &str = "grown by ranges";
 const GROWN_NESTED: &str = "grown, a range in a range";

@@ -2,7 +2,7 @@
 
 use super::rng::Rng;
 use super::tables::Tree;
-use crate::MAX_N;
+use zorambi_reference::MAX_N;
 
 /// n is at least `least`, and at most `most` if there is an upper bound.
 #[derive(Clone, Copy, Debug, PartialEq, Eq)]

@@ -2,8 +2,8 @@
 
 use super::rng::{mix, Rng};
 use super::tables::{extreme, other_count, other_number};
-use crate::formula::{index, Formulas, AND, BIG_AND, BIG_OR, LITERAL, NEGATED, OR, TRUE};
 use std::collections::BTreeMap;
+use zorambi_reference::formula::{index, Formulas, AND, BIG_AND, BIG_OR, LITERAL, NEGATED, OR, TRUE};
 
 /// What the model check is lent.
 #[derive(Clone, Debug, PartialEq, Eq)]

@@ -1,9 +1,11 @@
 //! Formulas built up as rows: a growing table in which equal rows are mostly shared.
 
 use super::rng::Rng;
-use crate::formula::{Formulas, Row, AND, BIG_AND, BIG_OR, FALSE, LITERAL, NEGATED, ON_I, ON_N, OR, PLAIN, TRUE};
-use crate::MAX_ROWS;
 use std::collections::HashMap;
+use zorambi_reference::formula::{
+    Formulas, Row, AND, BIG_AND, BIG_OR, FALSE, LITERAL, NEGATED, ON_I, ON_N, OR, PLAIN, TRUE,
+};
+use zorambi_reference::MAX_ROWS;
 
 /// Rows so far. Every builder gives `None` if the row would be ill-formed, over the limits, or one
 /// row too many.

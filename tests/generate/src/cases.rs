@@ -16,10 +16,10 @@ use super::tables::{
 };
 use super::texts::{damage_text, proof_text_of_length, random_text};
 use super::twice::twice_tables;
-use crate::formula::{Formulas, Row, ON_I};
-use crate::program::Fault;
-use crate::text::{self, ModelRead, Named, ProofRead, SchemaRead, Written};
-use crate::{model, packed, program, tableau, Verdict, MAX_TEXT};
+use zorambi_reference::formula::{Formulas, Row, ON_I};
+use zorambi_reference::program::Fault;
+use zorambi_reference::text::{self, ModelRead, Named, ProofRead, SchemaRead, Written};
+use zorambi_reference::{model, packed, program, tableau, Verdict, MAX_TEXT};
 
 /// A case: its sort, for the counts, its input, and what it is made to show, if it is one thing.
 #[derive(Clone, Debug)]

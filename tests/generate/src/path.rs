@@ -5,7 +5,7 @@ use super::bounds::Bound;
 use super::rng::Rng;
 use super::sharp::insert_member;
 use super::tables::{Tree, TreeNode};
-use crate::formula::{Row, AND, BIG_AND, BIG_OR, FALSE, LITERAL, NEGATED, ON_I, ON_N, OR, PLAIN, TRUE};
+use zorambi_reference::formula::{Row, AND, BIG_AND, BIG_OR, FALSE, LITERAL, NEGATED, ON_I, ON_N, OR, PLAIN, TRUE};
 
 /// The rows: schema rows up to the root, then proof rows.
 const CONTRADICTION: i32 = 0;

@@ -7,8 +7,10 @@ use super::prover::{grow, grow_across, Grown};
 use super::rng::Rng;
 use super::schemata::{false_schema, Schema};
 use super::tables::{Tables, Tree, TreeNode};
-use crate::formula::{with_parts, Row, AND, BIG_AND, BIG_OR, FALSE, LITERAL, NEGATED, ON_I, ON_N, OR, PLAIN};
-use crate::NODE_WIDTH;
+use zorambi_reference::formula::{
+    with_parts, Row, AND, BIG_AND, BIG_OR, FALSE, LITERAL, NEGATED, ON_I, ON_N, OR, PLAIN,
+};
+use zorambi_reference::NODE_WIDTH;
 
 pub fn sharp_tables(rng: &mut Rng) -> Tables {
     let mut tree = match rng.below(10) {

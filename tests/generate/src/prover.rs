@@ -10,10 +10,10 @@ use super::pool::Pool;
 use super::rng::Rng;
 use super::schemata::Schema;
 use super::tables::{Tree, TreeNode};
-use crate::formula::{AND, BIG_AND, BIG_OR, FALSE, LITERAL, NEGATED, ON_I, ON_N, OR, PLAIN, TRUE};
-use crate::MAX_MEMBERS;
 use std::collections::{BTreeSet, HashMap, HashSet};
 use std::rc::Rc;
+use zorambi_reference::formula::{AND, BIG_AND, BIG_OR, FALSE, LITERAL, NEGATED, ON_I, ON_N, OR, PLAIN, TRUE};
+use zorambi_reference::MAX_MEMBERS;
 
 /// A tableau, and whether every branch was closed.
 pub struct Grown {

@@ -10,7 +10,7 @@ use super::ranges::{aim, between, some_k, walk, Shape};
 use super::rng::Rng;
 use super::schemata::{false_schema, Schema};
 use super::tables::{Tables, Tree};
-use crate::formula::Formulas;
+use zorambi_reference::formula::Formulas;
 
 /// Where an accepted link goes.
 const TO_SIBLING: &str = "to a sibling";

@@ -8,8 +8,10 @@ use super::rng::Rng;
 use super::schemata::false_schema;
 use super::sharp::closed_tree;
 use super::tables::{Tables, Tree, TreeNode};
-use crate::formula::{Formulas, Row, AND, BIG_AND, BIG_OR, FALSE, LITERAL, NEGATED, ON_I, ON_N, OR, PLAIN, TRUE};
-use crate::{MAX_MEMBERS, MAX_OFFSET, MAX_ROWS, MAX_SYMBOL};
+use zorambi_reference::formula::{
+    Formulas, Row, AND, BIG_AND, BIG_OR, FALSE, LITERAL, NEGATED, ON_I, ON_N, OR, PLAIN, TRUE,
+};
+use zorambi_reference::{MAX_MEMBERS, MAX_OFFSET, MAX_ROWS, MAX_SYMBOL};
 
 /// Answer and place of the check, and of the older check.
 type Answers = [(u8, i32); 2];

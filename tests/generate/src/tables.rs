@@ -1,10 +1,10 @@
 //! A tableau as a tree and as tables, changes that keep it right, and damage.
 
 use super::rng::Rng;
-use crate::formula::{with_parts, Row, AND, BIG_AND, BIG_OR, LITERAL, NEGATED, OR};
-use crate::tableau::Record;
-use crate::{NODE_WIDTH, ROW_WIDTH};
 use std::collections::HashMap;
+use zorambi_reference::formula::{with_parts, Row, AND, BIG_AND, BIG_OR, LITERAL, NEGATED, OR};
+use zorambi_reference::tableau::Record;
+use zorambi_reference::{NODE_WIDTH, ROW_WIDTH};
 
 /// A node row: up rule on with other to by, and its set.
 #[derive(Clone, Debug, PartialEq, Eq)]
