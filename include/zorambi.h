@@ -12,6 +12,16 @@
 #include <stddef.h>
 #include <stdint.h>
 
+/* How much stack a call takes at most, in bytes: any call, which is one that reads and checks two texts (the three with _fault);
+ * zorambi_join; those that grow a tableau and zorambi_find_model; all others, as the check. A thread that calls needs so much besides
+ * what is its own. The programs check_proof, check_older and check_model run in a stack of ZORAMBI_STACK_PROGRAM, with arguments and an
+ * environment of some KiB in it. */
+#define ZORAMBI_STACK 180224
+#define ZORAMBI_STACK_JOIN 155648
+#define ZORAMBI_STACK_GROW 122880
+#define ZORAMBI_STACK_CHECK 73728
+#define ZORAMBI_STACK_PROGRAM 327680
+
 #ifdef __cplusplus
 extern "C" {
 #endif

@@ -1,19 +1,19 @@
 #!/usr/bin/env bash
-# The programs, through ./zorambi check, ./zorambi check --older and ./zorambi model: on every record against its
+# The program zorambi: check, check --older and model on every record against its
 # `expected` file and the other implementation, and on files that are no texts at all against the other implementation.
 # And that the copies of the records are the records. The commands that make texts are in tests/programs, a file each.
 set -u
 cd "$(dirname "$0")/.." || exit 2
 here=$PWD
-other=$here/tests/reference/target/release/check
+other=$here/build/release/check
+zorambi=$here/build/release/zorambi
 work=$(mktemp -d) || exit 2
 trap 'rm -rf "$work"' EXIT
 passed=0
 failed=0
 
-# The programs are made first, so that nothing is said of that later.
-./zorambi check records/accepted/rca_zero >/dev/null 2>&1
-./zorambi check --older records/accepted/rca_zero >/dev/null 2>&1
+# The programs are made first, so that nothing is said of that later. After that ./zorambi only hands over.
+{ ./zorambi build && cargo build --release --offline --quiet --target-dir build -p zorambi-reference; } || { echo "0 passed, 1 failed"; exit 1; }
 
 # One run: what is printed, what is expected, and the exit status that goes with it.
 same() { # NAME EXPECTED PRINTED STATUS
@@ -31,11 +31,11 @@ same() { # NAME EXPECTED PRINTED STATUS
 check_record() { # FOLDER NAME
   local out status expected
   expected=$(cd "$1" && "$other")
-  out=$(./zorambi check "$1" 2>"$work/err")
+  out=$("$zorambi" check "$1" 2>"$work/err")
   status=$?
   same "check $2" "$expected" "$out" "$status"
   [[ $expected == *$'\n27 '* ]] && return
-  out=$(./zorambi check --older "$1" 2>"$work/older")
+  out=$("$zorambi" check --older "$1" 2>"$work/older")
   status=$?
   same "check --older $2" "$expected" "$out" "$status"
   if cmp -s "$work/err" "$work/older"; then
@@ -48,7 +48,7 @@ check_record() { # FOLDER NAME
 
 check_model_record() { # FOLDER NAME
   local out status
-  out=$(./zorambi model "$1" 2>"$work/err")
+  out=$("$zorambi" model "$1" 2>"$work/err")
   status=$?
   same "model $2" "$(cd "$1" && "$other" schema.txt --model model.txt)" "$out" "$status"
 }
@@ -77,7 +77,7 @@ said_exactly() { # NAME TEXT
 gives() { # NAME STATUS PRINTED SAID WORD...
   local name=$1 wanted=$2 printed=$3 told=$4 status
   shift 4
-  ./zorambi "$@" >"$work/out" 2>"$work/err"
+  "$zorambi" "$@" >"$work/out" 2>"$work/err"
   status=$?
   if [ "$status" -eq "$wanted" ] && cmp -s "$work/out" <(printf '%s' "$printed") && cmp -s "$work/err" <(printf '%s' "$told"); then
     passed=$((passed + 1))
@@ -103,13 +103,13 @@ record() { # FOLDER: 01's record
 for r in records/accepted/* records/refused/*; do
   older=()
   [ -f "$r/older" ] && older=(--older)
-  out=$(./zorambi check "${older[@]}" "$r" 2>"$work/err")
+  out=$("$zorambi" check "${older[@]}" "$r" 2>"$work/err")
   status=$?
   same "check $r" "answer place nodes links
 $(cat "$r/expected")" "$out" "$status"
   check_record "$r" "$r"
   if [ -f "$r/model.txt" ]; then
-    out=$(./zorambi model "$r" 2>"$work/err")
+    out=$("$zorambi" model "$r" 2>"$work/err")
     same "model $r" "answer place nodes links
 0 0 0 0" "$out" $?
   fi
@@ -119,7 +119,7 @@ done
 told() { # RECORD WORDS...
   local record=$1 words
   shift
-  ./zorambi check "records/refused/$record" >/dev/null 2>"$work/err"
+  "$zorambi" check "records/refused/$record" >/dev/null 2>"$work/err"
   for words in "$@"; do said "check $record" "$words"; done
 }
 told split_at_upper_bound "refused: a split's K (14) at node 9" "proof.txt:16: 7 2 -1 -1 -1 -1 8 1 2 3"
@@ -133,7 +133,7 @@ told link_open_to_bounded "$link_bounds 9" "proof.txt:12: 5 8 -1 -1 -1 4 2 0 1 4
 told link_lost_row_other_branch "refused: a link's row without its lowered partner (16) at node 12" \
   "proof.txt:18: 10 8 -1 -1 -1 4 1 0 6"
 told void_above_least "refused: a void's bound (14) at node 3" "proof.txt:8: 2 7 1 -1 -1 -1 0 1"
-told row_written_twice "refused: a proof row written twice (27) at row 130" "proof.txt:84: 6 5 1 2"
+told row_written_twice "refused: a proof row written twice: it repeats row 129 (27) at row 130" "proof.txt:84: 6 5 1 2"
 
 # ---- 01's record and its neighbours
 
@@ -143,7 +143,7 @@ neighbour() { # NAME FILE SED NUMBERS [WORDS ...]
   local name=$1 out words
   record "$work/r"
   sed -i "$3" "$work/r/$2"
-  out=$(./zorambi check "$work/r" 2>"$work/err")
+  out=$("$zorambi" check "$work/r" 2>"$work/err")
   same "$name" "answer place nodes links
 $4" "$out" $?
   shift 4
@@ -180,26 +180,28 @@ again() { # NAME ROWS NUMBERS WORDS OLDER-NUMBERS OLDER-WORDS
   local out
   record "$work/r"
   sed -i "5s/\$/\\n$2/" "$work/r/proof.txt"
-  out=$(./zorambi check "$work/r" 2>"$work/err")
+  out=$("$zorambi" check "$work/r" 2>"$work/err")
   same "$1" "answer place nodes links
 $3" "$out" $?
   said_exactly "$1" "$4"
-  out=$(./zorambi check --older "$work/r" 2>"$work/err")
+  out=$("$zorambi" check --older "$work/r" 2>"$work/err")
   same "$1, older" "answer place nodes links
 $5" "$out" $?
   said_exactly "$1, older" "$6"
 }
-twice="refused: a proof row written twice (27) at row 9
-proof.txt:6:"
+twice() { # ROW-REPEATED ROW [PLACE LINE]
+  echo "refused: a proof row written twice: it repeats row $1 (27) at row ${3-9}
+proof.txt:${4-6}: $2
+rows may repeat in an older record: 'zorambi check --older' checks it as one, and 'zorambi tidy' writes its proof without repeated rows"
+}
 ill_formed="refused: an ill-formed formula"
-again "the last proof row twice" '3 0 1 0' "27 9 0 0" "$twice 3 0 1 0" "0 0 7 1" ""
-again "the first proof row twice" '7 0 2 1' "27 9 0 0" "$twice 7 0 2 1" "0 0 7 1" ""
-again "the first schema row again" '2 0 2 0' "27 9 0 0" "$twice 2 0 2 0" "0 0 7 1" ""
-again "the last schema row again" '4 2 3 0' "27 9 0 0" "$twice 4 2 3 0" "0 0 7 1" ""
+again "the last proof row twice" '3 0 1 0' "27 9 0 0" "$(twice 8 "3 0 1 0")" "0 0 7 1" ""
+again "the first proof row twice" '7 0 2 1' "27 9 0 0" "$(twice 5 "7 0 2 1")" "0 0 7 1" ""
+again "the first schema row again" '2 0 2 0' "27 9 0 0" "$(twice 0 "2 0 2 0")" "0 0 7 1" ""
+again "the last schema row again" '4 2 3 0' "27 9 0 0" "$(twice 4 "4 2 3 0")" "0 0 7 1" ""
 again "a row like none" '3 0 1 1' "0 0 7 1" "" "0 0 7 1" ""
-again "a new row, then twice" '3 0 1 1\n3 0 1 1' "27 10 0 0" "refused: a proof row written twice (27) at row 10
-proof.txt:7: 3 0 1 1" "0 0 7 1" ""
-again "a row twice, then an ill-formed one" '3 0 1 0\n9 0 0 0' "27 9 0 0" "$twice 3 0 1 0" \
+again "a new row, then twice" '3 0 1 1\n3 0 1 1' "27 10 0 0" "$(twice 9 "3 0 1 1" 10 7)" "0 0 7 1" ""
+again "a row twice, then an ill-formed one" '3 0 1 0\n9 0 0 0' "27 9 0 0" "$(twice 8 "3 0 1 0")" \
   "7 10 0 0" "$ill_formed (7) at row 10
 proof.txt:7: 9 0 0 0"
 again "an ill-formed row, then one twice" '9 0 0 0\n3 0 1 0' "7 9 0 0" "$ill_formed (7) at row 9
@@ -207,7 +209,7 @@ proof.txt:6: 9 0 0 0" "7 9 0 0" "$ill_formed (7) at row 9
 proof.txt:6: 9 0 0 0"
 
 # The shipped one is accepted by the older check, with the counts of the record that it was made of.
-out=$(./zorambi check --older records/refused/row_written_twice 2>"$work/err")
+out=$("$zorambi" check --older records/refused/row_written_twice 2>"$work/err")
 same "check --older records/refused/row_written_twice" "answer place nodes links
 $(cat records/accepted/rca_zero/expected)" "$out" $?
 said_exactly "check --older records/refused/row_written_twice" ""
@@ -232,7 +234,7 @@ record "$work/m"
 sed -i 's/^4 1$/3 1/' "$work/m/schema.txt"
 model() { printf '%b' "$1" >"$work/m/model.txt"; }
 expect_model() { # NAME NUMBERS
-  out=$(./zorambi model "$work/m" 2>"$work/err")
+  out=$("$zorambi" model "$work/m" 2>"$work/err")
   same "$1" "answer place nodes links
 $2" "$out" $?
 }
@@ -279,32 +281,113 @@ spoil "CR LF in schema.txt" schema.txt < <(printf 'root least\r\n4 1\r\nkind a b
 spoil "no last byte 10" schema.txt < <(printf 'root least\n4 1\nkind a b c\n2 0 2 0')
 spoil "-0" schema.txt < <(printf 'root least\n4 -0\nkind a b c\n2 0 2 0\n')
 spoil "007" schema.txt < <(printf 'root least\n4 007\nkind a b c\n2 0 2 0\n')
-missing() { # PROGRAM FILE: a record without the file, with a folder in its place, with one that cannot be read
-  local judge=check_record
+
+# ---- files that cannot be read, or that are none: the number stays 3, and why is told
+
+missing() { # PROGRAM FILE
+  local judge=check_record other_text
   [ "$1" = model ] && judge=check_model_record
+  away_from() { # NAME WORDS: the file is as it is; both implementations refuse it with 3
+    "$judge" "$work/g" "$1"
+    said_exactly "$1" "refused: $file $2 (3)"
+  }
+  local file=$2
+  rm -rf "$work/g" "$work/away"
   record "$work/g"
   printf 'n\n3\nsymbol index\n0 1\n' >"$work/g/model.txt"
-  rm "$work/g/$2"
-  "$judge" "$work/g" "no $2"
-  said "no $2" "refused: a heading (3) at line 1"
-  said "no $2" "$2:1: "
-  mkdir "$work/g/$2"
-  "$judge" "$work/g" "a folder for $2"
-  rmdir "$work/g/$2"
-  ln -s /proc/self/mem "$work/g/$2"
-  "$judge" "$work/g" "$2 that cannot be read"
+  other_text=$(cat "$work/g/$file")
+  rm "$work/g/$file"
+  away_from "no $file" "is missing"
+  mkdir "$work/g/$file"
+  away_from "a folder for $file" "is a folder, not a regular file"
+  rmdir "$work/g/$file"
+  # The other implementation would wait for the pipe's other end for ever.
+  mkfifo "$work/g/$file"
+  gives_in_time "a pipe for $file" 1 "3 1 0 0" "refused: $file is a pipe, not a regular file (3)" "$1" "$work/g"
+  rm "$work/g/$file"
+  ln -s /dev/zero "$work/g/$file"
+  gives_in_time "a device for $file" 1 "3 1 0 0" \
+    "refused: $file is a link out of its folder, to /dev/zero, which is followed only with --follow (3)" "$1" "$work/g"
+  gives_in_time "a device for $file, followed" 1 "3 1 0 0" "refused: $file is a device, not a regular file (3)" "$1" --follow "$work/g"
+  rm "$work/g/$file"
+  python3 -c 'import socket, sys; socket.socket(socket.AF_UNIX).bind(sys.argv[1])' "$work/g/$file"
+  away_from "a socket for $file" "is a socket, not a regular file"
+  rm "$work/g/$file"
+  ln -s none "$work/g/$file"
+  away_from "a link to nothing for $file" "is missing"
+  rm "$work/g/$file"
+  # A regular file that gives an error when it is read.
+  ln -s /proc/self/mem "$work/g/$file"
+  out=$("$zorambi" "$1" --follow "$work/g" 2>"$work/err")
+  same "$file that cannot be read" $'answer place nodes links\n3 1 0 0' "$out" $?
+  said_exactly "$file that cannot be read" "refused: $file cannot be read: Input/output error (os error 5) (3)"
+  rm "$work/g/$file"
+  # A link within the folder is followed; one out of it only where that is asked for, and nothing of its target is shown.
+  mkdir "$work/g/kept"
+  printf '%s\n' "$other_text" >"$work/g/kept/text"
+  ln -s kept/text "$work/g/$file"
+  "$judge" "$work/g" "a link within the folder for $file"
+  rm "$work/g/$file"
+  mkdir "$work/away"
+  printf 'a secret\n' >"$work/away/text"
+  ln -s ../away/text "$work/g/$file"
+  gives_in_time "a link out of the folder for $file" 1 "3 1 0 0" \
+    "refused: $file is a link out of its folder, to $work/away/text, which is followed only with --follow (3)" "$1" "$work/g"
+  gives_in_time "a link out of the folder for $file, followed" 1 "3 1 0 0" "refused: a heading (3) at line 1
+$file:1: a secret" "$1" --follow "$work/g"
   rm -r "$work/g"
+}
+# A refusal that is given at once: its numbers, and all that is said.
+gives_in_time() { # NAME STATUS NUMBERS SAID WORD...
+  local status
+  timeout 20 "$zorambi" "${@:5}" >"$work/out" 2>"$work/err"
+  status=$?
+  if [ "$status" -eq "$2" ] && printf 'answer place nodes links\n%s\n' "$3" | cmp -s - "$work/out" && [ "$4" = "$(cat "$work/err")" ]; then
+    passed=$((passed + 1))
+  else
+    failed=$((failed + 1))
+    echo "$1: exit $status; printed: $(tr '\n' '|' <"$work/out"); said: $(tr '\n' '|' <"$work/err")"
+  fi
 }
 missing check schema.txt
 missing check proof.txt
 missing model schema.txt
 missing model model.txt
 
+# ---- folders
+
+# One whose name ends with a newline is judged, and not its neighbour without it.
+record "$work/near"
+mkdir "$work/near"$'\n'
+gives "a folder's name that ends with a newline" 1 $'answer place nodes links\n3 1 0 0\n' $'refused: schema.txt is missing (3)\n' check "$work/near"$'\n'
+gives "no folder of a name that ends with newlines" 2 "" "zorambi check: no such folder: $work/near\x0a\x0a"$'\n' check "$work/near"$'\n\n'
+gives "a name with bytes that are not printable" 2 "" 'zorambi check: no such folder: a\xffb\x1b[31m\\'$'\n' check $'a\xffb\e[31m\\'
+gives "a file as a folder" 2 "" "zorambi check: $work/near/schema.txt is no folder"$'\n' check "$work/near/schema.txt"
+out=$(cd "$work" && "$zorambi" check near 2>&1)
+same "a folder meant from where the caller stands" $'answer place nodes links\n0 0 7 1' "$out" $?
+mv "$work/near" "$work/-n"
+out=$(cd "$work" && "$zorambi" check -- -n 2>&1)
+same "a folder whose name begins with a dash" $'answer place nodes links\n0 0 7 1' "$out" $?
+if [ "$(id -u)" -eq 0 ]; then
+  mkdir "$work/shut"
+  chmod 755 "$work"
+  chmod 000 "$work/shut"
+  setpriv --reuid=65534 --regid=65534 --clear-groups "$zorambi" check "$work/shut" >"$work/out" 2>"$work/err"
+  same "a folder that cannot be entered" 2 $? 1
+  said_exactly "a folder that cannot be entered" "zorambi check: $work/shut cannot be entered: Permission denied (os error 13)"
+  record "$work/dim"
+  chmod 000 "$work/dim/proof.txt"
+  out=$(setpriv --reuid=65534 --regid=65534 --clear-groups "$zorambi" check "$work/dim" 2>"$work/err")
+  same "a file that may not be read" $'answer place nodes links\n3 1 0 0' "$out" $?
+  said_exactly "a file that may not be read" "refused: proof.txt cannot be read: Permission denied (os error 13) (3)"
+  rm -r "$work/shut" "$work/dim"
+fi
+
 # ---- the records as the program `cases` has them
 
 # The texts are the same but for those of commands that make texts, which it has not, and what the program is held to is what
 # the records themselves expect.
-if diff -r --exclude=README.md --exclude=expected --exclude=why --exclude=older --exclude=wide --exclude=tidy records crates/cases/data; then
+if diff -r --exclude=README.md --exclude=expected --exclude=why --exclude=older --exclude=wide --exclude=tidy --exclude=paper records crates/cases/data; then
   passed=$((passed + 1))
 else
   failed=$((failed + 1))
@@ -325,17 +408,22 @@ done
 
 # ---- wrong use, and the commands that make texts
 
+# Nothing is printed, and what is wrong is said: with the use of the command, or with the nearest command.
 wrong_use() { # WORD...
-  ./zorambi "$@" >/dev/null 2>&1
-  if [ $? -eq 2 ]; then
+  local status
+  "$zorambi" "$@" >"$work/out" 2>"$work/err"
+  status=$?
+  if [ "$status" -eq 2 ] && [ ! -s "$work/out" ] && grep -qE "^(zorambi|use: zorambi)" "$work/err"; then
     passed=$((passed + 1))
   else
     failed=$((failed + 1))
-    echo "./zorambi $*: wrong use is not told apart"
+    echo "zorambi $*: wrong use is not told apart: exit $status; printed: $(tr '\n' '|' <"$work/out"); said: $(tr '\n' '|' <"$work/err")"
   fi
 }
 wrong_use
 wrong_use check
+said "check alone" "zorambi check: DIR is missing
+use: zorambi check [--older] [--follow] [--json] [--quiet] DIR"
 wrong_use check "$work/none"
 wrong_use check ""
 wrong_use model
@@ -343,8 +431,12 @@ wrong_use check records records
 wrong_use check --older
 wrong_use check --older "$work/none"
 wrong_use check --oldest records/accepted/rca_zero
-wrong_use check records/accepted/rca_zero --older
+said "check --oldest" "did you mean '--older'?"
+wrong_use chekc records/accepted/rca_zero
+said "chekc" "no command 'chekc'; did you mean 'check'?"
 wrong_use model --older records/accepted/rca_zero
+wrong_use test
+said "test" "zorambi: test is a command of ./zorambi in the project's folder"
 
 for commands in tests/programs/*.sh; do
   [ -f "$commands" ] || continue

@@ -1,23 +1,26 @@
 #!/usr/bin/env bash
-# The script ./zorambi by itself, with stand-ins for rt and for the programs: when it proves again, what it says
-# meanwhile, and what it makes of a program that goes wrong.
+# The script ./zorambi by itself, with stand-ins for rt, for cargo and for what they make: when it proves and builds again, what it says
+# meanwhile, and how it hands over.
 set -u
 cd "$(dirname "$0")/.." || exit 2
 work=$(mktemp -d) || exit 2
-trap 'rm -rf "$work"' EXIT
+trap 'chmod -R u+w "$work" && rm -rf "$work"' EXIT
 passed=0
 failed=0
 
-# A repository of five crates, two of which the program check_proof is made of, and three check_older.
-mkdir -p "$work/kit" "$work/repo/crates/low/src" "$work/repo/crates/low/must-fail" "$work/repo/crates/check_proof/src" "$work/record"
-cp zorambi "$work/repo/zorambi"
-printf '# NAME: what it depends on\nlow:\nother: low\nzorambi: low\ncheck_proof: low io libc\ncheck_older: low other io\n' >"$work/repo/crates.txt"
-echo one >"$work/repo/crates/low/src/lib.rt"
-echo two >"$work/repo/crates/low/src/more.rt"
-echo three >"$work/repo/crates/check_proof/src/main.rt"
+# A repository of six crates: the program check_proof is made of two of them, check_older of three, the library of two.
+repo=$work/repo
+mkdir -p "$work/kit" "$work/tmp" "$work/record" "$repo/crates/low/src" "$repo/crates/low/must-fail" "$repo/crates/check_proof/src" \
+  "$repo/bindings/rust" "$repo/tools/zorambi/src" "$repo/.cargo" "$repo/tests"
+cp zorambi "$repo/zorambi"
+printf '# NAME: what it depends on\nlow:\nother: low\nzorambi: low\ncheck_proof: low io libc\ncheck_older: low other io\ncheck_model: low\n' >"$repo/crates.txt"
+echo one >"$repo/crates/low/src/lib.rt"
+echo two >"$repo/crates/low/src/more.rt"
+echo three >"$repo/crates/check_proof/src/main.rt"
+echo four >"$repo/tools/zorambi/src/main.rs"
+touch "$repo/Cargo.toml" "$repo/Cargo.lock"
 
-# rt's stand-in notes each proof and makes what it is asked for; `during` is run while it proves. The program's
-# stand-in is the file `program`.
+# rt's stand-in notes each proof and makes what it is asked for; `during` is run while it proves.
 cat >"$work/kit/rt" <<'R'
 #!/bin/sh
 at=$(dirname "$0")/..
@@ -28,32 +31,46 @@ echo "rt: low proved (unchanged since it was last proved)"
 sh "$at/during" || { echo "rt: $2 NOT PROVED (exit 1, 1 s)"; exit 1; }
 mkdir -p target/bin target/staticlib
 if [ "$1" = check ]; then
-  cp "$at/program" "target/bin/$2"
+  echo "$2" >"target/bin/$2"
   echo "rt: $2 proved (1 s)"
 else
   echo made >"target/staticlib/lib$2.a"
   echo "rt: target/staticlib/lib$2.a has the functions of $2"
 fi
 R
-chmod +x "$work/kit/rt"
+# cargo's stand-in notes each package and makes its program. The words that are right begin with a command's name; the program says where
+# it is run, by which process, and with which words.
+cat >"$work/kit/cargo" <<'R'
+#!/bin/sh
+at=$(dirname "$0")/..
+for package; do :; done
+echo "$package" >>"$at/builds"
+package=$package sh "$at/building" || exit 101
+mkdir -p build/release
+case $package in
+  zorambi-commands) made=zorambi-use text='case $1 in check | model | find | build | test | fuzz | bench) exit 3 ;; help) echo help ;; *) echo wrong >&2; exit 2 ;; esac' ;;
+  zorambi-cli) made=zorambi text='echo "$PWD: $*"; [ "$1" != find ] || { echo "$$"; exec sleep 30; }; [ "$2" != refused ]' ;;
+  *) exit 0 ;;
+esac
+printf '#!/bin/sh\n%s\n' "$text" >"build/release/$made"
+chmod +x "build/release/$made"
+R
+chmod +x "$work/kit/rt" "$work/kit/cargo"
 echo kit-1 >"$work/version"
 : >"$work/during"
+: >"$work/building"
 
-# The program's stand-in from now on: a shell script, and the kit makes it anew.
-program() { # SCRIPT
-  printf '#!/bin/sh\n%s\n' "$1" >"$work/program"
-  chmod +x "$work/program"
-  rm -rf "$work/repo/target"
-}
-accepts='printf "answer place nodes links\n0 0 7 1\n"'
-refuses='printf "answer place nodes links\n4 3 0 0\n"'
-
-# Runs ./zorambi: what it prints, says and ends with, and how often rt proved.
+# Runs ./zorambi: what it prints, says and ends with, how often rt proved and what cargo built.
+zorambi=./zorambi
+from=$repo
+path=$work/kit:$PATH
 use() { # WORD...
   : >"$work/proofs"
-  (cd "$work/repo" && PATH=$work/kit:$PATH && ./zorambi "$@") >"$work/out" 2>"$work/err"
+  : >"$work/builds"
+  (cd "$from" && TMPDIR=$work/tmp PATH=$path "$zorambi" "$@") >"$work/out" 2>"$work/err"
   status=$?
   proofs=$(wc -l <"$work/proofs")
+  builds=$(tr '\n' ' ' <"$work/builds")
 }
 check() {
   use check "$work/record"
@@ -67,255 +84,231 @@ expect() { # NAME TEST...
     passed=$((passed + 1))
   else
     failed=$((failed + 1))
-    echo "$name: exit status $status, $proofs proofs; printed: $(tr '\n' '|' <"$work/out"); said: $(tr '\n' '|' <"$work/err")"
+    echo "$name: exit status $status, $proofs proofs, built: $builds; printed: $(tr '\n' '|' <"$work/out"); said: $(tr '\n' '|' <"$work/err")"
   fi
 }
-ended() { # STATUS PROOFS
-  [ "$status" -eq "$1" ] && [ "$proofs" -eq "$2" ]
+ended() { # STATUS PROOFS BUILDS
+  [ "$status" -eq "$1" ] && [ "$proofs" -eq "$2" ] && [ "$builds" = "$3" ]
 }
 said() { # LINE...
   printf '%s\n' "$@" | cmp -s - "$work/err"
 }
+printed() { # LINE...
+  printf '%s\n' "$@" | cmp -s - "$work/out"
+}
+says() { # TEXT
+  grep -qF -- "$1" "$work/err"
+}
 
-# ---- when it proves
+# ---- when it proves and builds, and what it says
 
-program "$accepts"
-first="proving and building check_proof first; from nothing this takes some minutes"
+some_minutes="first; from nothing this takes some minutes"
+words="zorambi-commands "
+program="zorambi-cli "
 check
-expect "first use" ended 0 1
-expect "first use, what is said" said "$first" "proved 1 of 2 crates" "proved 2 of 2 crates"
+expect "first use" ended 0 2 "$words$program"
+expect "first use, what is said" said "proving and building check_proof $some_minutes" "proved 1 of 2 crates" "proved 2 of 2 crates" \
+  "proving and building zorambi $some_minutes" "proved 1 of 2 crates" "proved 2 of 2 crates" "building the program"
+expect "first use, what is printed" printed "$repo: check $work/record"
 check
-expect "second use" ended 0 0
+expect "second use" ended 0 0 ""
 expect "second use, what is said" cmp -s "$work/err" /dev/null
+use check refused
+expect "the exit status is the program's" ended 1 0 ""
 
-# A change, then a use with a proof, then one without.
-changed() { # NAME
+# A change, then a use that makes what is wanted, then one that makes nothing.
+changed() { # NAME PROOFS BUILDS
   check
-  expect "$1" ended 0 1
+  expect "$1" ended 0 "$2" "$3"
   check
-  expect "$1, used again" ended 0 0
+  expect "$1, used again" ended 0 0 ""
 }
-echo two more >>"$work/repo/crates/low/src/more.rt"
-changed "a source edited"
-echo one >"$work/repo/crates/low/src/lib.rt.new"
-touch -d '2001-01-01' "$work/repo/crates/low/src/lib.rt.new"
-mv "$work/repo/crates/low/src/lib.rt.new" "$work/repo/crates/low/src/new.rt"
-changed "a source added that is old"
-mv "$work/repo/crates/low/src/new.rt" "$work/repo/crates/low/src/newer.rt"
-changed "a source renamed"
-rm "$work/repo/crates/low/src/more.rt"
-changed "a source deleted"
-echo '# a remark' >>"$work/repo/crates.txt"
-changed "the list of crates edited"
+# The library that the kit makes is always the same here, so that the program is built again only where its own sources or kit change.
+echo two more >>"$repo/crates/low/src/more.rt"
+changed "a source edited" 2 "$words"
+echo one >"$repo/crates/low/src/lib.rt.new"
+touch -d '2001-01-01' "$repo/crates/low/src/lib.rt.new"
+mv "$repo/crates/low/src/lib.rt.new" "$repo/crates/low/src/new.rt"
+changed "a source added that is old" 2 "$words"
+mv "$repo/crates/low/src/new.rt" "$repo/crates/low/src/newer.rt"
+changed "a source renamed" 2 "$words"
+rm "$repo/crates/low/src/more.rt"
+changed "a source deleted" 2 "$words"
+echo '# a remark' >>"$repo/crates.txt"
+changed "the list of crates edited" 2 "$words"
 echo kit-2 >"$work/version"
-changed "another kit"
-echo '# by hand' >>"$work/repo/target/bin/check_proof"
-changed "another program in its place"
-rm "$work/repo/target/bin/check_proof"
-changed "the program deleted"
-echo 'an edit' >"$work/repo/crates/low/must-fail/wrong.edit"
+changed "another kit" 2 "$words$program"
+echo '# by hand' >>"$repo/target/bin/check_proof"
+changed "another program in its place" 1 "$words"
+rm "$repo/target/bin/check_proof"
+changed "the program deleted" 1 "$words"
+echo other >>"$repo/target/staticlib/libzorambi.a"
+changed "another library in its place" 1 "$words"
+rm -r "$repo/target/made"
+changed "what it was made of is not known" 2 "$words"
+echo five >>"$repo/tools/zorambi/src/main.rs"
+changed "a file of the tools edited" 0 "$words$program"
+echo six >"$repo/bindings/rust/lib.rs"
+changed "a file of the binding added" 0 "$words$program"
+echo '# a remark' >>"$repo/Cargo.lock"
+changed "the list of packages edited" 0 "$words$program"
+echo '# by hand' >>"$repo/build/release/zorambi"
+changed "another program zorambi in its place" 0 "$words$program"
+echo 'an edit' >"$repo/crates/low/must-fail/wrong.edit"
 check
-expect "a must-fail edit is no source" ended 0 0
+expect "a must-fail edit is no source" ended 0 0 ""
 
-echo "echo meanwhile >>crates/low/src/lib.rt" >"$work/during"
-echo four >>"$work/repo/crates/low/src/lib.rt"
+echo "echo meanwhile >>crates/low/src/lib.rt; : >$work/during" >"$work/during"
+echo four >>"$repo/crates/low/src/lib.rt"
 check
-expect "a source edited while it proves" ended 0 1
-: >"$work/during"
-changed "a source edited while it proved"
+expect "a source edited while it proves" ended 0 2 "$words"
+check
+expect "a source edited while it proved" ended 0 1 "$words"
+check
+expect "a source edited while it proved, used again" ended 0 0 ""
+echo "echo meanwhile >>tools/zorambi/src/main.rs" >"$work/building"
+echo seven >>"$repo/tools/zorambi/src/main.rs"
+check
+expect "a file edited while it builds" ended 0 0 "$words$program"
+: >"$work/building"
+changed "a file edited while it was built" 0 "$words$program"
 
 echo false >"$work/during"
-echo five >>"$work/repo/crates/low/src/lib.rt"
+echo five >>"$repo/crates/low/src/lib.rt"
 check
-expect "not proved" ended 2 1
-expect "not proved, what is said" said "$first" "proved 1 of 2 crates" "fn low::f: proved" \
+expect "not proved" ended 2 1 "$words"
+expect "not proved, what is said" said "proving and building check_proof $some_minutes" "proved 1 of 2 crates" "fn low::f: proved" \
   "rt: low proved (unchanged since it was last proved)" "rt: check_proof NOT PROVED (exit 1, 1 s)" "check_proof is not proved"
+expect "not proved, nothing is printed" cmp -s "$work/out" /dev/null
 check
-expect "still not proved" ended 2 1
+expect "still not proved" ended 2 1 "$words"
 : >"$work/during"
-changed "proved again"
-
-# ---- the program for older records
-
-# Which of the two programs was run, by its answer.
-either="case \$0 in */check_older) echo 0 0 65 3 ;; */check_proof) echo 27 130 0 0 ;; esac"
-program "echo answer place nodes links; $either"
-older() {
-  use check --older "$work/record"
-}
-older
-expect "first use for older records" ended 0 1
-expect "first use for older records, what is proved" grep -qx 'check check_older' "$work/proofs"
-expect "first use for older records, what is said" said "proving and building check_older first; from nothing this takes some minutes" \
-  "proved 1 of 3 crates" "proved 2 of 3 crates"
-expect "first use for older records, what is printed" grep -qx '0 0 65 3' "$work/out"
-older
-expect "second use for older records" ended 0 0
-expect "second use for older records, what is said" cmp -s "$work/err" /dev/null
+changed "proved again" 2 "$words"
+echo eight >>"$repo/tools/zorambi/src/main.rs"
+echo "[ \"\$package\" = zorambi-commands ]" >"$work/building"
 check
-expect "the other program is proved too" ended 1 1
-expect "the other program, what is proved" grep -qx 'check check_proof' "$work/proofs"
-expect "the other program, what is printed" grep -qx '27 130 0 0' "$work/out"
+expect "not built" ended 2 0 "$words$program"
+expect "not built, what is said" said "building the program" "zorambi: the program is not built"
+: >"$work/building"
+changed "built again" 0 "$words$program"
+
+# ---- which proved program it is
+
+use check --older "$work/record"
+expect "an older record" ended 0 1 "$words"
+expect "an older record, what is proved" grep -qx 'check check_older' "$work/proofs"
+expect "an older record, what is said" said "proving and building check_older $some_minutes" "proved 1 of 3 crates" "proved 2 of 3 crates"
+use check "$work/record" --older
+expect "an older record again" ended 0 0 ""
+rm "$repo/target/bin/check_proof"
+use check --older "$work/record"
+expect "an older record does not want the other program" ended 0 0 ""
+use check -- --older
+expect "a folder called --older" ended 0 1 "$words"
+expect "a folder called --older, what is proved" grep -qx 'check check_proof' "$work/proofs"
+use model "$work/record"
+expect "a model" grep -qx 'check check_model' "$work/proofs"
+rm -r "$repo/target/bin"
+use build
+expect "build" ended 0 3 "$words"
+expect "build, nothing is printed" cmp -s "$work/out" /dev/null
 check
-expect "the other program again" ended 1 0
-older
-expect "older records once more" ended 0 0
-echo six >>"$work/repo/crates/low/src/lib.rt"
-older
-expect "a source edited, for older records" ended 0 1
-echo '# by hand' >>"$work/repo/target/bin/check_older"
+expect "after build" ended 0 0 ""
+
+# ---- wrong words, and help, prove nothing
+
+rm -r "$repo/target" "$repo/build"
+use chekc "$work/record"
+expect "a wrong word" ended 2 0 "$words"
+expect "a wrong word, what is said" said wrong
+use
+expect "no word" ended 2 0 "$words"
+use help
+expect "help" ended 0 0 "$words"
+expect "help, what is printed" printed help
 check
-expect "a source edited, for the other program" ended 1 1
-older
-expect "another program in the place of that for older records" ended 0 1
-echo false >"$work/during"
-echo seven >>"$work/repo/crates/low/src/lib.rt"
-older
-expect "not proved for older records" ended 2 1
-expect "not proved for older records, the last line" grep -qx 'check_older is not proved' "$work/err"
-: >"$work/during"
-older
-expect "proved again for older records" ended 0 1
-program ""
-older
-expect "nothing printed for older records" ended 2 1
-expect "nothing printed for older records, the last line" grep -qx 'check_older ended without a verdict, with exit status 0' "$work/err"
+use help
+expect "help once the program is there" printed "$repo: help"
 
-# A wrong use proves nothing and says the use.
-misuse() { # WORD...
-  use "$@"
-  expect "./zorambi $*" ended 2 0
-  expect "./zorambi $*, what is said" grep -qF -- './zorambi check [--older] DIR ' "$work/err"
-}
-misuse check
-misuse check --older
-misuse check --older ""
-misuse check --older --older
-misuse check --old "$work/record"
-misuse check --oldest "$work/record"
-misuse check "$work/record" --older
-misuse check --older "$work/record" "$work/record"
-misuse check --older --older "$work/record"
-misuse check -o
-misuse model --older "$work/record"
+# ---- where it is called from, and by whom
 
-# Only the library is made here: the repository has no crate of tests, so the command fails after that.
-use bench
-expect "the library" ended 1 1
-use bench
-expect "the library again" ended 1 0
-rm "$work/repo/crates/low/src/newer.rt"
-use bench
-expect "the library after a source is deleted" ended 1 1
-
-# ---- what it makes of a program's end
-
-ends() { # NAME SCRIPT STATUS
-  program "$2"
-  check
-  expect "$1" ended "$3" 1
-}
-ends "acceptance" "$accepts" 0
-ends "refusal" "$refuses" 1
-ends "death after an acceptance is printed" "$accepts; kill -SEGV \$\$" 2
-ends "another exit status after a refusal" "$refuses; exit 1" 2
-ends "nothing printed" "" 2
-ends "no heading" 'echo "0 0 7 1"' 2
-ends "half a line" 'printf "answer place nodes links\n0 0"' 2
-for answer in 32 99 100 00 027 99999999999999999999; do
-  ends "an answer that there is not: $answer" "printf 'answer place nodes links\n$answer 0 0 0\n'" 2
+ln -s "$repo/zorambi" "$work/a link"
+ln -s "a link" "$work/a link to it"
+mkdir "$work/elsewhere"
+for zorambi in "$work/a link" "$work/a link to it" ../repo/zorambi; do
+  from=$work/elsewhere
+  CDPATH=$work use check record
+  expect "from elsewhere by $zorambi" ended 0 0 ""
+  expect "from elsewhere by $zorambi, where it is run" printed "$work/elsewhere: check record"
 done
-ends "a line more" "$accepts; echo 0" 2
+zorambi=$repo/zorambi
+from=$work/elsewhere
 
-# ---- the program for records
-
-# cargo's stand-in makes it of the file `maker`.
-cat >"$work/kit/cargo" <<'R'
-#!/bin/sh
-echo "$1" >>"$(dirname "$0")/../built"
-mkdir -p target/release && cp "$(dirname "$0")/../maker" target/release/zorambi-records
-R
-chmod +x "$work/kit/cargo"
-mkdir -p "$work/repo/tools/records"
-maker() { # SCRIPT
-  printf '#!/bin/sh\n%s\n' "$1" >"$work/maker"
-  chmod +x "$work/maker"
-}
-made() { # NAME STATUS SCRIPT: what ./zorambi find makes of it
-  maker "$3"
-  use find "$work/record" 3
-  expect "$1" ended "$2" 0
-}
-printed() { # TEXT
-  printf '%s' "$1" | cmp -s - "$work/out"
-}
-maker 'printf "n\n%s\nsymbol index\n" "$3"'
-rm -rf "$work/repo/target"
-use find "$work/record" 3
-expect "the library is proved for it" ended 0 1
-expect "the library is proved for it, what is said" said \
-  "proving and building zorambi first; from nothing this takes some minutes" "proved 1 of 2 crates" "proved 2 of 2 crates"
-expect "a text" printed $'n\n3\nsymbol index\n'
-expect "it is built by cargo" grep -qx build "$work/built"
-made "a text without a last byte 10" 0 'printf "none"'
-expect "a text without a last byte 10, printed" printed "none"
-expect "a text, nothing said" cmp -s "$work/err" /dev/null
-made "a refusal" 1 'printf "answer place nodes links\n7 2 0 0\n"; echo "schema.txt:6: 7 9 2 0" >&2; exit 1'
-expect "a refusal, printed" printed $'answer place nodes links\n7 2 0 0\n'
-expect "a refusal, what is said" said "refused: an ill-formed formula (7) at row 2" "schema.txt:6: 7 9 2 0"
-made "a refusal of the whole" 1 'printf "answer place nodes links\n30 -1 0 0\n"; exit 1'
-expect "a refusal of the whole, what is said" said "refused: more than 16 pairs that occur at that n (30)"
-made "wrong use" 2 'printf "no such\033[0m folder\n" >&2; exit 2'
-expect "wrong use, what is said" said 'no such\x1b[0m folder'
-expect "wrong use, nothing printed" cmp -s "$work/out" /dev/null
-made "an acceptance as a refusal" 2 'printf "answer place nodes links\n0 0 7 1\n"; exit 1'
-made "an answer that there is not" 2 'printf "answer place nodes links\n99 0 0 0\n"; exit 1'
-made "a refusal without its lines" 2 'exit 1'
-expect "a refusal without its lines, what is said" said "find ended without a verdict, with exit status 1"
-made "death" 2 'echo none; kill -SEGV $$'
-expect "death, nothing printed" cmp -s "$work/out" /dev/null
-made "another exit status" 2 'echo none; exit 3'
-misuse find
-misuse find "$work/record"
-misuse find "$work/record" 3 4
-# A command that prints nothing, and one whose refusal says in lines before the line at fault whose it is.
-maker '[ "$1 $3 $4" = "join b c" ]'
-use join "$work/record" b c
-expect "two records" ended 0 0
-expect "two records, nothing printed" cmp -s "$work/out" /dev/null
-maker 'printf "answer place nodes links\n14 5 0 0\n"; printf "in the second record:\nb/proof.txt:12: 4 8 -1 -1 -1 1 2 5 7\n" >&2; exit 1'
-use join "$work/record" b c
-expect "a second record refused" ended 1 0
-expect "a second record refused, what is said" said "refused: a link's bounds: n - by may lie outside its target's (14) at node 5" \
-  "in the second record:" "b/proof.txt:12: 4 8 -1 -1 -1 1 2 5 7"
-misuse join
-misuse join "$work/record" "$work/record"
-misuse join "$work/record" "$work/record" c d
-misuse small
-misuse small 1 2
-misuse small --count 1
-misuse small 1 --count 2
-rm -rf "$work/repo/tools" "$work/kit/cargo"
-
-# ---- a proof row written twice
-
-twice='printf "answer place nodes links\n27 9 0 0\n"; echo "proof.txt:6: 3 0 1 0" >&2'
-ends "a proof row written twice" "$twice" 1
-expect "a proof row written twice, what is said" said "$first" "proved 1 of 2 crates" "proved 2 of 2 crates" \
-  "refused: a proof row written twice (27) at row 9" "proof.txt:6: 3 0 1 0"
-
-# ---- bytes of a record
-
-red='printf "schema.txt:3: \033[31m a\\\\b\tc\000d\200\377 e\n" >&2'
-shown='schema.txt:3: \x1b[31m a\\b\x09c\x00d\x80\xff e'
-program "$refuses; $red"
+# Without the kit, and without cargo: all goes on that is made, and what is missing is told.
+mkdir "$work/system"
+for tool in bash sh dirname realpath sha256sum find sort cat mkdir rm mktemp tee tail awk sleep chmod; do ln -s "$(command -v "$tool")" "$work/system"; done
+path=$work/system
 check
-expect "escaped bytes of a refused record" said "$first" "proved 1 of 2 crates" "proved 2 of 2 crates" \
-  "refused: a line's form (4) at line 3" "$shown"
-program "$red"
+expect "without kit and cargo" ended 0 0 ""
+rm "$repo/target/bin/check_proof"
 check
-expect "escaped bytes where there is no verdict" said "$first" "proved 1 of 2 crates" "proved 2 of 2 crates" \
-  "check_proof ended without a verdict, with exit status 0" "$shown"
+expect "without kit and cargo, where something is to be made" ended 2 0 ""
+expect "without cargo, what is said" said "zorambi: cargo is not on the PATH: it builds the program"
+ln -s "$work/kit/cargo" "$work/system"
+sed -i "s|^at=.*|at=$work|" "$work/kit/cargo"
+check
+expect "without the kit, where something is to be proved" ended 2 0 "$words"
+expect "without the kit, what is said" said "zorambi: rt is not on the PATH: the Rattle kit is missing, which proves and builds check_proof"
+path=$work/kit:$PATH
+check
+expect "with the kit" ended 0 1 "$words"
+
+# As another user, in a folder that cannot be written: nothing is written, and nothing is called that would.
+before=$(find "$repo" -printf '%p %m %s %T@\n' | LC_ALL=C sort)
+chmod -R a-w "$repo"
+chmod -R a+rX "$work"
+as_another=()
+[ "$(id -u)" -ne 0 ] || as_another=(setpriv --reuid=65534 --regid=65534 --clear-groups)
+(cd / && PATH=$path TMPDIR=$work/none "${as_another[@]}" "$repo/zorambi" check "$work/record") >"$work/out" 2>"$work/err"
+status=$?
+expect "as another user in a folder that cannot be written" ended 0 1 "$words"
+expect "as another user, what is printed" printed "/: check $work/record"
+expect "as another user, nothing is said" cmp -s "$work/err" /dev/null
+chmod -R u+w "$repo"
+expect "nothing is written" [ "$before" = "$(find "$repo" -printf '%p %m %s %T@\n' | LC_ALL=C sort)" ]
+
+# The program takes the script's place, so that a signal reaches it.
+(cd "$from" && PATH=$path exec "$zorambi" find x) >"$work/out" 2>"$work/err" &
+script=$!
+for _ in $(seq 100); do
+  [ "$(wc -l <"$work/out")" -ge 2 ] && break
+  sleep 0.1
+done
+status=0
+expect "the program has the script's process" [ "$(sed -n 2p "$work/out")" = "$script" ]
+kill "$script" && wait "$script" 2>/dev/null
+status=$?
+expect "a signal ends it" [ "$status" -eq 143 ]
+
+# ---- its own commands
+
+for name in gate fuzz bench; do
+  # shellcheck disable=SC2016
+  printf '#!/bin/sh\necho "%s in $PWD: $*"\n' "$name" >"$repo/tests/$name.sh"
+  chmod +x "$repo/tests/$name.sh"
+done
+use test
+expect "test" printed "gate in $repo: "
+expect "test proves nothing itself" ended 0 0 "$words"
+use fuzz 7
+expect "fuzz" printed "fuzz in $repo: 7"
+rm "$repo/target/staticlib/libzorambi.a"
+use bench
+expect "bench" printed "bench in $repo: "
+expect "bench wants the library" ended 0 1 "$words"
+
+expect "nothing is left in the temporary folder" [ -z "$(ls -A "$work/tmp")" ]
+expect "at most 200 lines" [ "$(wc -l <zorambi)" -le 200 ]
 
 echo "$passed passed, $failed failed"
 [ "$failed" -eq 0 ]

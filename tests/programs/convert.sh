@@ -6,7 +6,7 @@ for r in records/wide/*; do
   gives "convert $r" 0 "$(cat "$r/schema.txt")"$'\n' "" convert "$r"
   check_record "$r" "$r"
   same "check $r" "answer place nodes links
-$(cat "$r/expected")" "$(./zorambi check "$r" 2>&1)" $?
+$(cat "$r/expected")" "$("$zorambi" check "$r" 2>&1)" $?
 done
 
 # A wide text of rows with root and least, in $work/w.
@@ -46,9 +46,14 @@ plain "not an exclusive or" "9 0" "2 0 1 0" "3 0 1 0" "2 1 1 0" "3 1 1 0" \
 root="refused: the root or the least value (6)"
 ill_formed="refused: an ill-formed formula (7) at row"
 too_large="refused: a formula too large or too deep (8) at row"
-plain_rows="refused: plain rows too many, too large or too deep (23)"
+plain_rows="refused: plain rows too many, too large or too deep:"
+# Without OUT nothing is printed: the two lines are said. With OUT they are printed, and there is no OUT.
 away() { # NAME NUMBERS SAID
-  turns_away "$1" "$2" "$3" convert "$work/w"
+  gives "$1" 1 "" $'answer place nodes links\n'"$2"$'\n'"$3"$'\n' convert "$work/w"
+  turns_away "$1, with OUT" "$2" "$3" convert "$work/w" "$work/wout"
+  [ ! -e "$work/wout" ] && passed=$((passed + 1)) && return
+  failed=$((failed + 1))
+  echo "$1: there is an OUT"
 }
 wide "2 0" "2 0 1 0" "8 0 0 0"
 away "a wide root that is no row" "6 -1 0 0" "$root"
@@ -85,11 +90,11 @@ wide "63 0" "${rows[@]:0:64}"
 plain "63 nots" "1 0" "2 0 1 0" "3 0 1 0"
 # Six equivalences in one another have a plain size of 8,191, five of 2,047.
 wide "6 0" "2 0 1 0" "10 0 0 0" "10 1 1 0" "10 2 2 0" "10 3 3 0" "10 4 4 0" "10 5 5 0"
-away "a plain row too large" "23 -1 0 0" "$plain_rows"
+away "a plain row too large" "23 -1 0 0" "$plain_rows what row 6 comes to has size 8,191, at most 4,096 (23)"
 rows=("2 0 1 0")
 for k in $(seq 171); do rows+=("11 0 0 0"); done
 wide "0 0" "${rows[@]}"
-away "1,028 plain rows" "23 -1 0 0" "$plain_rows"
+away "1,028 plain rows" "23 -1 0 0" "$plain_rows 1,028 plain rows, at most 1,024 (23)"
 
 # Texts that are none.
 printf 'root least\n0 0\nkind a b c\n2 0 1 0\n8 0 0\n' >"$work/w/wide.txt"
@@ -97,10 +102,18 @@ away "a wide line that is no row" "4 5 0 0" "refused: a line's form (4) at line 
 wide.txt:5: 8 0 0"
 head -c 70000 /dev/zero >"$work/w/wide.txt"
 away "a long wide text" "1 0 0 0" "refused: wide.txt has over 65,536 bytes (1)"
-turns_away "no wide text" "3 1 0 0" "refused: a heading (3) at line 1
-wide.txt:1: " convert records/accepted/rca_zero
+rm "$work/w/wide.txt"
+away "no wide text" "3 1 0 0" "refused: wide.txt is missing (3)"
 
-for words in "convert" "convert $work/none" "convert records/wide/adder_zero 3"; do
+# Into a folder that is made, or is there and empty.
+rm -rf "$work/wout"
+gives "convert into a new folder" 0 "" "" convert records/wide/adder_zero "$work/wout"
+same "convert into a new folder, what is there" "schema.txt" "$(ls -A "$work/wout")" 1
+cmp -s "$work/wout/schema.txt" records/wide/adder_zero/schema.txt
+same "convert into a new folder, the schema" 0 $? 0
+gives "convert into a folder that is not empty" 2 "" "zorambi convert: $work/wout: the folder is not empty"$'\n' convert records/wide/adder_zero "$work/wout"
+
+for words in "convert" "convert $work/none" "convert records/wide/adder_zero $work/a $work/b"; do
   # shellcheck disable=SC2086
   wrong_use $words
 done

@@ -16,13 +16,17 @@ finds() { # NAME N PAIR...
   cp "$work/out" "$work/f/model.txt"
   check_model_record "$work/f" "$1, by the model check"
   same "$1, accepted" "answer place nodes links
-0 0 0 0" "$(./zorambi model "$work/f" 2>&1)" $?
+0 0 0 0" "$("$zorambi" model "$work/f" 2>&1)" $?
 }
 finds_none() { # NAME N
   gives "$1" 0 $'none\n' "" find "$work/f" "$2"
 }
-width="refused: n out of range (19)"
-wires="refused: more than 16 pairs that occur at that n (30)"
+width() { # N
+  echo "refused: n out of range: $1 is not 1 to 9999 (19)"
+}
+wires() { # PAIRS N
+  echo "refused: more than 16 pairs that occur at that n: $1 occur at n = $2 (30)"
+}
 
 # Root 2: some p_i for i from 2 to n. Pairs 0 2 to 0 n occur, the last is the least significant.
 rooted 2
@@ -30,21 +34,21 @@ finds_none "root 2, n = 1" 1
 finds "root 2, n = 2" 2 "0 2"
 finds "root 2, n = 3" 3 "0 3"
 finds "root 2, n = 17" 17 "0 17"
-turns_away "root 2, n = 18" "30 -1 0 0" "$wires" find "$work/f" 18
-turns_away "root 2, n = 9999" "30 -1 0 0" "$wires" find "$work/f" 9999
-turns_away "root 2, n = 0" "19 -1 0 0" "$width" find "$work/f" 0
-turns_away "root 2, n = -5" "19 -1 0 0" "$width" find "$work/f" -5
-turns_away "root 2, n = 10000" "19 -1 0 0" "$width" find "$work/f" 10000
-turns_away "root 2, n = 99999" "19 -1 0 0" "$width" find "$work/f" 99999
+turns_away "root 2, n = 18" "30 -1 0 0" "$(wires 17 18)" find "$work/f" 18
+turns_away "root 2, n = 9999" "30 -1 0 0" "$(wires 9,998 9999)" find "$work/f" 9999
+turns_away "root 2, n = 0" "19 -1 0 0" "$(width 0)" find "$work/f" 0
+turns_away "root 2, n = -5" "19 -1 0 0" "$(width -5)" find "$work/f" -5
+turns_away "root 2, n = 10000" "19 -1 0 0" "$(width 10000)" find "$work/f" 10000
+turns_away "root 2, n = 99999" "19 -1 0 0" "$(width 99999)" find "$work/f" 99999
 # Root 3: none of them. All false comes first.
 rooted 3
 finds "root 3, n = 1" 1
 finds "root 3, n = 17" 17
-turns_away "root 3, n = 18" "30 -1 0 0" "$wires" find "$work/f" 18
+turns_away "root 3, n = 18" "30 -1 0 0" "$(wires 17 18)" find "$work/f" 18
 # Root 4: both, which 01's proof refutes.
 rooted 4
 for n in 1 2 3 16 17; do finds_none "root 4, n = $n" "$n"; done
-turns_away "root 4, n = 18" "30 -1 0 0" "$wires" find "$work/f" 18
+turns_away "root 4, n = 18" "30 -1 0 0" "$(wires 17 18)" find "$work/f" 18
 rooted 0
 turns_away "a root that is not outer" "6 -1 0 0" "refused: the root or the least value (6)" find "$work/f" 3
 rooted 5
@@ -72,8 +76,7 @@ schema.txt:4: 2 0 \\x1b[0m 0" find "$work/f" 3
 head -c 65537 /dev/zero >"$work/f/schema.txt"
 turns_away "a long schema" "1 0 0 0" "refused: schema.txt has over 65,536 bytes (1)" find "$work/f" 3
 rm "$work/f/schema.txt"
-turns_away "no schema" "3 1 0 0" "refused: a heading (3) at line 1
-schema.txt:1: " find "$work/f" 3
+turns_away "no schema" "3 1 0 0" "refused: schema.txt is missing (3)" find "$work/f" 3
 
 # Where the check accepts there is no model; where a record has one, one is found at its n, and both implementations accept it.
 for r in records/accepted/*; do
@@ -85,9 +88,9 @@ done
 for r in records/refused/*/model.txt; do
   r=${r%/model.txt}
   cp "$r/schema.txt" "$work/f"
-  ./zorambi find "$r" "$(sed -n 2p "$r/model.txt")" >"$work/f/model.txt" 2>"$work/err"
+  "$zorambi" find "$r" "$(sed -n 2p "$r/model.txt")" >"$work/f/model.txt" 2>"$work/err"
   same "the model found of $r" "answer place nodes links
-0 0 0 0" "$(./zorambi model "$work/f" 2>&1)" $?
+0 0 0 0" "$("$zorambi" model "$work/f" 2>&1)" $?
   check_model_record "$work/f" "the model found of $r"
 done
 

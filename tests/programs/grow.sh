@@ -4,11 +4,20 @@
 
 # One run with these lines on standard input: its exit status, all that it prints and all that it says.
 grows() { # NAME STATUS LINES PRINTED SAID DIR
-  gives "$1" "$2" "$4" "$5" grow "$6" < <(printf '%s' "$3")
+  gives "$1" "$2" "$4" "${5%x}" grow "$6" < <(printf '%s' "$3")
 }
-# The same where it begins: the lines that answer the first state and each line given.
-answers() { # NAME LINES ANSWERS DIR
-  grows "$1" 0 "$2" $'answer place nodes links\n'"$3" "" "$4"
+# The same where it begins: the lines that answer the first state and each line given. At the end it is told if what is held last is not
+# what was held first, or what SAID is.
+answers() { # NAME LINES ANSWERS DIR [SAID]
+  grows "$1" 0 "$2" $'answer place nodes links\n'"$3" "${5-$(not_saved "$3")}" "$4"
+}
+not_saved() { # ANSWERS
+  awk '/^0 0 / { if (!first) first = $0; last = $0; nodes = $3; links = $4; state = $5 }
+    function s(count) { return count == 1 ? "" : "s" }
+    END {
+      if (first != last)
+        printf "not saved: %d node%s, %d link%s, %s; \047save FILE\047 writes the proof text\nx", nodes, s(nodes), links, s(links), state
+    }' <<<"$1"
 }
 # What a record's folder is before it has nodes, in $work/g.
 without_nodes() { # FOLDER
@@ -49,7 +58,7 @@ alike "at least 15 records grown" 1 "$((grown_whole >= 15))"
 
 # A refused one says at its begin what the check says of it.
 for r in records/refused/*; do
-  ./zorambi check "$r" >"$work/checked" 2>"$work/said"
+  "$zorambi" check "$r" >"$work/checked" 2>"$work/said"
   gives "grow $r" 1 "$(cat "$work/checked")"$'\n' "$(cat "$work/said")"$'\n' grow "$r" </dev/null
 done
 
@@ -137,12 +146,12 @@ back
 
 # ---- enquiries and commits
 
-# Every accepted record by enquiries and commits: each row is answered twice alike.
+# Every accepted record by enquiries and commits: each row is answered twice alike, once as an enquiry.
 for r in records/accepted/*; do
   without_nodes "$r"
   expected=$(nodes_of "$r" | awk -v last="$(nodes_of "$r" | wc -l)" '
     BEGIN { print "0 0 0 0 open" }
-    { if ($2 == 8) links++; for (k = 0; k < 2; k++) print "0 0", NR, links + 0, NR == last ? "closed" : "open" }')
+    { if ($2 == 8) links++; for (k = 0; k < 2; k++) print (k ? "" : "? ") "0 0", NR, links + 0, NR == last ? "closed" : "open" }')
   answers "grow $r by commits" "$(nodes_of "$r" | sed 's/^/? /; s/$/\ncommit/')"$'\n' "$expected"$'\n' "$work/g"
 done
 without_nodes "$work/p"
@@ -153,7 +162,7 @@ $first"'? 4 8 -1 -1 -1 1 1 5 7
 commit
 ?4 8 -1 -1 -1 1 1 5 7
 4 8 -1 -1 -1 1 2 5 7
-x
+0 x
 commit
 commit
 ? 4 6 6 8 -1 -1 0 6 8
@@ -168,23 +177,23 @@ commit
 commit
 ' "0 0 0 0 open
 $waits
-${five#*$'\n'}0 0 6 1 open
-14 5 0 0 open refused: a link's bounds: n - by may lie outside its target's (14) at node 5
+${five#*$'\n'}? 0 0 6 1 open
+? 14 5 0 0 open refused: a link's bounds: n - by may lie outside its target's (14) at node 5
 $waits
-0 0 6 1 open
+? 0 0 6 1 open
 14 5 0 0 open refused: a link's bounds: n - by may lie outside its target's (14) at node 5
 4 12 0 0 open refused: a line's form (4) at line 12
 0 0 6 1 open
 $waits
-0 0 7 1 closed
+? 0 0 7 1 closed
 0 0 5 0 open
 $waits
-0 0 6 1 open
+? 0 0 6 1 open
 0 0 6 1 open
 $waits
+? 0 0 7 1 closed
 0 0 7 1 closed
-0 0 7 1 closed
-17 7 0 0 closed refused: a child more than its parent's rule has (17) at node 7
+? 17 7 0 0 closed refused: a child more than its parent's rule has (17) at node 7
 ${waits/open/closed}
 " "$work/g"
 # An enquiry about what is no row is a line that cannot be read: the row that waits is still there.
@@ -199,8 +208,10 @@ commit
 Commit
 commit
 ' "0 0 0 0 open
-0 0 1 0 open
-$(for n in $(seq 2 9); do echo "4 $n 0 0 open refused: a line's form (4) at line $n"; done)
+? 0 0 1 0 open
+$(for n in $(seq 2 7); do echo "? 4 $n 0 0 open refused: a line's form (4) at line $n"; done)
+nothing stands after 'commit'
+no such word: 'Commit'; did you mean 'commit'?
 0 0 1 0 open
 " "$work/g"
 # Nor is an enquiry that ends with the input before its row.
@@ -208,25 +219,83 @@ for cut in '?' '? '; do
   answers "an enquiry '$cut' cut short" "-1 0 4 -1 -1 -1 0 4
 $cut" "0 0 0 0 open
 0 0 1 0 open
-4 2 0 0 open refused: a line's form (4) at line 2
+? 4 2 0 0 open refused: a line's form (4) at line 2
 " "$work/g"
 done
 # What only waits is not saved.
 answers "an enquiry, and save" "$first? ${last%%$'\n'*}
 save $work/g/five
-" "${five}0 0 6 1 open
+" "${five}? 0 0 6 1 open
 saved $work/g/five
-" "$work/g"
+" "$work/g" ""
 alike "what only waits is not saved" "$(head -n 11 "$work/p/proof.txt")" "$(cat "$work/g/five")"
 
 # ---- lines that cannot be read change nothing, and are told by their number
 
 form="refused: a line's form (4) at line"
-answers "lines that are no rows" "$first"$'\n \n4 8 -1 -1 -1 1 1 5 7 \n4  8 -1 -1 -1 1 1 5 7\n4 8 -1 -1 -1 1 1 05 7\n4 8 -1 -1 -1 1\nBack\nback \nsave\nsave \nup rule on with other to by set\n4 8 -1 -1 -1 1 1 \x1b[2J\n4 8 -1 -1 -1 1 1 5 7\r\n'"${last%$'\n'}" "$five$(
-  for n in $(seq 6 18); do echo "4 $n 0 0 open $form $n"; done)
-0 0 6 1 open
-4 20 0 0 open $form 20
+answers "lines that are no rows" "$first"$' \n4 8 -1 -1 -1 1 1 5 7 \n4  8 -1 -1 -1 1 1 5 7\n4 8 -1 -1 -1 1 1 05 7\n4 8 -1 -1 -1 1\n4 8 -1 -1 -1 1 1 \x1b[2J\n4 8 -1 -1 -1 1 1 5 7\r\n-\n' "$five$(
+  for n in $(seq 6 13); do echo "4 $n 0 0 open $form $n"; done)
 " "$work/g"
+# Other words are no rows that were refused. The last line needs no end.
+answers "words" "$first"$'\nBack\nback \nsave\nsave \nup rule on with other to by set\n\x1b[2J\xff\nopne\nexit\n'"${last%$'\n'}" "${five}5 nodes, 0 links, open
+no such word: 'Back'; did you mean 'back'?
+nothing stands after 'back'
+save wants the name of a file
+save wants the name of a file
+no such word: 'up'; 'help' lists them
+no such word: '\\x1b[2J\\xff'; 'help' lists them
+no such word: 'opne'; did you mean 'open'?
+no such word: 'exit'; 'help' lists them
+0 0 6 1 open
+0 0 7 1 closed
+" "$work/g"
+# What is held, and what is wanted.
+answers "rows and open" "rows
+open
+${first}open
+rows
+${last%%$'\n'*}
+open
+${last#*$'\n'}open
+" "0 0 0 0 open
+no node
+no node: the first has the root alone as its set
+${five#*$'\n'}node 4: rule 4, unfold or, has 0 of 2 children
+$(nl -v 0 -w 1 -s ': ' <<<"${first%$'\n'}" | sed 's/^/node /')
+0 0 6 1 open
+node 4: rule 4, unfold or, has 1 of 2 children
+0 0 7 1 closed
+no node wants children
+" "$work/g"
+answers "open at a node of each rule" '-1 0 4 -1 -1 -1 0 4
+open
+0 2 -1 -1 -1 -1 0 2 3
+open
+' "0 0 0 0 open
+0 0 1 0 open
+node 0: rule 0, and, has 0 of 1 children
+0 0 2 0 open
+node 1: rule 2, split, has 0 of 2 children
+" "$work/g"
+"$zorambi" grow "$work/g" <<<help >"$work/out" 2>"$work/err"
+alike "help, its status" 0 $?
+for word in '? ROW' commit back rows open 'save FILE' help; do alike "help on $word" 1 "$(grep -c "^$word " "$work/out")"; done
+# Rows that were not saved are told at the end; what was taken back, saved or never changed is not.
+answers "nothing added" "back
+" "0 0 0 0 open
+25 -1 0 0 open refused: no row to take back (25)
+" "$work/g" ""
+answers "added and taken back" "${first%%$'\n'*}
+back
+" "0 0 0 0 open
+0 0 1 0 open
+0 0 0 0 open
+" "$work/g" ""
+answers "one row that is not saved" "${first%%$'\n'*}
+" "0 0 0 0 open
+0 0 1 0 open
+" "$work/g" "not saved: 1 node, 0 links, open; 'save FILE' writes the proof text
+"
 members=$(seq -s ' ' 10000 18192)
 answers "lines that are too long" "${first%3 4*}3 4 2 5 6 -1 0 $members
 $(head -c 70000 /dev/zero | tr '\0' '7')
@@ -271,27 +340,27 @@ not saved: $work/s/proof.txt exists and is not written over
 not saved: $work/s/proof.txt exists and is not written over
 not saved: $work/s/none/proof.txt: No such file or directory (os error 2)
 saved $work/s/a file
-" "$work/g"
+" "$work/g" ""
 saved "save" "$work/s/proof.txt"
 same "what was saved, checked" "answer place nodes links
-0 0 7 1" "$(./zorambi check "$work/s" 2>&1)" $?
+0 0 7 1" "$("$zorambi" check "$work/s" 2>&1)" $?
 cp "$work/s/a file" "$work/s/proof.txt"
 answers "what was saved, grown on" "${last#*$'\n'}save $work/s/whole
 " "0 0 6 1 open
 0 0 7 1 closed
 saved $work/s/whole
-" "$work/s"
+" "$work/s" ""
 saved "grown on" "$work/s/whole"
 # A name is meant from where the caller stands; nothing but what is saved is written.
 before=$(find "$work/s" -type f | LC_ALL=C sort | xargs -d '\n' sha256sum)
-(cd "$work/s" && "$here/zorambi" grow . <<<"save here" >/dev/null 2>&1)
+(cd "$work/s" && "$zorambi" grow . <<<"save here" >/dev/null 2>&1)
 saved_here=$(find "$work/s" -type f ! -name here | LC_ALL=C sort | xargs -d '\n' sha256sum)
 alike "only what is saved is written" "$before" "$saved_here"
 alike "saved from another folder" "$(cat "$work/s/proof.txt")" "$(cat "$work/s/here")"
 
 # ---- each line is answered before the next one is given, in colour only on a terminal
 
-coproc GROWS { ./zorambi grow "$work/g" 2>"$work/err"; }
+coproc GROWS { "$zorambi" grow "$work/g" 2>"$work/err"; }
 grows_pid=$GROWS_PID
 told=''
 for line in "" "-1 0 4 -1 -1 -1 0 4" "0 9 -1 -1 -1 -1 0" "back"; do
@@ -303,13 +372,17 @@ done
 eval "exec ${GROWS[1]}>&-"
 wait "$grows_pid"
 alike "line by line" "0 0 0 0 open|0 0 1 0 open|12 1 0 0 open refused: no such rule (12) at node 1|0 0 0 0 open|0" "$told$?"
-# On a terminal that shows what is typed too.
-on_terminal=$({ printf '%s\n' "$first$last" "back" "x" "save $work/s/proof.txt"; sleep 2; } |
-  script -qec "./zorambi grow $work/g" /dev/null | tr -d '\r')
+# On a terminal that shows what is typed too; not where NO_COLOR is set.
+on_terminal() { # SETTING...
+  { printf '%s\n' "$first$last" "back" "0" "x" "save $work/s/proof.txt"; sleep 1; } |
+    env "$@" script -qec "$zorambi grow $work/g" /dev/null | tr -d '\r'
+}
+shown_on_terminal=$(on_terminal -u NO_COLOR)
 for shown in $'0 0 7 1 \e[32mclosed\e[0m' $'4 10 0 0 open \e[31mrefused: a line\'s form (4) at line 10\e[0m' $'0 0 6 1 open' \
-  $'\e[31mnot saved: '"$work/s/proof.txt exists and is not written over"$'\e[0m'; do
-  alike "in colour" "$shown" "$(grep -F -x -m 1 -- "$shown" <<<"$on_terminal")"
+  $'\e[31mno such word: \'x\'; \'help\' lists them\e[0m' $'\e[31mnot saved: '"$work/s/proof.txt exists and is not written over"$'\e[0m'; do
+  alike "in colour" "$shown" "$(grep -F -x -m 1 -- "$shown" <<<"$shown_on_terminal")"
 done
+alike "not in colour" "" "$(on_terminal NO_COLOR=1 | grep -F $'\e[' | head -n 1)"
 
 # ---- folders that hold no tableau
 
@@ -318,12 +391,15 @@ turns() { # NAME NUMBERS SAID
 }
 rm -rf "$work/n"
 mkdir "$work/n"
-turns "no schema" "3 1 0 0" "refused: a heading (3) at line 1
-schema.txt:1: "
+turns "no schema" "3 1 0 0" "refused: schema.txt is missing (3)"
 record "$work/n"
 : >"$work/n/proof.txt"
 turns "an empty proof text" "3 1 0 0" "refused: a heading (3) at line 1
 proof.txt:1: "
+rm "$work/n/proof.txt"
+mkfifo "$work/n/proof.txt"
+turns "a pipe for the proof" "3 1 0 0" "refused: proof.txt is a pipe, not a regular file (3)"
+rm "$work/n/proof.txt"
 record "$work/n"
 sed -i '$s/^4 6/1 6/' "$work/n/proof.txt"
 turns "a child too many" "17 6 0 0" "refused: a child more than its parent's rule has (17) at node 6

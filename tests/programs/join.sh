@@ -28,7 +28,7 @@ joins() { # NAME DIR1 DIR2
   same "$1, what is there" "proof.txt schema.txt " "$(cd "$out" && find . -mindepth 1 -printf '%f\n' | LC_ALL=C sort | tr '\n' ' ')" 1
 }
 counts() { # FOLDER: nodes and links of an accepted record
-  ./zorambi check "$1" 2>/dev/null | sed -n '2s/^0 0 //p'
+  "$zorambi" check "$1" 2>/dev/null | sed -n '2s/^0 0 //p'
 }
 
 # 01's record with itself, written out by hand.
@@ -68,7 +68,7 @@ for least in 0 1; do
       read -r _ _ nodes links <<<"$(cat "$before/expected")"
       read -r _ _ more more_links <<<"$(cat "$r/expected")"
       same "join $before $r, counts" "$((1 + nodes + more)) $((links + more_links))" "$(counts "$out")" 1
-      same "join $before $r, tidied" "$(cat "$out/proof.txt")" "$(./zorambi tidy "$out" 2>&1)" 1
+      same "join $before $r, tidied" "$(cat "$out/proof.txt")" "$("$zorambi" tidy "$out" 2>&1)" 1
     fi
     before=$r
   done
@@ -80,7 +80,7 @@ check_record "$out" "a join and a record"
 
 # A refused record is refused as by the check, with a line that says which of both it is.
 for r in records/refused/*; do
-  numbers=$(./zorambi check "$r" 2>"$work/said" | tail -n 1)
+  numbers=$("$zorambi" check "$r" 2>"$work/said" | tail -n 1)
   words=$(head -n 1 "$work/said")
   line=$(tail -n +2 "$work/said")
   not_joined "join $r, first" "$numbers" "$words"$'\n'"in the first record:"$'\n'"$r/$line" "$r" records/accepted/rca_zero
@@ -119,12 +119,11 @@ cp "$work/j1/schema.txt" "$work/j5"
 not_joined "a long text" "1 0 0 0" "refused: proof.txt has over 65,536 bytes (1)
 in the second record:
 $work/j5/" "$work/j1" "$work/j5"
-not_joined "a record marked as older" "27 5 0 0" "refused: a proof row written twice (27) at row 5
-in the first record:
-records/tidy/rows_twice/proof.txt:2: 2 0 2 0" records/tidy/rows_twice "$work/j1"
+twice_joined=$(twice 0 "2 0 2 0" 5 2)
+not_joined "a record marked as older" "27 5 0 0" "${twice_joined/proof.txt/in the first record:$'\n'records/tidy/rows_twice/proof.txt}" records/tidy/rows_twice "$work/j1"
 
 # 28, before 29; 29.
-not_joined "other least values" "28 -1 0 0" "refused: the least values differ (28)" records/accepted/rca_zero records/accepted/cmp_transitive
+not_joined "other least values" "28 -1 0 0" "refused: the least values differ: 1 and 0 (28)" records/accepted/rca_zero records/accepted/cmp_transitive
 # False, closed at once, with true in all other rows.
 rows_of() { # FOLDER LEAST ROWS
   mkdir -p "$1"
@@ -134,15 +133,15 @@ rows_of() { # FOLDER LEAST ROWS
 rows_of "$work/j6" 0 1023
 rows_of "$work/j7" 0 1
 rows_of "$work/j8" 1 1
-not_joined "1,025 rows" "29 -1 0 0" "refused: the joined record passes a limit (29)" "$work/j6" "$work/j7"
-not_joined "1,025 rows, other least values" "28 -1 0 0" "refused: the least values differ (28)" "$work/j6" "$work/j8"
+not_joined "1,025 rows" "29 -1 0 0" "refused: the joined record passes a limit: 1,025 formula rows, at most 1,024 (29)" "$work/j6" "$work/j7"
+not_joined "1,025 rows, other least values" "28 -1 0 0" "refused: the least values differ: 0 and 1 (28)" "$work/j6" "$work/j8"
 rows_of "$work/j6" 0 1022
 joins "1,024 rows" "$work/j6" "$work/j7"
 check_record "$out" "1,024 rows"
 
 # OUT: nothing is written over. Wrong use comes before any refusal.
 stays() { # NAME SAID DIR1 DIR2 OUT
-  leaves "$1" 2 "" "$2"$'\n' "$3" "$4" "$5"
+  leaves "$1" 2 "" "zorambi join: $2"$'\n' "$3" "$4" "$5"
 }
 before=$(standing "$out")
 stays "a folder that is not empty" "$out: the folder is not empty" "$work/j6" "$work/j7" "$out"
@@ -155,7 +154,7 @@ mkdir "$out"
 stays "a folder with a hidden file" "$out: the folder is not empty" "$work/j6" "$work/j7" "$out"
 rm -rf "$out"
 echo mine >"$out"
-./zorambi join "$work/j6" "$work/j7" "$out" >"$work/out" 2>"$work/err"
+"$zorambi" join "$work/j6" "$work/j7" "$out" >"$work/out" 2>"$work/err"
 same "a file as OUT, printed, said" "2 mine 0" "$? $(cat "$out") $(wc -c <"$work/out")" 1
 said "a file as OUT" "$out: "
 rm "$out"

@@ -40,7 +40,7 @@ gives "10,384 of three rows" 0 $'10384\n' "" small 3 --count
 
 # The empty lines tell the texts apart: each is a schema, of which a model is checked.
 mkdir -p "$work/s"
-./zorambi small 1 | awk -v RS= -v folder="$work/s" '{ print >(folder "/" NR); close(folder "/" NR) }'
+"$zorambi" small 1 | awk -v RS= -v folder="$work/s" '{ print >(folder "/" NR); close(folder "/" NR) }'
 for text in $(seq 14); do
   mkdir "$work/s/record"
   cp "$work/s/$text" "$work/s/record/schema.txt"
@@ -53,11 +53,11 @@ rm -r "$work/s"
 for rows in 0 4 5 99999; do
   for more in "" --count; do
     # shellcheck disable=SC2086
-    turns_away "small $rows $more" "31 -1 0 0" "refused: not 1 to 3 rows, or a table that is not on the list of small ones (31)" small "$rows" $more
+    gives "small $rows $more" 1 "" $'answer place nodes links\n31 -1 0 0\nrefused: not 1 to 3 rows, or a table that is not on the list of small ones (31)\n' small "$rows" $more
   done
 done
 for words in "small" "small x" "small -1" "small 01" "small 1.5" "small 100000" "small --count" "small 1 2" "small 1 --counted" \
-  "small --count 1" "small 1 --count --count"; do
+  "small 1 --count --count"; do
   # shellcheck disable=SC2086
   wrong_use $words
 done

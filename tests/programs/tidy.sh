@@ -10,10 +10,9 @@ tidies records/refused/row_written_twice records/accepted/rca_zero
 # The twin is what the older record is, and is so by the other implementation too.
 numbers="answer place nodes links
 $(cat records/tidy/rows_twice/expected)"
-same "check --older records/tidy/rows_twice" "$numbers" "$(./zorambi check --older records/tidy/rows_twice 2>&1)" $?
-turns_away "check records/tidy/rows_twice" "27 5 0 0" "refused: a proof row written twice (27) at row 5
-proof.txt:2: 2 0 2 0" check records/tidy/rows_twice
-same "check records/tidy/rows_once" "$numbers" "$(./zorambi check records/tidy/rows_once 2>&1)" $?
+same "check --older records/tidy/rows_twice" "$numbers" "$("$zorambi" check --older records/tidy/rows_twice 2>&1)" $?
+turns_away "check records/tidy/rows_twice" "27 5 0 0" "$(twice 0 "2 0 2 0" 5 2)" check records/tidy/rows_twice
+same "check records/tidy/rows_once" "$numbers" "$("$zorambi" check records/tidy/rows_once 2>&1)" $?
 check_record records/tidy/rows_once records/tidy/rows_once
 
 # 01's record with rows after its last proof row, which is row 8: those that repeat a row go, others stay.
@@ -38,18 +37,34 @@ for r in records/accepted/*; do
 done
 for r in records/refused/*; do
   [ "$r" = records/refused/row_written_twice ] && continue
-  ./zorambi check --older "$r" >"$work/older" 2>"$work/said"
-  gives "tidy $r" 1 "$(cat "$work/older")"$'\n' "$(cat "$work/said")"$'\n' tidy "$r"
+  "$zorambi" check --older "$r" >"$work/older" 2>"$work/said"
+  gives "tidy $r" 1 "" "$(cat "$work/older" "$work/said")"$'\n' tidy "$r"
+  gives "tidy $r, with OUT" 1 "$(cat "$work/older")"$'\n' "$(cat "$work/said")"$'\n' tidy "$r" "$work/tout"
+  same "tidy $r, with OUT, nothing is there" "no" "$([ -e "$work/tout" ] && echo yes || echo no)" 1
 done
 record "$work/t"
 sed -i 's/^4 8 -1 -1 -1 1 1 5 7$/4 8 -1 -1 -1 1 1 5 x/' "$work/t/proof.txt"
-turns_away "tidy a proof that is none" "4 12 0 0" "refused: a line's form (4) at line 12
-proof.txt:12: 4 8 -1 -1 -1 1 1 5 x" tidy "$work/t"
+not_tidied() { # NAME NUMBERS SAID
+  gives "$1" 1 "" $'answer place nodes links\n'"$2"$'\n'"$3"$'\n' tidy "$work/t"
+}
+not_tidied "tidy a proof that is none" "4 12 0 0" "refused: a line's form (4) at line 12
+proof.txt:12: 4 8 -1 -1 -1 1 1 5 x"
 head -c 65537 /dev/zero >"$work/t/proof.txt"
-turns_away "tidy a long proof" "1 0 0 0" "refused: proof.txt has over 65,536 bytes (1)" tidy "$work/t"
+not_tidied "tidy a long proof" "1 0 0 0" "refused: proof.txt has over 65,536 bytes (1)"
 sed -i 's/^root/Root/' "$work/t/schema.txt"
-turns_away "tidy a schema that is none" "3 1 0 0" "refused: a heading (3) at line 1
-schema.txt:1: Root least" tidy "$work/t"
+not_tidied "tidy a schema that is none" "3 1 0 0" "refused: a heading (3) at line 1
+schema.txt:1: Root least"
+
+# Into a folder that is made, or is there and empty; never over what is there, its own record least of all.
+rm -rf "$work/t" "$work/tout"
+gives "tidy into a new folder" 0 "" "" tidy records/tidy/rows_twice "$work/tout"
+same "tidy into a new folder, what is there" "proof.txt schema.txt " "$(cd "$work/tout" && printf '%s ' *)" 1
+cmp -s "$work/tout/proof.txt" records/tidy/rows_once/proof.txt && cmp -s "$work/tout/schema.txt" records/tidy/rows_twice/schema.txt
+same "tidy into a new folder, the texts" 0 $? 0
+same "tidy into a new folder, checked" "$numbers" "$("$zorambi" check "$work/tout" 2>&1)" $?
+before=$(cat "$work/tout"/*)
+gives "tidy into its own folder" 2 "" "zorambi tidy: $work/tout: the folder is not empty"$'\n' tidy "$work/tout" "$work/tout"
+same "tidy into its own folder, as it was" "$before" "$(cat "$work/tout"/*)" 1
 
 for words in "tidy" "tidy $work/none" "tidy --older records/tidy/rows_twice" "tidy records/tidy/rows_twice records/tidy/rows_once"; do
   # shellcheck disable=SC2086

@@ -33,13 +33,12 @@
 //! record.proof.nodes[5][6] = 2;
 //! let verdict = check(&record);
 //! assert_eq!(verdict, Verdict::Refused { refusal: Refusal::Bound, place: Some(5) });
-//! let words = "a bound, a split's K, a link's L - by or H - by, or the index of a clash";
-//! assert_eq!(verdict.to_string(), format!("refused: 14 at node 5 ({words})"));
+//! assert_eq!(verdict.to_string(), "refused: a bound (14) at node 5");
 //!
 //! // Row 6 is written again, as row 9.
 //! record.proof.nodes[5][6] = 1;
 //! record.proof.rows.push([2, 0, 1, 0]);
-//! assert_eq!(check(&record).to_string(), "refused: 27 at row 9 (a proof row written twice)");
+//! assert_eq!(check(&record).to_string(), "refused: a proof row written twice (27) at row 9");
 //! assert_eq!(check_older(&record), Verdict::Accepted { nodes: 7, links: 1 });
 //! ```
 //!
@@ -60,20 +59,30 @@
 //! assert_eq!(verdict, Verdict::Refused { refusal: Refusal::False, place: None });
 //!
 //! let refused = read_schema(b"root least\n007 0\n").unwrap_err();
-//! assert_eq!(refused.to_string(), "refused: 4 at line 2 (not a line of the required form and number of values)");
+//! assert_eq!(refused.to_string(), "refused: a line's form (4) at line 2");
 //! assert_eq!(check_fault(b"root least\n007 0\n", b""), Some((Text::Schema, 2)));
 //! # Ok::<(), zorambi::Refused>(())
 //! ```
 
+pub mod details;
 pub mod entries;
+pub mod files;
+mod identity;
 mod record;
+mod sha256;
+mod shown;
 mod text;
 mod verdict;
+pub mod words;
+
+pub use identity::IDENTITY;
+pub use sha256::{hex, sha256};
 
 pub use record::{check, check_model, check_older, Model, Node, Pair, Proof, Record, Row, Schema};
+pub use shown::{json_string, shown, shown_name};
 pub use text::{
-    check_fault, check_model_texts, check_older_fault, check_older_texts, check_texts, line, model_fault, read_file,
-    read_model, read_proof, read_schema, write_model, write_proof, write_schema, Text, MAX_TEXT,
+    check_fault, check_model_texts, check_older_fault, check_older_texts, check_texts, line, model_fault, read_model,
+    read_proof, read_schema, write_model, write_proof, write_schema, Text, MAX_TEXT,
 };
 pub use verdict::{Refusal, Refused, Verdict};
 

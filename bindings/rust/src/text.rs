@@ -3,9 +3,6 @@
 use crate::entries;
 use crate::record::{check, check_model, check_older, Model, Proof, Record, Schema};
 use crate::verdict::{refused, Refused, Verdict};
-use std::fs::File;
-use std::io::Read;
-use std::path::Path;
 
 /// A text has at most this many bytes.
 pub const MAX_TEXT: usize = 65_536;
@@ -23,18 +20,6 @@ fn done(packed: u64) -> Result<u64, Refused> {
     match refused(packed) {
         None => Ok(packed & 0x3ff_ffff),
         Some(refused) => Err(refused),
-    }
-}
-
-/// A file's bytes as the programs take them: at most one more than a text may have, and none if the file
-/// cannot be read.
-pub fn read_file(path: &Path) -> Vec<u8> {
-    let mut bytes = Vec::new();
-    let read = File::open(path).and_then(|file| file.take(MAX_TEXT as u64 + 1).read_to_end(&mut bytes));
-    if read.is_ok() {
-        bytes
-    } else {
-        Vec::new()
     }
 }
 

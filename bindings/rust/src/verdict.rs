@@ -1,5 +1,6 @@
 //! Verdicts and refusals.
 
+use crate::words::{counted, told, Known};
 use std::error::Error;
 use std::fmt;
 
@@ -31,41 +32,41 @@ macro_rules! refusals {
 
 refusals! {
     TextTooLong = 1, "a text over 65,536 bytes";
-    TableTooShort = 2, "a lent table that is too short";
-    Heading = 3, "a heading that is absent or different";
-    Line = 4, "not a line of the required form and number of values";
-    TooMany = 5, "more rows or members than allowed";
-    Root = 6, "a root that is no outer schema row, or a least value not 0 to 9999";
-    IllFormed = 7, "an ill-formed formula row";
+    TableTooShort = 2, "a lent table too short";
+    Heading = 3, "a heading";
+    Line = 4, "a line's form";
+    TooMany = 5, "too many rows or members";
+    Root = 6, "the root or the least value";
+    IllFormed = 7, "an ill-formed formula";
     TooLarge = 8, "a formula too large or too deep";
     Set = 9, "a set's place, order or members";
-    Parent = 10, "no node, a wrong parent, or node 0's set";
-    Drawn = 11, "a row that neither the parent's set nor its rule gives";
-    Fields = 12, "no such rule, or a field, kind, symbol, by or row that does not fit it";
+    Parent = 10, "a wrong parent";
+    Drawn = 11, "a formula that the parent does not give";
+    Fields = 12, "no such rule, or fields that do not fit it";
     Target = 13, "a link whose to is not the number of a node before it";
-    Bound = 14, "a bound, a split's K, a link's L - by or H - by, or the index of a clash";
-    Partner = 15, "with or other of an unfolding";
-    Lowered = 16, "a row of the link's target without its lowered partner";
+    Bound = 14, "a bound";
+    Partner = 15, "an unfolding's with or other";
+    Lowered = 16, "a link's row without its lowered partner";
     Children = 17, "the number of children";
     Pair = 18, "a pair out of order or range";
-    Width = 19, "n below the least value or over 9999";
-    False = 20, "the schema is false in the model";
-    Number = 21, "a number beyond five digits, or sets that do not follow one another";
-    Output = 22, "an output shorter than the text, or a text over 65,536 bytes";
+    Width = 19, "n out of range";
+    False = 20, "the schema is false there";
+    Number = 21, "a number beyond 5 digits, or sets that do not follow one another";
+    Output = 22, "the output";
     // Connectives as designers write them.
-    Plain = 23, "plain rows that are too many, or one too large or too deep";
+    Plain = 23, "plain rows too many, too large or too deep";
     // A tableau that grows.
-    Room = 24, "no room for the row: 1,024 nodes, 8,192 members, or a lent table that is too short";
+    Room = 24, "no room for the row";
     NoRow = 25, "no row to take back";
     // Enquiry and commit.
-    Waiting = 26, "no row waits for a commit";
+    Waiting = 26, "no row waits";
     // Proof rows written twice.
     Repeated = 27, "a proof row written twice";
     // One record for either fault.
-    Leasts = 28, "least values that differ";
-    Joint = 29, "a joined record that passes a limit";
+    Leasts = 28, "the least values differ";
+    Joint = 29, "the joined record passes a limit";
     // A failing width.
-    Wires = 30, "more than 16 pairs that occur in the schema at n";
+    Wires = 30, "more than 16 pairs that occur at that n";
     // All small schemata.
     NotListed = 31, "not 1 to 3 rows, or a table that is not on the list of small ones";
 }
@@ -102,11 +103,7 @@ pub struct Refused {
 
 impl fmt::Display for Refused {
     fn fmt(&self, f: &mut fmt::Formatter<'_>) -> fmt::Result {
-        write!(f, "refused: {}", self.refusal.number())?;
-        if let (Some(counts), Some(place)) = (self.refusal.place_counts(), self.place) {
-            write!(f, " at {counts} {place}")?;
-        }
-        write!(f, " ({})", self.refusal)
+        f.write_str(&told(*self, &Known::default()))
     }
 }
 
@@ -143,8 +140,7 @@ impl fmt::Display for Verdict {
         match *self {
             Verdict::Accepted { nodes: 0, .. } => f.write_str("accepted"),
             Verdict::Accepted { nodes, links } => {
-                let ending = |count: usize| if count == 1 { "" } else { "s" };
-                write!(f, "accepted: {nodes} node{}, {links} link{}", ending(nodes), ending(links))
+                write!(f, "accepted: {}, {}", counted(nodes, "node"), counted(links, "link"))
             }
             Verdict::Refused { refusal, place } => Refused { refusal, place }.fmt(f),
         }
@@ -219,19 +215,11 @@ mod tests {
         assert_eq!(words(Verdict::Accepted { nodes: 0, links: 0 }), "accepted");
         assert_eq!(
             words(Verdict::Refused { refusal: Refusal::Bound, place: Some(5) }),
-            "refused: 14 at node 5 (a bound, a split's K, a link's L - by or H - by, or the index of a clash)"
-        );
-        assert_eq!(
-            words(Verdict::Refused { refusal: Refusal::Target, place: Some(7) }),
-            "refused: 13 at node 7 (a link whose to is not the number of a node before it)"
+            "refused: a bound (14) at node 5"
         );
         assert_eq!(
             words(Verdict::Refused { refusal: Refusal::Root, place: None }),
-            "refused: 6 (a root that is no outer schema row, or a least value not 0 to 9999)"
-        );
-        assert_eq!(
-            words(Verdict::Refused { refusal: Refusal::Repeated, place: Some(9) }),
-            "refused: 27 at row 9 (a proof row written twice)"
+            "refused: the root or the least value (6)"
         );
     }
 }

@@ -156,7 +156,7 @@ fn limits_of_plain_rows() {
     assert_eq!(turned_away(0, &nots(1024)), (Refusal::TooMany, None));
     assert_eq!(
         convert(&wide(0, &flat(171, 0))).unwrap_err().to_string(),
-        "refused: 23 (plain rows that are too many, or one too large or too deep)"
+        "refused: plain rows too many, too large or too deep (23)"
     );
 }
 

@@ -84,7 +84,7 @@ fn refusals_in_their_order() {
     assert_eq!(turned_away(&changed, 3), (Refusal::TooMany, None));
     assert_eq!(
         find_model(&paper(2), 18).unwrap_err().to_string(),
-        "refused: 30 (more than 16 pairs that occur in the schema at n)"
+        "refused: more than 16 pairs that occur at that n (30)"
     );
 }
 

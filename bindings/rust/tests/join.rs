@@ -124,8 +124,8 @@ fn refusals_in_their_order() {
     assert_eq!(away(&no(1, &many[1..], &[]), &no(1, &[], &[])), Ok(()));
     assert_eq!(away(&Record::default(), &Record::default()), Err((Refusal::Root, None)));
     let told = |first: &Record, second: &Record| join(first, second).unwrap_err().to_string();
-    assert_eq!(told(&no(1, &[], &[]), &no(0, &[], &[])), "refused: 28 (least values that differ)");
-    assert_eq!(told(&no(1, &many, &[]), &no(1, &[], &[])), "refused: 29 (a joined record that passes a limit)");
+    assert_eq!(told(&no(1, &[], &[]), &no(0, &[], &[])), "refused: the least values differ (28)");
+    assert_eq!(told(&no(1, &many, &[]), &no(1, &[], &[])), "refused: the joined record passes a limit (29)");
 }
 
 #[test]

@@ -47,7 +47,7 @@ fn rows_of_other_numbers() {
     }
     assert_eq!(
         small(0).unwrap_err().to_string(),
-        "refused: 31 (not 1 to 3 rows, or a table that is not on the list of small ones)"
+        "refused: not 1 to 3 rows, or a table that is not on the list of small ones (31)"
     );
 }
 

@@ -4,9 +4,9 @@
 
 use crate::calls::{exact, lent, pack, Seen};
 use zorambi::entries;
+use zorambi_generate::tables::Tables;
+use zorambi_generate::Input;
 use zorambi_reference::again;
-use zorambi_reference::generate::tables::Tables;
-use zorambi_reference::generate::Input;
 use zorambi_reference::text::Written;
 
 /// What the library and the other implementation give, and with which lengths.

@@ -2,10 +2,10 @@
 
 use zorambi::entries;
 use zorambi::entries::{check_older, check_older_fault};
-use zorambi_reference::generate::models::ModelTables;
-use zorambi_reference::generate::rng::mix;
-use zorambi_reference::generate::tables::Tables;
-use zorambi_reference::generate::{run, Input, Outcome};
+use zorambi_generate::models::ModelTables;
+use zorambi_generate::rng::mix;
+use zorambi_generate::tables::Tables;
+use zorambi_generate::{run, Input, Outcome};
 use zorambi_reference::text::Named;
 
 /// All that comes back from a call: the one number, the results, and the lent memory.

@@ -5,13 +5,13 @@ use crate::damage::damage_schema;
 use crate::kinds::{Kinds, Run};
 use crate::tally::{fits, Tally};
 use zorambi::entries;
+use zorambi_generate::models::{random_assignment, random_pairs, ModelTables};
+use zorambi_generate::tables::Tables;
+use zorambi_generate::{Input, Rng};
 use zorambi_reference::convert::{self, plain_rows, wide_value, EQUIVALENT, EXCLUSIVE, IMPLIES, NOT};
 use zorambi_reference::formula::{
     Facts, Formulas, Row, AND, BIG_AND, BIG_OR, FALSE, LITERAL, NEGATED, ON_I, ON_N, OR, PLAIN, TRUE,
 };
-use zorambi_reference::generate::models::{random_assignment, random_pairs, ModelTables};
-use zorambi_reference::generate::tables::Tables;
-use zorambi_reference::generate::{Input, Rng};
 use zorambi_reference::model;
 
 /// What is to be converted, and how long the lent table is.

@@ -1,7 +1,7 @@
 //! Damage to what an entry is lent.
 
-use zorambi_reference::generate::tables::{extreme, other_count, other_number};
-use zorambi_reference::generate::Rng;
+use zorambi_generate::tables::{extreme, other_count, other_number};
+use zorambi_generate::Rng;
 
 /// Damage of a sort from 0 to 7: to a schema's root or least value, to its table or count, or to the length of the
 /// result table, which is to be `full`.

@@ -3,8 +3,8 @@
 use crate::paper::{MODEL, PROOF, SCHEMA};
 use crate::records::tables;
 use crate::tally::Tally;
-use zorambi_reference::generate::models::ModelTables;
-use zorambi_reference::generate::Input;
+use zorambi_generate::models::ModelTables;
+use zorambi_generate::Input;
 use zorambi_reference::text::Named;
 
 #[derive(Clone, Copy)]

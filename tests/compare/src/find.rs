@@ -5,12 +5,12 @@ use crate::damage::damage_schema;
 use crate::kinds::{Kinds, Run};
 use crate::tally::{fits, Tally};
 use zorambi::entries;
+use zorambi_generate::models::ModelTables;
+use zorambi_generate::schemata::{false_schema, random_schema};
+use zorambi_generate::tables::extreme;
+use zorambi_generate::{Input, Rng};
 use zorambi_reference::find::{self, occurring};
 use zorambi_reference::formula::{Formulas, Row, AND, BIG_AND, BIG_OR, FALSE, LITERAL, NEGATED, ON_I, ON_N, OR, PLAIN};
-use zorambi_reference::generate::models::ModelTables;
-use zorambi_reference::generate::schemata::{false_schema, random_schema};
-use zorambi_reference::generate::tables::extreme;
-use zorambi_reference::generate::{Input, Rng};
 use zorambi_reference::{model, packed};
 
 /// What is asked, and how long the lent table is.

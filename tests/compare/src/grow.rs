@@ -10,8 +10,8 @@ use crate::tally::{fits, Tally};
 use std::fs;
 use std::path::Path;
 use zorambi::entries;
-use zorambi_reference::generate::tables::Tables;
-use zorambi_reference::generate::{case, Input, Rng};
+use zorambi_generate::tables::Tables;
+use zorambi_generate::{case, Input, Rng};
 use zorambi_reference::grow::{self, Given, Memory, WAITING};
 use zorambi_reference::packed::pack;
 

@@ -2,11 +2,11 @@
 
 use crate::calls::of_reference;
 use crate::tally::Tally;
+use zorambi_generate::models::ModelTables;
+use zorambi_generate::tables::{Tables, Tree, TreeNode};
+use zorambi_generate::twice::rows_of_one_key;
+use zorambi_generate::{Input, Rng};
 use zorambi_reference::formula::{Row, AND, BIG_AND, BIG_OR, FALSE, LITERAL, NEGATED, ON_I, ON_N, OR, PLAIN, TRUE};
-use zorambi_reference::generate::models::ModelTables;
-use zorambi_reference::generate::tables::{Tables, Tree, TreeNode};
-use zorambi_reference::generate::twice::rows_of_one_key;
-use zorambi_reference::generate::{Input, Rng};
 
 /// Each sort of them, as deep and with sets, sizes and ranges as large as they come, but fewer nodes.
 pub fn test(tally: &mut Tally) {

@@ -9,9 +9,9 @@ use crate::tidy::{self, faulty, one_by_one, paper};
 use std::collections::BTreeMap;
 use std::fs;
 use zorambi::entries;
+use zorambi_generate::tables::{Tables, Tree, TreeNode};
+use zorambi_generate::{case, Input, Rng};
 use zorambi_reference::formula::{depth, size, with_parts, Row, AND, BIG_AND, FALSE, LITERAL, NEGATED, ON_N, OR, TRUE};
-use zorambi_reference::generate::tables::{Tables, Tree, TreeNode};
-use zorambi_reference::generate::{case, Input, Rng};
 use zorambi_reference::join;
 
 /// The result tables: schema, proof, nodes, members.
@@ -569,7 +569,7 @@ impl Comparison<'_> {
             let leasts: Vec<i32> = accepted.keys().copied().collect();
             let any = &accepted[&rng.pick(&leasts)];
             let any = &any[rng.below(any.len())];
-            if zorambi_reference::generate::run(&Input::Check(t.clone())).answer() > 0 {
+            if zorambi_generate::run(&Input::Check(t.clone())).answer() > 0 {
                 let pair = if rng.chance(50) { [&t, any] } else { [any, &t] };
                 self.put(&what, pair);
                 if rng.chance(25) {

@@ -5,7 +5,7 @@ use std::process::exit;
 use zorambi_compare::kinds::Run;
 use zorambi_compare::tally::Tally;
 use zorambi_compare::{convert, edges, find, grow, heavy, join, least, paper, records, sides, small, tidy};
-use zorambi_reference::generate::{across, case, ranges, twice, Case};
+use zorambi_generate::{across, case, ranges, twice, Case};
 
 const USE: &str = "\
 use: zorambi-compare [--least FILE] SEED COUNT RECORDS        the paper's cases, the records below RECORDS, texts and

@@ -3,7 +3,7 @@
 use crate::calls::{check_model_texts, check_texts, check_texts_older};
 use crate::tally::Tally;
 use zorambi::entries::{check_fault, check_older_fault};
-use zorambi_reference::generate::Input;
+use zorambi_generate::Input;
 use zorambi_reference::text::Named;
 
 pub const SCHEMA: &str = "root least\n4 1\nkind a b c\n2 0 2 0\n3 0 2 0\n7 0 2 0\n6 1 2 0\n4 2 3 0\n";

@@ -5,9 +5,9 @@ use crate::paper::{equal, printed};
 use crate::tally::Tally;
 use std::fs;
 use std::path::{Path, PathBuf};
-use zorambi_reference::generate::models::ModelTables;
-use zorambi_reference::generate::tables::Tables;
-use zorambi_reference::generate::Input;
+use zorambi_generate::models::ModelTables;
+use zorambi_generate::tables::Tables;
+use zorambi_generate::Input;
 use zorambi_reference::text;
 
 /// The folders below `folder` that hold a schema, sorted.

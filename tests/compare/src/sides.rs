@@ -4,8 +4,8 @@ use crate::records::{folders, tables};
 use crate::tally::Tally;
 use std::fs;
 use std::path::Path;
-use zorambi_reference::generate::sides::{swapped, GROWN_LEAF, GROWN_REGROUPED, PROOF_SWAPPED, SCHEMA_SWAPPED};
-use zorambi_reference::generate::{Case, Input, Rng};
+use zorambi_generate::sides::{swapped, GROWN_LEAF, GROWN_REGROUPED, PROOF_SWAPPED, SCHEMA_SWAPPED};
+use zorambi_generate::{Case, Input, Rng};
 
 pub const SORT: &str = "record, sides";
 

@@ -5,14 +5,14 @@ use crate::calls::{exact, lent, pack, Seen};
 use crate::kinds::{Kinds, Run};
 use crate::tally::{fits, Tally};
 use zorambi::entries;
+use zorambi_generate::models::ModelTables;
+use zorambi_generate::pool::Pool;
+use zorambi_generate::prover::grow;
+use zorambi_generate::schemata::Schema;
+use zorambi_generate::tables::{Tree, TreeNode};
+use zorambi_generate::{run as answer_of, Input, Rng};
 use zorambi_reference::find::find_model;
 use zorambi_reference::formula::{Row, AND, BIG_AND, BIG_OR, FALSE, LITERAL, NEGATED, ON_I, ON_N, OR, PLAIN, TRUE};
-use zorambi_reference::generate::models::ModelTables;
-use zorambi_reference::generate::pool::Pool;
-use zorambi_reference::generate::prover::grow;
-use zorambi_reference::generate::schemata::Schema;
-use zorambi_reference::generate::tables::{Tree, TreeNode};
-use zorambi_reference::generate::{run as answer_of, Input, Rng};
 use zorambi_reference::{small, Verdict};
 
 /// How many tables there are of each length.

@@ -1,10 +1,10 @@
 //! Soundness by experiment: the root of an accepted record is true nowhere that we look.
 
 use crate::calls::check_model;
+use zorambi_generate::models::{find_model, random_assignment, random_pairs, ModelTables};
+use zorambi_generate::tables::Tables;
+use zorambi_generate::Rng;
 use zorambi_reference::formula::Formulas;
-use zorambi_reference::generate::models::{find_model, random_assignment, random_pairs, ModelTables};
-use zorambi_reference::generate::tables::Tables;
-use zorambi_reference::generate::Rng;
 use zorambi_reference::model;
 
 pub struct Soundness {

@@ -5,9 +5,9 @@ use crate::calls::{of_library, of_reference, Seen};
 use crate::sides as of_records;
 use crate::soundness::Soundness;
 use std::collections::BTreeMap;
-use zorambi_reference::generate::cases::{ACROSS, EXACT_ANCESTOR, RANGES, SIDES, TWICE};
-use zorambi_reference::generate::sides::{self, Comes};
-use zorambi_reference::generate::{across, exact, ranges, twice, Aim, Case, Input};
+use zorambi_generate::cases::{ACROSS, EXACT_ANCESTOR, RANGES, SIDES, TWICE};
+use zorambi_generate::sides::{self, Comes};
+use zorambi_generate::{across, exact, ranges, twice, Aim, Case, Input};
 
 /// The entries by what they do, as columns of the table of answers.
 const GROUPS: [&str; 7] = ["check", "older", "model", "read", "write", "program", "again"];

@@ -8,9 +8,9 @@ use crate::records;
 use crate::tally::{fits, Tally};
 use std::fs;
 use zorambi::entries;
+use zorambi_generate::tables::{Tables, Tree, TreeNode};
+use zorambi_generate::{case, Input, Rng};
 use zorambi_reference::formula::{with_parts, Row, AND, BIG_AND, BIG_OR, FALSE, LITERAL, ON_I, ON_N, OR};
-use zorambi_reference::generate::tables::{Tables, Tree, TreeNode};
-use zorambi_reference::generate::{case, Input, Rng};
 use zorambi_reference::tidy;
 
 /// The library's entry. Results: rows, nodes, members.
@@ -338,7 +338,7 @@ pub fn test(tally: &mut Tally, run: &Run) {
         let Input::Check(t) = case(!run.seed, number).input else { continue };
         let what = format!("tidying, seed {} case {number}", run.seed);
         comparison.put(&what, &t);
-        if zorambi_reference::generate::run(&Input::Check(t.clone())).answer() == 0 {
+        if zorambi_generate::run(&Input::Check(t.clone())).answer() == 0 {
             comparison.spread(&what, &t, rng);
         }
     }

@@ -379,8 +379,8 @@ mod tests {
         // Formulas over p_0 to p_3, among them each i's p_i and p_(i + 1), tried against all 16 assignments.
         let mut seed = 1_u64;
         let mut any = |limit: u64| {
-            seed = crate::generate::rng::mix(seed.wrapping_add(0x9e37_79b9));
-            (seed % limit) as i32
+            seed = seed.wrapping_mul(6_364_136_223_846_793_005).wrapping_add(1_442_695_040_888_963_407);
+            (seed >> 33) as i32 % limit as i32
         };
         for _ in 0..300 {
             let mut rows = vec![[2, P, 2, 0], [3, P, 2, 1], [4 + any(2), 0, 1, 0], [6 + any(2), 2, any(2), 1]];

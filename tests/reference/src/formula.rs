@@ -307,7 +307,7 @@ pub fn with_parts([kind, a, b, c]: Row, mut change: impl FnMut(i32) -> i32) -> R
 }
 
 /// The index of a literal at this n and, inside an iteration, this i.
-pub(crate) fn index(base: i32, offset: i32, n: i64, i: i64) -> i64 {
+pub fn index(base: i32, offset: i32, n: i64, i: i64) -> i64 {
     let base = match base {
         ON_N => n,
         ON_I => i,

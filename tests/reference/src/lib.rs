@@ -16,7 +16,6 @@
 //! * [`packed`]: the one number that provers get
 //! * [`program`]: the check program, from texts to the four numbers
 //! * [`small`]: small schemata one after another (No. 14, "All small schemata")
-//! * [`generate`]: test cases from a small pseudo-random generator
 //!
 //! Every public function takes plain slices and counts with any values and does not panic.
 
@@ -26,7 +25,6 @@ pub mod again;
 pub mod convert;
 pub mod find;
 pub mod formula;
-pub mod generate;
 pub mod grow;
 pub mod join;
 pub mod model;

@@ -1,110 +1,92 @@
 //! One record folder: its two texts read and checked, by the older check if it holds a file `older`.
 
+use crate::names::cell;
+use crate::table::{Row, Sort};
 use std::path::Path;
+use zorambi::details::of_check;
+use zorambi::files::{load, Loaded, Unread};
+use zorambi::words::{about, at, Known};
 use zorambi::{
-    check, check_fault, check_older, check_older_fault, read_file, read_proof, read_schema, tidy, Record, Refusal,
-    Refused, Text, Verdict,
+    check, check_fault, check_older, check_older_fault, hex, line, read_proof, read_schema, sha256, shown, tidy,
+    Record, Refused, Text, Verdict, MAX_TEXT,
 };
 
 pub const SCHEMA: &str = "schema.txt";
 pub const PROOF: &str = "proof.txt";
 /// Marks a record as older.
-const OLDER: &str = "older";
+pub const OLDER: &str = "older";
 
 /// Bytes of a line that are shown.
 const SHOWN: usize = 100;
 
-/// A verdict, and the file and line that a refusal speaks of.
-pub struct Judged {
-    /// The folder holds a file `older`, and the verdict is the older check's.
-    pub older: bool,
-    pub verdict: Verdict,
-    /// It is older and accepted, and only after tidying the present check accepts it.
-    pub tidies: bool,
-    pub file: Option<&'static str>,
-    pub line: Option<usize>,
-    /// That line, as far as it is shown, other than printable bytes escaped.
-    pub text: String,
+/// The texts of a record, and whether its folder holds a file `older`.
+pub struct Texts {
+    schema: Loaded,
+    proof: Loaded,
+    older: bool,
 }
 
-impl Judged {
-    fn new(verdict: Verdict, file: Option<&'static str>, line: Option<usize>, text: &[u8]) -> Judged {
-        Judged {
-            older: false,
-            verdict,
-            tidies: false,
-            file,
-            line,
-            text: line.map_or(String::new(), |number| shown(zorambi::line(text, number))),
-        }
+impl Texts {
+    pub fn load(folder: &Path, older: bool, follow: bool) -> Texts {
+        Texts { schema: load(folder, SCHEMA, follow), proof: load(folder, PROOF, follow), older }
     }
 
-    /// The four numbers of the check program: answer, place, nodes, links.
-    pub fn numbers(&self) -> [i64; 4] {
-        match self.verdict {
-            Verdict::Accepted { nodes, links } => [0, 0, nodes as i64, links as i64],
-            Verdict::Refused { refusal, place } => {
-                [i64::from(refusal.number()), place.map_or(-1, |place| place as i64), 0, 0]
-            }
-        }
+    /// The hashes of a row are those of these texts, and it was checked as this record is.
+    pub fn are_of(&self, row: &Row) -> bool {
+        let hashes = [hash(&self.schema), hash(&self.proof)];
+        hashes.iter().all(|hash| !hash.is_empty()) && hashes == [&row.schema[..], &row.proof] && row.older == self.older
     }
 
-    pub fn refusal(&self) -> Option<Refusal> {
-        match self.verdict {
-            Verdict::Accepted { .. } => None,
-            Verdict::Refused { refusal, .. } => Some(refusal),
-        }
-    }
-
-    /// The verdict in one line.
-    pub fn words(&self) -> String {
-        let mut words = match self.verdict {
-            Verdict::Accepted { nodes, links } => {
-                let ending = |count: usize| if count == 1 { "" } else { "s" };
-                format!("accepted {nodes} node{} {links} link{}", ending(nodes), ending(links))
-            }
-            Verdict::Refused { refusal, place } => {
-                let at = refusal.place_counts().zip(place).map(|(counts, place)| format!(" at {counts} {place}"));
-                format!("refused {}{} ({refusal})", refusal.number(), at.unwrap_or_default())
-            }
+    /// The verdict as a row of the table, and in words.
+    pub fn judge(&self, name: &str) -> (Row, String) {
+        let judged = self.judged();
+        let mut row = Row {
+            older: self.older,
+            schema: hash(&self.schema),
+            proof: hash(&self.proof),
+            file: judged.file.unwrap_or_default().to_string(),
+            line: judged.line.map_or(String::new(), |(number, _)| number.to_string()),
+            text: cell(&judged.text()),
+            ..Row::new(name, Sort::Accepted)
         };
-        if let Some(file) = self.file {
-            words += &format!(": {file}");
+        match judged.verdict {
+            Verdict::Accepted { nodes, links } => row.numbers = [0, 0, nodes as i64, links as i64],
+            Verdict::Refused { refusal, place } => {
+                row.sort = Sort::Refused;
+                row.numbers = [i64::from(refusal.number()), place.map_or(-1, |place| place as i64), 0, 0];
+                row.words = about(Refused { refusal, place }, &judged.known());
+            }
         }
-        if let Some(line) = self.line {
-            words += &format!(":{line}");
-        }
-        if !self.text.is_empty() {
-            words += &format!(": {}", self.text);
-        }
-        if self.older {
-            words.insert_str(0, "older, ");
-        }
-        if self.tidies {
-            words += "; tidying would make it present";
-        }
-        words
+        let older = if self.older { "older, " } else { "" };
+        (row, format!("{older}{}", judged.words()))
     }
 
-    pub fn accepted(&self) -> bool {
-        self.verdict.is_accepted()
+    /// Reads the schema's text, then the proof's, and checks the record.
+    fn judged(&self) -> Judged<'_> {
+        let schema = match read_schema(&self.schema.bytes) {
+            Ok(schema) => schema,
+            Err(refused) => return Judged::in_reading(refused, SCHEMA, &self.schema),
+        };
+        let proof = match read_proof(&self.proof.bytes) {
+            Ok(proof) => proof,
+            Err(refused) => return Judged::in_reading(refused, PROOF, &self.proof),
+        };
+        let record = Record { schema, proof };
+        let verdict = if self.older { check_older(&record) } else { check(&record) };
+        let detail = match verdict {
+            Verdict::Accepted { .. } => {
+                return Judged { tidies: self.older && tidies(&record), ..Judged::of(verdict) };
+            }
+            Verdict::Refused { refusal, place } => of_check(Refused { refusal, place }, &record),
+        };
+        let fault = if self.older { check_older_fault } else { check_fault };
+        let (file, text, number) = match fault(&self.schema.bytes, &self.proof.bytes) {
+            None => return Judged { detail, ..Judged::of(verdict) },
+            Some((Text::Schema, number)) => (SCHEMA, &self.schema.bytes, number),
+            Some((_, number)) => (PROOF, &self.proof.bytes, number),
+        };
+        Judged { file: Some(file), line: Some((number, line(text, number))), detail, ..Judged::of(verdict) }
     }
-}
-
-fn shown(line: &[u8]) -> String {
-    let cut = if line.len() > SHOWN { "..." } else { "" };
-    format!("{}{cut}", line[..line.len().min(SHOWN)].escape_ascii())
-}
-
-/// A text refused in reading: its place is a line, from 1 on.
-fn unread(refused: Refused, file: &'static str, text: &[u8]) -> Judged {
-    Judged::new(refused.into(), Some(file), refused.place.filter(|place| *place > 0), text)
-}
-
-/// Judges the record as what it is, older or not.
-pub fn judge(folder: &Path) -> Judged {
-    let older = folder.join(OLDER).is_file();
-    Judged { older, ..judge_texts(folder, older) }
 }
 
 /// The present check does not accept the record, but accepts it tidied.
@@ -113,27 +95,72 @@ fn tidies(record: &Record) -> bool {
     !check(record).is_accepted() && tidy(record).is_ok_and(present)
 }
 
-/// Reads the schema's text, then the proof's, and checks the record.
-fn judge_texts(folder: &Path, older: bool) -> Judged {
-    let [schema_text, proof_text] = [SCHEMA, PROOF].map(|name| read_file(&folder.join(name)));
-    let schema = match read_schema(&schema_text) {
-        Ok(schema) => schema,
-        Err(refused) => return unread(refused, SCHEMA, &schema_text),
-    };
-    let proof = match read_proof(&proof_text) {
-        Ok(proof) => proof,
-        Err(refused) => return unread(refused, PROOF, &proof_text),
-    };
-    let record = Record { schema, proof };
-    let verdict = if older { check_older(&record) } else { check(&record) };
-    let fault = match (verdict.is_accepted(), older) {
-        (true, _) => None,
-        (false, true) => check_older_fault(&schema_text, &proof_text),
-        (false, false) => check_fault(&schema_text, &proof_text),
-    };
-    match fault {
-        None => Judged { tidies: older && tidies(&record), ..Judged::new(verdict, None, None, &[]) },
-        Some((Text::Schema, line)) => Judged::new(verdict, Some(SCHEMA), Some(line), &schema_text),
-        Some((_, line)) => Judged::new(verdict, Some(PROOF), Some(line), &proof_text),
+/// The hash of a text that was read whole.
+fn hash(text: &Loaded) -> String {
+    if text.unread.is_none() && text.bytes.len() <= MAX_TEXT {
+        hex(&sha256(&text.bytes))
+    } else {
+        String::new()
+    }
+}
+
+/// A verdict, and the text and the line that a refusal speaks of.
+struct Judged<'a> {
+    verdict: Verdict,
+    /// It is older and accepted, and only after tidying the present check accepts it.
+    tidies: bool,
+    file: Option<&'static str>,
+    unread: Option<&'a Unread>,
+    line: Option<(usize, &'a [u8])>,
+    detail: Option<String>,
+}
+
+impl<'a> Judged<'a> {
+    fn of(verdict: Verdict) -> Judged<'a> {
+        Judged { verdict, tidies: false, file: None, unread: None, line: None, detail: None }
+    }
+
+    /// A text refused in reading: its place is a line, from 1 on.
+    fn in_reading(refused: Refused, file: &'static str, text: &'a Loaded) -> Judged<'a> {
+        let number = refused.place.filter(|place| *place > 0 && text.unread.is_none());
+        Judged {
+            file: Some(file),
+            unread: text.unread.as_ref(),
+            line: number.map(|number| (number, line(&text.bytes, number))),
+            ..Judged::of(refused.into())
+        }
+    }
+
+    fn known(&self) -> Known<'_> {
+        let line = self.line.map(|(_, bytes)| bytes);
+        Known { file: self.file, unread: self.unread, line, detail: self.detail.as_deref(), ..Known::default() }
+    }
+
+    /// The line, as far as it is shown.
+    fn text(&self) -> String {
+        let line = self.line.map_or(&[][..], |(_, bytes)| bytes);
+        let cut = if line.len() > SHOWN { "..." } else { "" };
+        format!("{}{cut}", shown(&line[..line.len().min(SHOWN)]))
+    }
+
+    /// The verdict in one line.
+    fn words(&self) -> String {
+        let mut words = match self.verdict {
+            Verdict::Accepted { .. } => self.verdict.to_string(),
+            Verdict::Refused { refusal, place } => {
+                let (refused, known) = (Refused { refusal, place }, self.known());
+                format!("refused: {} ({}){}", about(refused, &known), refusal.number(), at(refused, &known))
+            }
+        };
+        if let (Some(file), Some((number, bytes))) = (self.file, self.line) {
+            words += &format!(": {file}:{number}");
+            if !bytes.is_empty() {
+                words += &format!(": {}", self.text());
+            }
+        }
+        if self.tidies {
+            words += "; tidying would make it present";
+        }
+        words
     }
 }

@@ -1,0 +1,103 @@
+//! The commands that make texts.
+
+use crate::{example, flag, Command, Opt};
+
+const FOLLOW: Opt = flag("--follow", "follow a link out of a folder that stands for a text");
+
+pub const FIND: Command = Command {
+    name: "find",
+    takes: "[--follow] [--json] [--quiet] DIR N",
+    about: "find a model of the schema in DIR at n = N, or say that there is none",
+    text: "Prints a model text, which 'zorambi model' accepts once it stands as model.txt beside the schema, or 'none': the schema is then false \
+at that n under every assignment. At most 16 pairs may occur in the schema at that n.\n\n\
+With --json it prints one object: record (the folder), n, found (true or false), pairs (the true pairs, each a symbol and an index), \
+answer and place (0, or those of a refusal) and words (why); what there is not is null.\n\n\
+The exit status is 0 for a model and for none, 1 for a refusal, 2 for wrong use or a failure.",
+    options: &[
+        FOLLOW,
+        flag("--json", "print one JSON object instead of the text"),
+        flag("--quiet", "print nothing, and say nothing of a refusal: the exit status tells it"),
+    ],
+    names: [2, 2],
+    examples: &[
+        example("zorambi find records/paper/some_and_none 3", "none: the record is accepted"),
+        example("zorambi find records/refused/split_at_upper_bound 8", "a model"),
+    ],
+    of_script: false,
+};
+
+pub const CONVERT: Command = Command {
+    name: "convert",
+    takes: "[--follow] DIR [OUT]",
+    about: "write the plain schema of DIR's wide.txt",
+    text: "A wide schema also has rows of kinds 8 not, 9 implies, 10 equivalent and 11 exclusive or. The plain schema is true exactly where it \
+is. It is written as schema.txt into OUT, a new or empty folder. Without OUT it is printed, and the two lines of a refusal go to standard \
+error.\n\n\
+The exit status is 0 for success, 1 for a refusal, 2 for wrong use or a failure.",
+    options: &[FOLLOW],
+    names: [1, 2],
+    examples: &[example("zorambi convert records/wide/differs_from_itself", "the plain schema, printed"),
+        example("zorambi convert records/wide/adder_zero /tmp/plain", "the same of another, as /tmp/plain/schema.txt"),
+    ],
+    of_script: false,
+};
+
+pub const SMALL: Command = Command {
+    name: "small",
+    takes: "[--count] ROWS",
+    about: "print every small schema of 1, 2 or 3 rows, as schema texts with an empty line between",
+    text: "All well-formed tables with symbol 0, literal offsets -1 to 1, iterations from 0 with c 0 or 1, and an outer last row, which is the \
+root, in ascending order.\n\n\
+The exit status is 0 for success, 1 for a refusal, 2 for wrong use or a failure.",
+    options: &[flag("--count", "print how many there are instead")],
+    names: [1, 1],
+    examples: &[example("zorambi small 2 --count", "340")],
+    of_script: false,
+};
+
+pub const TIDY: Command = Command {
+    name: "tidy",
+    takes: "[--follow] DIR [OUT]",
+    about: "write the proof of the older record in DIR with no row twice",
+    text: "What check --older accepts, check accepts after tidying, with the same counts. It is written as proof.txt into OUT, a new or empty \
+folder, with the schema beside it. Without OUT it is printed, and the two lines of a refusal go to standard error.\n\n\
+The exit status is 0 for success, 1 for a refusal, 2 for wrong use or a failure.",
+    options: &[FOLLOW],
+    names: [1, 2],
+    examples: &[example("zorambi tidy records/tidy/rows_twice", "the proof, printed"),
+        example("zorambi tidy records/tidy/rows_twice /tmp/present", "the record, present, in a folder of its own"),
+    ],
+    of_script: false,
+};
+
+pub const JOIN: Command = Command {
+    name: "join",
+    takes: "[--follow] DIR1 DIR2 OUT",
+    about: "write the record for the fault of either, into the new or empty folder OUT",
+    text: "check accepts the join, with a node more than both and with the links of both. Nothing is written over; after a refusal nothing is left \
+in OUT.\n\n\
+The exit status is 0 for success, 1 for a refusal, 2 for wrong use or a failure.",
+    options: &[FOLLOW],
+    names: [3, 3],
+    examples: &[example(
+        "zorambi join records/accepted/chain_531 records/accepted/cmp_transitive /tmp/either",
+        "a record with 71 nodes and 2 links",
+    )],
+    of_script: false,
+};
+
+pub const GROW: Command = Command {
+    name: "grow",
+    takes: "[--follow] DIR",
+    about: "build a tableau for the schema in DIR row by row, from standard input",
+    text: "Begins with what DIR's proof.txt has, if there is one, and answers each line of standard input at once. A line is a node row as a proof \
+text has it, which is added; '? ROW' to ask about a row; 'commit' to add the row last asked about; 'back' to take the last row back; 'rows' \
+to list the rows held; 'open' to list the nodes that want children; 'save FILE' to write the proof text; 'help'.\n\n\
+An answer to a row, commit or back is 'answer place nodes links', then 'open' or 'closed', and why if it was refused. An answer to an enquiry \
+has '? ' before it. At the end of the input rows that were not saved are told on standard error.\n\n\
+The exit status is 0 at the end of the input, 1 if DIR holds a row that is refused, 2 for wrong use or a failure.",
+    options: &[FOLLOW],
+    names: [1, 1],
+    examples: &[example("zorambi grow records/paper/some_and_none", "begins with a closed tableau of 7 nodes")],
+    of_script: false,
+};

@@ -1,0 +1,61 @@
+//! `find DIR N`: a model of the schema in DIR at n = N, as a model text, or `none`.
+
+use crate::end::{Ended, Stop};
+use crate::texts::{number, Text};
+use zorambi::words::Known;
+use zorambi::{details, find_model, json_string, shown_name, write_model, Model};
+use zorambi_commands::Given;
+
+pub fn find(given: &Given) -> Result<Ended, Stop> {
+    let n = number(&given.names[1])?;
+    let text = Text::load(&given.names[0], "schema.txt", given.has("--follow"))?;
+    let found = found(&text, n);
+    if let Err(Stop::Wrong(_) | Stop::Unread) = found {
+        return found.map(|_| Ended::default());
+    }
+    let status = u8::from(found.is_err());
+    if given.has("--quiet") {
+        return Ok(Ended { status, ..Ended::default() });
+    }
+    if given.has("--json") {
+        let printed = object(&shown_name(&given.names[0]), n, found);
+        return Ok(Ended { printed: printed.into_bytes(), status, ..Ended::default() });
+    }
+    match found? {
+        None => Ok(Ended::printed("none\n")),
+        Some(model) => {
+            let text = write_model(&model).map_err(|refused| Stop::refused(refused, &Known::default(), None))?;
+            Ok(Ended::printed(text))
+        }
+    }
+}
+
+fn found(text: &Text, n: i32) -> Result<Option<Model>, Stop> {
+    let schema = text.schema()?;
+    find_model(&schema, n)
+        .map_err(|refused| text.refused_row(refused, details::of_find(refused, &schema, n).as_deref()))
+}
+
+/// The object of --json.
+fn object(folder: &str, n: i32, found: Result<Option<Model>, Stop>) -> String {
+    let (is_found, pairs, refusal) = match found {
+        Ok(None) => ("false", "null".to_string(), None),
+        Ok(Some(model)) => {
+            let pairs: Vec<String> = model.pairs.iter().map(|[symbol, index]| format!("[{symbol},{index}]")).collect();
+            ("true", format!("[{}]", pairs.join(",")), None)
+        }
+        Err(Stop::Refused(told)) => ("null", "null".to_string(), Some(told)),
+        Err(_) => ("null", "null".to_string(), None),
+    };
+    let (answer, place, words) = match refusal {
+        None => (0, 0, "null".to_string()),
+        Some(told) => {
+            let place = told.refused.place.map_or(-1, |place| place as i64);
+            (told.refused.refusal.number(), place, json_string(&told.about))
+        }
+    };
+    format!(
+        "{{\"record\":{},\"n\":{n},\"found\":{is_found},\"pairs\":{pairs},\"answer\":{answer},\"place\":{place},\"words\":{words}}}\n",
+        json_string(folder)
+    )
+}

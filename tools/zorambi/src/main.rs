@@ -1,0 +1,55 @@
+//! `zorambi COMMAND ..`: the commands over the proved programs and the proved library. What a command gives goes to standard output,
+//! what is said of it to standard error. The exit status is 0 for success and acceptance, 1 for a refusal, 2 for wrong use or a
+//! failure.
+
+mod check;
+mod convert;
+mod end;
+mod find;
+mod grow;
+mod join;
+mod out;
+mod private;
+mod programs;
+mod small;
+mod texts;
+mod tidy;
+
+use end::{say, Ended, Stop};
+use std::ffi::OsString;
+use std::process::ExitCode;
+use zorambi_commands::{asked, Asked, Command, Given};
+
+fn main() -> ExitCode {
+    let words: Vec<OsString> = std::env::args_os().skip(1).collect();
+    ExitCode::from(match asked(&words) {
+        Asked::Help(text) => Ended::printed(text).end(),
+        Asked::Version => Ended::printed(format!("{}\n", zorambi::IDENTITY)).end(),
+        Asked::Wrong(why) => {
+            say(&why);
+            2
+        }
+        Asked::Run(command, given) => run(command, &given, &words[1..]),
+    })
+}
+
+/// Runs a command; the words are those after its name.
+fn run(command: &Command, given: &Given, words: &[OsString]) -> u8 {
+    let run = match command.name {
+        "check" => check::check,
+        "model" => check::model,
+        "catalogue" => return zorambi_catalogue::run(words),
+        "merge" => return zorambi_catalogue::merge(words),
+        "find" => find::find,
+        "convert" => convert::convert,
+        "small" => small::small,
+        "tidy" => tidy::tidy,
+        "join" => join::join,
+        "grow" => grow::grow,
+        name => {
+            say(&format!("zorambi: {name} is a command of ./zorambi in the project's folder\n"));
+            return 2;
+        }
+    };
+    run(given).map_or_else(|stop: Stop| stop.end(command.name), Ended::end)
+}
