@@ -16,7 +16,7 @@ early_scripts=(tests/edit-reasons.sh tests/zorambi.sh tests/tour.sh)
 early_packages=(zorambi-reference zorambi-commands)
 # What needs the library, the programs and the program zorambi.
 packages=(zorambi zorambi-catalogue zorambi-cli)
-scripts=(tests/programs.sh tests/readme.sh)
+scripts=(tests/programs.sh tests/readme.sh tests/catalogue.sh tests/install.sh tests/stack.sh)
 
 # ---- how a group is counted
 
