@@ -6,14 +6,15 @@ cd "$(dirname "$0")/.." || exit 2
 scratch=$(mktemp -d) || exit 2
 trap 'rm -rf "$scratch"' EXIT
 compare=build/release/zorambi-compare
+least=tests/compare/least
 passed=0
 failed=0
 
 # ---- what is run; a script or a package that is added goes into one of these lists
 
 # What needs no library: it runs while the library is made.
-early_scripts=(tests/edit-reasons.sh tests/zorambi.sh tests/tour.sh)
-early_packages=(zorambi-reference zorambi-commands)
+early_scripts=(tests/edit-reasons.sh tests/contracts.py tests/quotations.py tests/names.py tests/zorambi.sh)
+early_packages=(zorambi-reference zorambi-generate zorambi-commands)
 # What needs the library, the programs and the program zorambi.
 packages=(zorambi zorambi-catalogue zorambi-cli)
 scripts=(tests/programs.sh tests/readme.sh tests/catalogue.sh tests/install.sh tests/stack.sh)
@@ -110,7 +111,7 @@ header() { # handed | c | cpp
 
 under_valgrind() {
   echo "the comparison under valgrind"
-  valgrind --quiet --error-exitcode=9 "$compare" some 2 300 records
+  valgrind --quiet --error-exitcode=9 "$compare" --least "$least/brief.txt" some 2 300 records
 }
 
 # The program's main thread does all the calls.
@@ -133,13 +134,15 @@ test_early() {
   for each in "${early_scripts[@]}"; do tally "$each"; done
   tally tried
   for each in "${early_packages[@]}"; do tally package_tests "$each"; done
-  build zorambi-reference
+  build zorambi-generate
+  tally build/release/selftest 5000 1 records
 }
 
 test_comparison() {
-  tally "$compare" 1 20000 records
-  tally in_a_small_stack some 3 2000 records
-  tally in_a_small_stack heavy
+  tally "$compare" --least "$least/whole.txt" 1 20000 records
+  tally in_a_small_stack --least "$least/some.txt" some 3 2000 records
+  tally in_a_small_stack --least "$least/heavy.txt" heavy
+  tally tests/altered.sh
   tally c_example
   tally header handed
   tally header c
