@@ -120,19 +120,19 @@ in_a_small_stack() {
   (ulimit -s 256 && exec "$compare" "$@")
 }
 
-# The library, made anew, and what calls it.
+# The library and the programs, made anew, and what calls them. All that runs rt is on this side.
 make_library() {
   if ! ./zorambi build; then
     echo "the library or a program is not made"
     failed=$((failed + 1))
   fi
   build zorambi-compare
+  tally tried
 }
 
 test_early() {
   local each
   for each in "${early_scripts[@]}"; do tally "$each"; done
-  tally tried
   for each in "${early_packages[@]}"; do tally package_tests "$each"; done
   build zorambi-generate
   tally build/release/selftest 5000 1 records

@@ -31,15 +31,21 @@ fn pairs_that_occur() {
     for (n, count) in [(1, 0), (2, 1), (3, 2), (17, 16), (18, 17), (9999, 9998)] {
         assert_eq!(occurring(&paper(2), n), count, "{n}");
     }
-    assert_eq!(
-        of_find(refused(Refusal::Wires), &paper(2), 18).unwrap(),
-        "17 occur at n = 18"
-    );
+    assert_eq!(of_find(refused(Refusal::Wires), &paper(2), 18).unwrap(), "17 occur at n = 18");
     assert_eq!(of_find(refused(Refusal::Width), &paper(2), 0).unwrap(), "0 is not 1 to 9999");
     assert_eq!(of_find(refused(Refusal::Root), &paper(2), 0), None);
     // Both iterations name the same pairs; so do two literals that meet: p_(i + 1) from 1 to n and p_(n + 1), p_5.
     assert_eq!(occurring(&paper(4), 18), 17);
-    let rows = vec![[2, 0, 2, 1], [6, 0, 1, 0], [2, 0, 1, 1], [2, 0, 0, 5], [3, 1, 0, 5], [5, 1, 2, 0], [5, 3, 4, 0], [4, 5, 6, 0]];
+    let rows = vec![
+        [2, 0, 2, 1],
+        [6, 0, 1, 0],
+        [2, 0, 1, 1],
+        [2, 0, 0, 5],
+        [3, 1, 0, 5],
+        [5, 1, 2, 0],
+        [5, 3, 4, 0],
+        [4, 5, 6, 0],
+    ];
     let schema = Schema { root: 7, least: 0, rows };
     for (n, count) in [(0, 1 + 2), (1, 1 + 2), (3, 3 + 2), (4, 4 + 1), (10, 10 + 1)] {
         assert_eq!(occurring(&schema, n), count, "{n}");
@@ -119,7 +125,7 @@ fn plain_limits_exactly_where_the_library_says_so() {
 
 #[test]
 fn the_row_that_is_repeated() {
-    let record = common::paper();
+    let record = common::record(&common::shipped("paper/some_and_none"));
     for (row, earlier) in [([2, 0, 2, 0], 0), ([4, 2, 3, 0], 4), ([7, 0, 2, 1], 5), ([3, 0, 1, 0], 8)] {
         let mut record = record.clone();
         record.proof.rows.push(row);
