@@ -191,7 +191,7 @@ fn older_records() {
     let output = catalogue(&records, &[]);
     assert_eq!(status(&output), 1);
 
-    let repeated = "refused: a proof row written twice: row 9 repeats row 8 (27) at row 9: proof.txt:6: 3 0 1 0";
+    let repeated = "refused: a proof row written twice: it repeats row 8 (27) at row 9: proof.txt:6: 3 0 1 0";
     let bound = &BOUND.replace(":12:", ":13:");
     let row = "refused: an ill-formed formula (7) at row 7: proof.txt:4: 6 1 2 -10000";
     let line = "refused: a line's form (4) at line 4: proof.txt:4: 6 1 2 x";
