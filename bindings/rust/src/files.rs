@@ -58,22 +58,37 @@ pub fn load(folder: &Path, name: &str, follow: bool) -> Loaded {
 
 fn read(folder: &Path, name: &str, follow: bool) -> Result<Vec<u8>, Unread> {
     let path = folder.join(name);
-    if fs::symlink_metadata(&path).map_err(failed)?.is_symlink() && !follow {
-        let target = fs::canonicalize(&path).map_err(failed)?;
-        if !target.starts_with(fs::canonicalize(folder).map_err(failed)?) {
-            return Err(Unread::LinkOut(target));
+    let mut kind = fs::symlink_metadata(&path).map_err(failed)?.file_type();
+    if kind.is_symlink() {
+        if !follow {
+            stays(&path, folder)?;
         }
+        kind = fs::metadata(&path).map_err(failed)?.file_type();
     }
-    regular(fs::metadata(&path).map_err(failed)?.file_type())?;
+    regular(kind)?;
     let file = OpenOptions::new().read(true).custom_flags(O_NONBLOCK).open(&path).map_err(failed)?;
     // It may have become another file meanwhile.
-    regular(file.metadata().map_err(failed)?.file_type())?;
-    bounded(file).map_err(failed)
+    let opened = file.metadata().map_err(failed)?;
+    regular(opened.file_type())?;
+    bounded(file, opened.len()).map_err(failed)
 }
 
-fn bounded(file: File) -> io::Result<Vec<u8>> {
-    let mut bytes = Vec::new();
-    file.take(MAX_TEXT as u64 + 1).read_to_end(&mut bytes)?;
+/// The link leads to a file in the folder.
+fn stays(path: &Path, folder: &Path) -> Result<(), Unread> {
+    let target = fs::canonicalize(path).map_err(failed)?;
+    if target.starts_with(fs::canonicalize(folder).map_err(failed)?) {
+        Ok(())
+    } else {
+        Err(Unread::LinkOut(target))
+    }
+}
+
+/// The file's bytes, of which there are about so many.
+fn bounded(file: File, about: u64) -> io::Result<Vec<u8>> {
+    const MOST: u64 = MAX_TEXT as u64 + 1;
+    // With a byte more the end is found in the first room that is made.
+    let mut bytes = Vec::with_capacity(about.min(MOST) as usize + 1);
+    file.take(MOST).read_to_end(&mut bytes)?;
     Ok(bytes)
 }
 

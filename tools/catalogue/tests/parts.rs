@@ -8,6 +8,7 @@ use std::fs;
 use std::os::unix::fs::symlink;
 use std::path::{Path, PathBuf};
 use std::process::Output;
+use std::slice::from_ref;
 
 /// Records of several sorts, with a link.
 fn records(folder: &Path) -> PathBuf {
@@ -118,13 +119,13 @@ fn parts_that_make_no_whole() {
     refused(&[&tables[..], &tables[1..2]].concat(), "part 2/4 is there twice: ");
     let other = folder.join("other.csv");
     part(&records, &other, "2/5");
-    refused(&[&tables[..1], std::slice::from_ref(&other), &tables[2..]].concat(), "other.csv is part 2/5, but ");
+    refused(&[&tables[..1], from_ref(&other), &tables[2..]].concat(), "other.csv is part 2/5, but ");
 
     // Altered, cut short, or with another part's rows.
     let text = fs::read_to_string(&tables[1]).unwrap();
     let altered = |text: String| {
         fs::write(&other, text).unwrap();
-        [&tables[..1], std::slice::from_ref(&other), &tables[2..]].concat()
+        [&tables[..1], from_ref(&other), &tables[2..]].concat()
     };
     let lines: Vec<&str> = text.split_inclusive("\r\n").collect();
     let cut = |at: usize| lines[..at].concat();
@@ -156,7 +157,7 @@ fn parts_that_make_no_whole() {
     // Another state of the folder.
     put(&records.join("late"), SCHEMA, PROOF);
     part(&records, &other, "2/4");
-    let late = [&tables[..1], std::slice::from_ref(&other), &tables[2..]].concat();
+    let late = [&tables[..1], from_ref(&other), &tables[2..]].concat();
     refused(&late, "found different records: the folder changed meanwhile, or is another");
     refused(&[folder.join("nowhere.csv")], "nowhere.csv cannot be read: No such file");
 }
