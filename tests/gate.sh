@@ -134,6 +134,8 @@ test_early() {
   for each in "${early_scripts[@]}"; do tally "$each"; done
   for each in "${early_packages[@]}"; do tally package_tests "$each"; done
   build zorambi-reference
+  build zorambi-generate
+  tally build/release/selftest 5000 1 records
 }
 
 test_comparison() {
