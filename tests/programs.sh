@@ -5,7 +5,7 @@
 set -u
 cd "$(dirname "$0")/.." || exit 2
 here=$PWD
-other=$here/build/release/check
+other=$here/build/release/reference-check
 zorambi=$here/build/release/zorambi
 work=$(mktemp -d) || exit 2
 trap 'rm -rf "$work"' EXIT

@@ -1,5 +1,5 @@
-//! The check program of the paper: `check [schema.txt [proof.txt]]`. A file that cannot be read
-//! counts as empty. `check schema.txt --model model.txt` does the model check instead.
+//! The check program of the paper: `reference-check [schema.txt [proof.txt]]`. A file that cannot be read
+//! counts as empty. `reference-check schema.txt --model model.txt` does the model check instead.
 
 use zorambi_reference::program::{check_model_texts, check_texts};
 
