@@ -257,44 +257,44 @@ static inline unsigned zorambi_bytes(uint64_t packed) { return (unsigned)(packed
 
 enum zorambi_answer_number {
   ZORAMBI_ACCEPTED = 0,
-  ZORAMBI_TEXT_TOO_LONG = 1,    /* over 65,536 bytes */
-  ZORAMBI_TABLE_TOO_SHORT = 2,  /* a lent table is shorter than it has to be; place in a check: -1 */
-  ZORAMBI_HEADING = 3,          /* a heading is absent or different */
-  ZORAMBI_LINE = 4,             /* not a line of the required form and number of values */
-  ZORAMBI_TOO_MANY = 5,         /* more rows, nodes, members or pairs than allowed; place in a check: -1 */
-  ZORAMBI_ROOT = 6,             /* root no outer schema row, or least not 0..9999; place: -1 */
-  ZORAMBI_ILL_FORMED = 7,       /* a formula row is ill-formed; place: the row */
-  ZORAMBI_TOO_LARGE = 8,        /* a formula is too large or too deep; place: the row */
+  ZORAMBI_TEXT_TOO_LONG = 1,    /* a text over 65,536 bytes */
+  ZORAMBI_TABLE_TOO_SHORT = 2,  /* a lent table too short; place in a check: -1 */
+  ZORAMBI_HEADING = 3,          /* a heading: absent or different */
+  ZORAMBI_LINE = 4,             /* a line's form: not a line of the required form and number of values */
+  ZORAMBI_TOO_MANY = 5,         /* too many rows or members, nodes or pairs; place in a check: -1 */
+  ZORAMBI_ROOT = 6,             /* the root or the least value: no outer schema row, or not 0..9999; place: -1 */
+  ZORAMBI_ILL_FORMED = 7,       /* an ill-formed formula; place: the row */
+  ZORAMBI_TOO_LARGE = 8,        /* a formula too large or too deep; place: the row */
   ZORAMBI_SET = 9,              /* a set's place, order or members; from here to 17 place: the node */
-  ZORAMBI_PARENT = 10,          /* no node (-1); a wrong parent, or node 0's set */
-  ZORAMBI_DRAWN = 11,           /* the set has a row that neither its parent nor its parent's rule gives */
-  ZORAMBI_FIELDS = 12,          /* no such rule, or a field, kind, symbol or by that does not fit, as a split's negative by */
+  ZORAMBI_PARENT = 10,          /* a wrong parent, or node 0's set; also no node (-1) */
+  ZORAMBI_DRAWN = 11,           /* a formula that the parent does not give: neither its set nor its rule */
+  ZORAMBI_FIELDS = 12,          /* no such rule, or fields that do not fit it: a kind, a symbol or by, as a split's negative by */
   ZORAMBI_TARGET = 13,          /* a link whose to is not the number of a node before it */
-  ZORAMBI_BOUND = 14,           /* a bound, a split's K, a link's L - by or H - by, or the index of a clash */
-  ZORAMBI_PARTNER = 15,         /* with or other of an unfolding */
-  ZORAMBI_LOWERED = 16,         /* a row of the link's target has no lowered partner */
+  ZORAMBI_BOUND = 14,           /* a bound: of a rule, a split's K, a link's L - by or H - by, or a clash's index */
+  ZORAMBI_PARTNER = 15,         /* an unfolding's with or other */
+  ZORAMBI_LOWERED = 16,         /* a link's row without its lowered partner */
   ZORAMBI_CHILDREN = 17,        /* the number of children */
   ZORAMBI_PAIR = 18,            /* a pair out of order or range; place: the pair */
-  ZORAMBI_WIDTH = 19,           /* n below least or over 9999; place: -1 */
-  ZORAMBI_FALSE = 20,           /* the schema is false in the model; place: -1 */
-  ZORAMBI_NUMBER = 21,          /* writing: a number beyond 5 digits, or sets that do not follow one another to the last member */
-  ZORAMBI_OUTPUT = 22,          /* writing: the output is too short, or the text too long */
+  ZORAMBI_WIDTH = 19,           /* n out of range: below least or over 9999; place: -1 */
+  ZORAMBI_FALSE = 20,           /* the schema is false there; place: -1 */
+  ZORAMBI_NUMBER = 21,          /* a number beyond 5 digits, or sets that do not follow one another to the last member: writing */
+  ZORAMBI_OUTPUT = 22,          /* the output: too short, or the text too long: writing */
   /* converting */
-  ZORAMBI_PLAIN = 23,           /* too many plain rows, or one too large or too deep; place: -1 */
+  ZORAMBI_PLAIN = 23,           /* plain rows too many, too large or too deep; place: -1 */
   /* growing */
-  ZORAMBI_ROOM = 24,            /* 1024 nodes are held, or the row's members or a lent table have no room for it; place: -1 */
+  ZORAMBI_ROOM = 24,            /* no room for the row: 1024 nodes are held, or the row's members or a lent table have none; place: -1 */
   ZORAMBI_NO_ROW = 25,          /* no row to take back; place: -1 */
   /* enquiring */
   ZORAMBI_WAITING = 26,         /* no row waits for a commit; place: -1 */
   /* checking */
-  ZORAMBI_REPEATED = 27,        /* a proof row equals an earlier schema or proof row, not in the older check; place: the row */
+  ZORAMBI_REPEATED = 27,        /* a proof row written twice, an earlier schema or proof row again; not in the older check; place: the row */
   /* joining */
   ZORAMBI_LEASTS = 28,          /* the least values differ; place: -1 */
   ZORAMBI_JOINT = 29,           /* the joined record passes a limit; place: -1 */
   /* finding a model */
-  ZORAMBI_WIRES = 30,           /* more than 16 pairs occur; place: -1 */
+  ZORAMBI_WIRES = 30,           /* more than 16 pairs that occur at that n; place: -1 */
   /* the next small table */
-  ZORAMBI_NOT_LISTED = 31,      /* not 1 to 3 rows, or the given table is not on the list; place: -1 */
+  ZORAMBI_NOT_LISTED = 31,      /* not 1 to 3 rows, or a table that is not on the list of small ones; place: -1 */
 };
 
 /* The library's own functions take an empty slice as they take any: with an address, which is not NULL. So each name above stands

@@ -16,7 +16,7 @@ early_scripts=(tests/edit-reasons.sh tests/zorambi.sh tests/tour.sh)
 early_packages=(zorambi-reference zorambi-commands)
 # What needs the library, the programs and the program zorambi.
 packages=(zorambi zorambi-catalogue zorambi-cli)
-scripts=(tests/programs.sh tests/readme.sh)
+scripts=(tests/programs.sh tests/readme.sh tests/catalogue.sh tests/install.sh tests/stack.sh)
 
 # ---- how a group is counted
 
@@ -119,19 +119,19 @@ in_a_small_stack() {
   (ulimit -s 256 && exec "$compare" "$@")
 }
 
-# The library, made anew, and what calls it.
+# The library and the programs, made anew, and what calls them. All that runs rt is on this side.
 make_library() {
   if ! ./zorambi build; then
     echo "the library or a program is not made"
     failed=$((failed + 1))
   fi
   build zorambi-compare
+  tally tried
 }
 
 test_early() {
   local each
   for each in "${early_scripts[@]}"; do tally "$each"; done
-  tally tried
   for each in "${early_packages[@]}"; do tally package_tests "$each"; done
   build zorambi-reference
 }

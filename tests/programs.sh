@@ -349,6 +349,21 @@ gives_in_time() { # NAME STATUS NUMBERS SAID WORD...
     echo "$1: exit $status; printed: $(tr '\n' '|' <"$work/out"); said: $(tr '\n' '|' <"$work/err")"
   fi
 }
+# The commands that make texts do not wait for a pipe or read a device either.
+record "$work/waits"
+rm "$work/waits/schema.txt"
+mkfifo "$work/waits/schema.txt" "$work/waits/wide.txt"
+for file in schema.txt wide.txt; do
+  for words in "find $work/waits 3" "tidy $work/waits $work/no" "tidy $work/waits" "convert $work/waits $work/no" "join $work/waits $work/waits $work/no" "grow $work/waits"; do
+    [ "$file" = wide.txt ] || [[ $words != convert* ]] || continue
+    [ "$file" = schema.txt ] || [[ $words == convert* ]] || continue
+    # shellcheck disable=SC2086
+    timeout 20 "$zorambi" $words >"$work/out" 2>"$work/err" </dev/null
+    same "$words with a pipe" 1 $? 1
+    said "$words with a pipe" "refused: $file is a pipe, not a regular file (3)"
+  done
+done
+rm -r "$work/waits"
 missing check schema.txt
 missing check proof.txt
 missing model schema.txt

@@ -6,11 +6,11 @@ passed=0
 failed=0
 
 while IFS='`' read -r _ name _ file _; do
-  [ "$file" = ./zorambi ] || file=crates/$file
+  [[ $file == tools/* ]] || file=crates/$file
   case $file in
-    *.rt) defined="fn ${name}[(<]" ;;
+    *.rt | *.rs) defined="fn ${name}[(<]" ;;
     *.antt) defined="^ *(unfoldable |abbrev |pub |record )*$name [:(]" ;;
-    *) defined="^$name\(\) {" ;;
+    *) defined="no file" ;;
   esac
   if [ -f "$file" ] && grep -qE -- "$defined" "$file"; then
     passed=$((passed + 1))

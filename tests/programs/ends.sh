@@ -142,7 +142,7 @@ read_back() { # KEY..
 object = json.load(sys.stdin)
 print([object[key] for key in sys.argv[1:]], len(object))' "$@"
 }
-keys=(record verdict answer place nodes links words file line text check)
+keys=(record verdict answer place nodes links refusal file line text check)
 alike "an object of an acceptance" "['records/accepted/rca_zero', 'accepted', 0, 0, 65, 3, None, None, None, None, 'present'] 11" \
   "$("$zorambi" check --json records/accepted/rca_zero | read_back "${keys[@]}")"
 alike "an object of a refusal" "['records/refused/void_above_least', 'refused', 14, 3, 0, 0, \"a void's bound\", 'proof.txt', 8, '2 7 1 -1 -1 -1 0 1', 'present'] 11" \
@@ -152,12 +152,12 @@ ends "an object, its status and what is said" 1 "$("$zorambi" check --json recor
 record "$work/quo\"te\\"$'\n\xff'
 printf 'root "least"\\\x1b\n' >"$work/quo\"te\\"$'\n\xff/schema.txt'
 alike "an object with bytes of all kinds" "['$work/quo\"te\\\\\\\\\\\\x0a\\\\xff', 'a heading', 'schema.txt', 1, 'root \"least\"\\\\\\\\\\\\x1b'] 11" \
-  "$("$zorambi" check --json "$work/quo\"te\\"$'\n\xff' | read_back record words file line text)"
+  "$("$zorambi" check --json "$work/quo\"te\\"$'\n\xff' | read_back record refusal file line text)"
 printf 'n\n9\nsymbol index\n' >"$work/e/model.txt"
-alike "an object of a model" "['refused', 20, -1, 'the schema is false there', 'model'] 11" "$("$zorambi" model --json "$work/e" | read_back verdict answer place words check)"
+alike "an object of a model" "['refused', 20, -1, 'the schema is false there', 'model'] 11" "$("$zorambi" model --json "$work/e" | read_back verdict answer place refusal check)"
 printf 'n\n0\nsymbol index\n' >"$work/e/model.txt"
 ends "a model's n out of range" 1 "${lines}19 -1 0 0" "refused: n out of range: 0 is not 1 to 9999 (19)" "$zorambi" model "$work/e"
-found=(record n found pairs answer place words)
+found=(record n found pairs answer place refusal)
 alike "an object of no model" "['$work/e', 3, False, None, 0, 0, None] 7" "$("$zorambi" find --json "$work/e" 3 | read_back "${found[@]}")"
 sed -i '2s/4/2/' "$work/e/schema.txt"
 alike "an object of a model found" "['$work/e', 3, True, [[0, 3]], 0, 0, None] 7" "$("$zorambi" find --json "$work/e" 3 | read_back "${found[@]}")"

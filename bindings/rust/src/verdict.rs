@@ -188,6 +188,17 @@ mod tests {
     }
 
     #[test]
+    fn words_are_those_of_the_header() {
+        let header = include_str!("../../../include/zorambi.h");
+        for refusal in Refusal::ALL {
+            let of_number = format!(" = {}, ", refusal.number());
+            let line = header.lines().find(|line| line.starts_with("  ZORAMBI_") && line.contains(&of_number));
+            let comment = line.and_then(|line| Some(line.split_once("/* ")?.1)).unwrap_or_default();
+            assert!(comment.starts_with(&refusal.to_string()), "{}: {comment}", refusal.number());
+        }
+    }
+
+    #[test]
     fn numbers_of_refusals() {
         let known: Vec<u64> = Refusal::ALL.iter().map(|refusal| u64::from(refusal.number())).collect();
         assert!(known.is_sorted_by(|one, other| one < other));

@@ -204,7 +204,7 @@ fn tables_refused_in_writing() {
 }
 
 /// The line that a refusal points to, and what stands there.
-fn pointed<'a>(texts: [&'a str; 2], fault: Option<(Text, usize)>) -> Option<(Text, usize, &'a str)> {
+fn pointed(texts: [&str; 2], fault: Option<(Text, usize)>) -> Option<(Text, usize, &str)> {
     fault.map(|(text, number)| {
         let bytes = texts[usize::from(text != Text::Schema)].as_bytes();
         (text, number, std::str::from_utf8(line(bytes, number)).unwrap())

@@ -7,7 +7,7 @@ use crate::walk::order;
 use std::fs;
 use std::path::Path;
 use std::str::FromStr;
-use zorambi::{hex, sha256, shown_name};
+use zorambi::{hex, json_string, sha256, shown_name};
 
 pub const COLUMNS: [&str; 16] = [
     "record",
@@ -241,20 +241,6 @@ pub fn tree<'a>(names: impl Iterator<Item = &'a str>) -> String {
         lines.push('\n');
     }
     hex(&sha256(lines.as_bytes()))
-}
-
-/// A JSON string (RFC 8259).
-pub fn json_string(text: &str) -> String {
-    let mut string = String::from("\"");
-    for c in text.chars() {
-        match c {
-            '"' => string += "\\\"",
-            '\\' => string += "\\\\",
-            c if c.is_control() => string += &format!("\\u{:04x}", u32::from(c)),
-            c => string.push(c),
-        }
-    }
-    string + "\""
 }
 
 /// The first line of a CSV table.

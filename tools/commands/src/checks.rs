@@ -15,7 +15,7 @@ Answer 0 is accepted: the schema is false at every n from its least value up. An
 fault, are then said on standard error.\n\n\
 A text is read from a regular file in DIR alone. One that is missing or cannot be read counts as empty, and the answer is 3.\n\n\
 With --json the object has record (the folder), verdict (accepted or refused), answer, place, nodes and links (the program's four \
-numbers), words (why), file, line and text (the line at fault), and check (present, older or model); what there is not is null. In \
+numbers), refusal (why), file, line and text (the line at fault), and check (present, older or model); what there is not is null. In \
 strings a backslash of a record or a name stands twice, and any byte that is not printable ASCII as \\xNN.\n\n\
 The exit status is 0 for accepted, 1 for refused, 2 for wrong use or a failure.",
     options: &[

@@ -11,7 +11,7 @@ pub const FIND: Command = Command {
     text: "Prints a model text, which 'zorambi model' accepts once it stands as model.txt beside the schema, or 'none': the schema is then false \
 at that n under every assignment. At most 16 pairs may occur in the schema at that n.\n\n\
 With --json it prints one object: record (the folder), n, found (true or false), pairs (the true pairs, each a symbol and an index), \
-answer and place (0, or those of a refusal) and words (why); what there is not is null.\n\n\
+answer and place (0, or those of a refusal) and refusal (why); what there is not is null.\n\n\
 The exit status is 0 for a model and for none, 1 for a refusal, 2 for wrong use or a failure.",
     options: &[
         FOLLOW,

@@ -244,7 +244,7 @@ mod tests {
                 assert!(text.starts_with(&usage(command)), "{line:?}");
                 assert!(command.options.iter().all(|option| text.contains(option.name)), "{line:?}");
                 assert!(command.of_script || command.name == "merge" || text.contains("\nfor instance:\n"), "{line:?}");
-                assert!(text.lines().all(|line| line.len() <= 110), "{line:?}");
+                assert!(text.lines().skip(1).all(|line| line.len() <= 100), "{line:?}");
             }
             let Asked::Help(all) = ask(&["help"]) else { panic!() };
             assert!(all.contains(&format!("  {:<11}{}\n", command.name, command.about)));

@@ -100,7 +100,7 @@ impl Judged {
         let [answer, place, nodes, links] = numbers;
         format!(
             "{{\"record\":{},\"verdict\":{},\"answer\":{answer},\"place\":{place},\"nodes\":{nodes},\"links\":{links},\
-             \"words\":{},\"file\":{},\"line\":{},\"text\":{},\"check\":{}}}\n",
+             \"refusal\":{},\"file\":{},\"line\":{},\"text\":{},\"check\":{}}}\n",
             string(folder),
             string(verdict),
             or_null(words.as_deref().map(string)),

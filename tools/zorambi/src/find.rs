@@ -55,7 +55,7 @@ fn object(folder: &str, n: i32, found: Result<Option<Model>, Stop>) -> String {
         }
     };
     format!(
-        "{{\"record\":{},\"n\":{n},\"found\":{is_found},\"pairs\":{pairs},\"answer\":{answer},\"place\":{place},\"words\":{words}}}\n",
+        "{{\"record\":{},\"n\":{n},\"found\":{is_found},\"pairs\":{pairs},\"answer\":{answer},\"place\":{place},\"refusal\":{words}}}\n",
         json_string(folder)
     )
 }

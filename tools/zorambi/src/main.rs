@@ -29,17 +29,16 @@ fn main() -> ExitCode {
             say(&why);
             2
         }
-        Asked::Run(command, given) => run(command, &given, &words[1..]),
+        Asked::Run(command, given) => run(command, &given),
     })
 }
 
-/// Runs a command; the words are those after its name.
-fn run(command: &Command, given: &Given, words: &[OsString]) -> u8 {
+fn run(command: &Command, given: &Given) -> u8 {
     let run = match command.name {
         "check" => check::check,
         "model" => check::model,
-        "catalogue" => return zorambi_catalogue::run(words),
-        "merge" => return zorambi_catalogue::merge(words),
+        "catalogue" => return zorambi_catalogue::run(given),
+        "merge" => return zorambi_catalogue::merge(given),
         "find" => find::find,
         "convert" => convert::convert,
         "small" => small::small,
