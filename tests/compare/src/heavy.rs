@@ -24,6 +24,8 @@ pub fn test(tally: &mut Tally) {
         ("links of 5 rows of depth 62, either order", links(5, 3, Part::Leaning)),
         ("links of 28 rows of one shape and size 255", one_shape(14, 3)),
         ("links by 1 to 40, two trees of 499 rows, either order", links_by_many(40)),
+        ("links of 20 rows of size 4,031, their partners' parts in turn", crossed(20, 40, [1, 2])),
+        ("links of 20 rows of size 4,031, parts of both sides in turn", crossed(20, 40, [16, 16])),
         ("unfoldings with instances in either order", swapped_unfoldings(40)),
         ("1,024 rows of one class", one_class()),
         ("1,024 rows, 970 ors of one shape, no two alike", no_two_alike()),
@@ -69,6 +71,8 @@ pub fn tableaux() -> Vec<(&'static str, Tables)> {
         ("450 links of 5 rows of size 4,037 and depth 62, either order", links(5, 450, Part::Leaning)),
         ("110 links of 28 rows of one shape and size 255", one_shape(14, 110)),
         ("500 links by 1 to 500, two trees of 499 rows, either order", links_by_many(500)),
+        ("300 links of 30 rows of size 4,031, their partners' parts in turn", crossed(30, 300, [1, 2])),
+        ("300 links of 30 rows of size 4,031, parts of both sides in turn", crossed(30, 300, [16, 16])),
         ("1,000 unfoldings with instances of size 4,033, either order", swapped_unfoldings(1000)),
         ("1,024 rows of one class", one_class()),
         ("50 links of 62 small rows among 1,024 of one class", links_in_one_class()),
@@ -137,6 +141,31 @@ impl Builder {
             parts.push(self.row([OR, parts[level], parts[level], 0]));
         }
         (6..11).fold(parts[5], |below, level| self.row([OR, parts[level], below, 0]))
+    }
+
+    /// `width` rows of size 2 ^ (level + 1) - 1 at each level, over rows of their own like the given one. The parts of
+    /// each are drawn from the level below.
+    fn crossing(&mut self, row: i32, width: usize) -> Vec<Vec<i32>> {
+        let like = self.rows[row as usize];
+        let mut levels: Vec<Vec<i32>> = vec![(0..width).map(|_| self.row(like)).collect()];
+        for level in 0..10 {
+            let next = (0..width).map(|_| {
+                let [left, right] = [0, 1].map(|_| self.rng.pick(&levels[level]));
+                self.row([OR, left, right, 0])
+            });
+            let next = next.collect();
+            levels.push(next);
+        }
+        levels
+    }
+
+    /// The same as `large`, with parts drawn from each level.
+    fn large_of(&mut self, levels: &[Vec<i32>]) -> i32 {
+        let below = self.rng.pick(&levels[5]);
+        levels[6..11].iter().fold(below, |below, level| {
+            let part = self.rng.pick(level);
+            self.row([OR, part, below, 0])
+        })
     }
 
     /// An or of the two in either order.
@@ -383,6 +412,57 @@ pub fn one_shape(held: usize, count: usize) -> Tables {
         up = split;
     }
     b.node([up, 8, -1, -1, -1, target, 1], &set);
+    b.tables(root, schema_count)
+}
+
+/// `count` links by 1 and 2 to one node whose set has `held` rows of size 4,031, each followed by a false one, so that
+/// each has to be looked for. These rows and their partners have parts drawn at random from `widths` rows a level, of
+/// which none is shared between the two sides: what remembers of a row only the last row that it agreed with has
+/// forgotten it before it is asked for. Partners come with falling numbers.
+pub fn crossed(held: usize, count: usize, widths: [usize; 2]) -> Tables {
+    let mut b = Builder::default();
+    let no = b.row([FALSE, 0, 0, 0]);
+    let [own, others] = widths.map(|width| b.crossing(no, width));
+    let partners: Vec<i32> = (0..90).map(|_| b.large_of(&others)).collect();
+    let mut asked = Vec::new();
+    for _ in 0..held {
+        asked.extend([b.large_of(&own), b.row([FALSE, 0, 0, 0])]);
+    }
+    let bodies = [asked[0], no];
+    let iterations: Vec<[i32; 2]> = (0..3).map(|limit| bodies.map(|body| b.row([BIG_AND, body, -9999, limit]))).collect();
+    let both = b.row([AND, iterations[0][0], iterations[0][1], 0]);
+    let root = b.row([AND, no, both, 0]);
+    let schema_count = b.rows.len();
+    let mut up = b.node([-1, 0, root, -1, -1, -1, 0], &[root]);
+    up = b.node([up, 0, both, -1, -1, -1, 0], &[no, both]);
+    let [first, second] = iterations[0];
+    let mut set = vec![no, first, second];
+    for (at, row) in asked.into_iter().enumerate() {
+        up = b.node([up, 3, iterations[0][at % 2], iterations[1][at % 2], row, -1, 0], &set);
+        set.push(row);
+    }
+    let target = b.node([up, 2, -1, -1, -1, -1, 0], &set);
+    b.node([target, 5, no, -1, -1, -1, 0], &[no]);
+    // From n ≥ 2 on, with the limits of both shifts.
+    up = b.node([target, 2, -1, -1, -1, -1, 0], &[no, first, second]);
+    b.node([up, 5, no, -1, -1, -1, 0], &[no]);
+    let mut held_on = vec![no, first, second];
+    for (at, body) in bodies.into_iter().enumerate() {
+        for limit in 0..2 {
+            let [on, with] = [iterations[limit][at], iterations[limit + 1][at]];
+            up = b.node([up, 3, on, with, body, -1, 0], &held_on);
+            held_on.push(with);
+        }
+    }
+    for at in 0..count {
+        let partner = partners[partners.len() - 1 - at % partners.len()];
+        let by = 1 + at % 2;
+        up = b.node([up, 3, first, iterations[1][0], partner, -1, 0], &held_on);
+        let with_partner = [held_on.as_slice(), &[partner]].concat();
+        up = b.node([up, 2, -1, -1, -1, -1, 0], &with_partner);
+        b.node([up, 8, -1, -1, -1, target, by as i32], &[no, iterations[by][0], iterations[by][1], partner]);
+    }
+    b.node([up, 5, no, -1, -1, -1, 0], &[no]);
     b.tables(root, schema_count)
 }
 
