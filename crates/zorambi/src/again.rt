@@ -5,12 +5,12 @@ ghost use Prim.Native.Nat.{_*_};
 ghost use lib.Dec.{leb};
 ghost use lib.IntN.{pos};
 ghost use lib.ListN.{length, take};
-ghost use Rattle.stab.specs.Basic.{_and_};
-ghost use Rattle.stab.specs.Read.{readSchema, schemaTable, readProof, proofTable, nodeTable, memberTable, readModel, pairTable};
-ghost use Rattle.stab.specs.Write.{writeSchema, writeProof, writeModel, output};
-ghost use Rattle.stab.specs.Answer.{schemaNumbers, proofNumbers, modelNumbers, writtenNumbers};
-ghost use Rattle.stab.specs.Entry.{schemaPacked, schemaResults, proofPacked, proofResults, modelPacked, modelResults, writtenPacked};
-ghost use Rattle.round.specs.Again.{textAgain, bytesAgain, schemaAgain, proofAgain, modelAgain, tableAgain, kept};
+ghost use Rattle.stab.specs.Read.{readSchema, schemaTable, readProof, readModel, pairTable};
+ghost use Rattle.stab.specs.Write.{writeSchema, writeModel, output};
+ghost use Rattle.stab.specs.Answer.{schemaNumbers, modelNumbers, writtenNumbers};
+ghost use Rattle.stab.specs.Entry.{schemaPacked, schemaResults, modelPacked, modelResults, writtenPacked};
+ghost use Rattle.round.specs.Again.{textAgain, bytesAgain, schemaAgain, modelAgain, tableAgain, kept};
+ghost use Rattle.zorambi.specs.Given.{TextGives, RowsGive};
 
 // A schema text is read into the table and written again.
 #[no_mangle]
@@ -31,11 +31,7 @@ pub extern "C" fn zorambi_proof_again(
     members: &mut [i32],
     out: &mut [u8],
 ) -> u64
-    ensures answer { λ r. ⌜ r ≡ writtenPacked (textAgain (readProof (length (now (table .entry))) (length (now (nodes .entry))) (length (now (members .entry))) (now (text .entry))) (length (now (out .entry))) (now (text .entry))) ⌝ }
-    ensures bytes { λ r. ⌜ now (out .exit) ≡ bytesAgain (readProof (length (now (table .entry))) (length (now (nodes .entry))) (length (now (members .entry))) (now (text .entry))) (length (now (out .entry))) (now (text .entry)) ⌝ }
-    ensures rows { λ r. ⌜ now (table .exit) ≡ kept (pos 0) (writtenNumbers (textAgain (readProof (length (now (table .entry))) (length (now (nodes .entry))) (length (now (members .entry))) (now (text .entry))) (length (now (out .entry))) (now (text .entry))) .answer) (proofTable (length (now (table .entry))) (readProof (length (now (table .entry))) (length (now (nodes .entry))) (length (now (members .entry))) (now (text .entry)))) ⌝ }
-    ensures nodes { λ r. ⌜ now (nodes .exit) ≡ kept (pos 0) (writtenNumbers (textAgain (readProof (length (now (table .entry))) (length (now (nodes .entry))) (length (now (members .entry))) (now (text .entry))) (length (now (out .entry))) (now (text .entry))) .answer) (nodeTable (length (now (nodes .entry))) (readProof (length (now (table .entry))) (length (now (nodes .entry))) (length (now (members .entry))) (now (text .entry)))) ⌝ }
-    ensures members { λ r. ⌜ now (members .exit) ≡ kept (pos 0) (writtenNumbers (textAgain (readProof (length (now (table .entry))) (length (now (nodes .entry))) (length (now (members .entry))) (now (text .entry))) (length (now (out .entry))) (now (text .entry))) .answer) (memberTable (length (now (members .entry))) (readProof (length (now (table .entry))) (length (now (nodes .entry))) (length (now (members .entry))) (now (text .entry)))) ⌝ }
+    ensures { λ r. ⌜ TextGives (readProof (length (now (table .entry))) (length (now (nodes .entry))) (length (now (members .entry))) (now (text .entry))) (length (now (out .entry))) (now (text .entry)) (length (now (table .entry))) (length (now (nodes .entry))) (length (now (members .entry))) r (now (out .exit)) (now (table .exit)) (now (nodes .exit)) (now (members .exit)) ⌝ }
 {
     told::written(round::proof_again(text, table, nodes, members, out))
 }
@@ -87,12 +83,7 @@ pub extern "C" fn zorambi_proof_rows_again(
     back_members: &mut [i32],
     results: &mut [i32; 3],
 ) -> u64
-    ensures answer { λ r. ⌜ r ≡ proofPacked (proofAgain (writeProof (now (table .entry)) rows (now (nodes .entry)) «node_rows» (now (members .entry)) «member_count» (length (now (out .entry)))) (leb 4096 (length (now («back_table» .entry))) and leb 9216 (length (now («back_nodes» .entry))) and leb 8192 (length (now («back_members» .entry)))) rows «node_rows» «member_count») ⌝ }
-    ensures results { λ r. ⌜ now (results .exit) ≡ proofResults (proofAgain (writeProof (now (table .entry)) rows (now (nodes .entry)) «node_rows» (now (members .entry)) «member_count» (length (now (out .entry)))) (leb 4096 (length (now («back_table» .entry))) and leb 9216 (length (now («back_nodes» .entry))) and leb 8192 (length (now («back_members» .entry)))) rows «node_rows» «member_count») ⌝ }
-    ensures rows { λ r. ⌜ now («back_table» .exit) ≡ tableAgain (writeProof (now (table .entry)) rows (now (nodes .entry)) «node_rows» (now (members .entry)) «member_count» (length (now (out .entry)))) (leb 4096 (length (now («back_table» .entry))) and leb 9216 (length (now («back_nodes» .entry))) and leb 8192 (length (now («back_members» .entry)))) (length (now («back_table» .entry))) (take (4 * rows) (now (table .entry))) ⌝ }
-    ensures nodes { λ r. ⌜ now («back_nodes» .exit) ≡ tableAgain (writeProof (now (table .entry)) rows (now (nodes .entry)) «node_rows» (now (members .entry)) «member_count» (length (now (out .entry)))) (leb 4096 (length (now («back_table» .entry))) and leb 9216 (length (now («back_nodes» .entry))) and leb 8192 (length (now («back_members» .entry)))) (length (now («back_nodes» .entry))) (take (9 * «node_rows») (now (nodes .entry))) ⌝ }
-    ensures members { λ r. ⌜ now («back_members» .exit) ≡ tableAgain (writeProof (now (table .entry)) rows (now (nodes .entry)) «node_rows» (now (members .entry)) «member_count» (length (now (out .entry)))) (leb 4096 (length (now («back_table» .entry))) and leb 9216 (length (now («back_nodes» .entry))) and leb 8192 (length (now («back_members» .entry)))) (length (now («back_members» .entry))) (take «member_count» (now (members .entry))) ⌝ }
-    ensures bytes { λ r. ⌜ now (out .exit) ≡ kept 0 (proofNumbers (proofAgain (writeProof (now (table .entry)) rows (now (nodes .entry)) «node_rows» (now (members .entry)) «member_count» (length (now (out .entry)))) (leb 4096 (length (now («back_table» .entry))) and leb 9216 (length (now («back_nodes» .entry))) and leb 8192 (length (now («back_members» .entry)))) rows «node_rows» «member_count») .answer) (output (length (now (out .entry))) (writeProof (now (table .entry)) rows (now (nodes .entry)) «node_rows» (now (members .entry)) «member_count» (length (now (out .entry))))) ⌝ }
+    ensures { λ r. ⌜ RowsGive (record { table = now (table .entry); rows = rows; nodes = now (nodes .entry); nodeRows = «node_rows»; members = now (members .entry); memberCount = «member_count»; room = length (now (out .entry)); tableRoom = length (now («back_table» .entry)); nodeRoom = length (now («back_nodes» .entry)); memberRoom = length (now («back_members» .entry)) }) r (now (results .exit)) (now (out .exit)) (now («back_table» .exit)) (now («back_nodes» .exit)) (now («back_members» .exit)) ⌝ }
 {
     told::proof(
         round::proof_rows_again(

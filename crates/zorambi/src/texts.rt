@@ -2,10 +2,11 @@
 ghost use mathlib.Core.Path.{_≡_};
 ghost use mathlib.Core.List.{_∷_, []};
 ghost use lib.ListN.{length};
-ghost use Rattle.stab.specs.Read.{readSchema, schemaAnswer, schemaTable, readProof, proofAnswer, proofTable, nodeTable, memberTable, readModel, modelAnswer, pairTable};
+ghost use Rattle.stab.specs.Read.{readSchema, schemaAnswer, schemaTable, readProof, readModel, modelAnswer, pairTable};
 ghost use Rattle.stab.specs.Write.{writeSchema, writeProof, writeModel, written, output};
 ghost use Rattle.stab.specs.LineNumber.{lineSpan};
-ghost use Rattle.stab.specs.Entry.{schemaPacked, schemaResults, proofPacked, proofResults, modelPacked, modelResults, writtenPacked};
+ghost use Rattle.stab.specs.Entry.{schemaPacked, schemaResults, modelPacked, modelResults, writtenPacked};
+ghost use Rattle.zorambi.specs.Given.{ReadGives};
 
 // A schema text is read into the table; the results are root, least and the number of rows.
 #[no_mangle]
@@ -26,11 +27,7 @@ pub extern "C" fn zorambi_read_proof(
     members: &mut [i32],
     results: &mut [i32; 3],
 ) -> u64
-    ensures { λ r. ⌜ r ≡ proofPacked (proofAnswer (readProof (length (now (table .entry))) (length (now (nodes .entry))) (length (now (members .entry))) (now (text .entry)))) ⌝ }
-    ensures { λ r. ⌜ now (results .exit) ≡ proofResults (proofAnswer (readProof (length (now (table .entry))) (length (now (nodes .entry))) (length (now (members .entry))) (now (text .entry)))) ⌝ }
-    ensures { λ r. ⌜ now (table .exit) ≡ proofTable (length (now (table .entry))) (readProof (length (now (table .entry))) (length (now (nodes .entry))) (length (now (members .entry))) (now (text .entry))) ⌝ }
-    ensures { λ r. ⌜ now (nodes .exit) ≡ nodeTable (length (now (nodes .entry))) (readProof (length (now (table .entry))) (length (now (nodes .entry))) (length (now (members .entry))) (now (text .entry))) ⌝ }
-    ensures { λ r. ⌜ now (members .exit) ≡ memberTable (length (now (members .entry))) (readProof (length (now (table .entry))) (length (now (nodes .entry))) (length (now (members .entry))) (now (text .entry))) ⌝ }
+    ensures { λ r. ⌜ ReadGives (readProof (length (now (table .entry))) (length (now (nodes .entry))) (length (now (members .entry))) (now (text .entry))) (length (now (table .entry))) (length (now (nodes .entry))) (length (now (members .entry))) r (now (results .exit)) (now (table .exit)) (now (nodes .exit)) (now (members .exit)) ⌝ }
 {
     told::proof(text::read::read_proof(text, table, nodes, members), results)
 }

@@ -26,8 +26,13 @@ same-length-4 c = search needs
 
 returns : tie.Need-returns
 returns c =
-    let e = c .before .before .before .before .before .before .proof-again .ensures in
-    (c .written .ensures ∙ ap writtenPacked (e .0), rw (e .0) at (e .1))
+    let e = c .before .before .before .before .before .before .proof-again .ensures in record {
+      number = c .written .ensures ∙ ap writtenPacked (e .0);
+      bytes = e .1 .0;
+      rowsRead = rw (e .0) at (e .1 .1 .0);
+      nodesRead = rw (e .0) at (e .1 .1 .1 .0);
+      membersRead = rw (e .0) at (e .1 .1 .1 .1);
+    }
 
 pub zorambi-proof-again-spec : {M : Type 1} → statement M
 zorambi-proof-again-spec =

@@ -26,8 +26,14 @@ same-length-4 c = search needs
 
 returns : tie.Need-returns
 returns c =
-    let e = c .before .before .before .before .before .before .before .proof-rows-again .ensures in
-    (c .proof .ensures .0 ∙ ap proofPacked (e .0), (c .proof .ensures .1 ∙ ap proofResults (e .0), rw (e .0) at (e .1)))
+    let e = c .before .before .before .before .before .before .before .proof-rows-again .ensures in record {
+      number = c .proof .ensures .0 ∙ ap proofPacked (e .0);
+      counts = c .proof .ensures .1 ∙ ap proofResults (e .0);
+      rowsBack = e .1 .0;
+      nodesBack = e .1 .1 .0;
+      membersBack = e .1 .1 .1 .0;
+      bytes = rw (e .0) at (e .1 .1 .1 .1);
+    }
 
 pub zorambi-proof-rows-again-spec : {M : Type 1} → statement M
 zorambi-proof-rows-again-spec =

@@ -22,8 +22,13 @@ same-length-3 c = search needs
 
 returns : tie.Need-returns
 returns c =
-    let e = c .before .before .before .before .before .read-proof .ensures in
-    (c .proof .ensures .0 ∙ ap proofPacked (e .0), (c .proof .ensures .1 ∙ ap proofResults (e .0), e .1))
+    let e = c .before .before .before .before .before .read-proof .ensures in record {
+      number = c .proof .ensures .0 ∙ ap proofPacked (e .0);
+      counts = c .proof .ensures .1 ∙ ap proofResults (e .0);
+      rowsRead = e .1 .0;
+      nodesRead = e .1 .1 .0;
+      membersRead = e .1 .1 .1;
+    }
 
 pub zorambi-read-proof-spec : {M : Type 1} → statement M
 zorambi-read-proof-spec =
