@@ -15,38 +15,32 @@ use Rattle.stab.specs.declared.Verdict.{Verdict}
 use Rattle.stab.specs.declared.Verdict.the-variants.{Accepted, Refused}
 use Rattle.stab.proofs.Exactness.Refusals.{Near, IsRefused}
 use Rattle.stab.proofs.Packed.{number-range, near-packs, read-back}
-use Rattle.found.specs.Find.{Query, firstModel, findRefusal, modelOr, foundBy, find, foundNumbers, foundPacked}
+use Rattle.found.specs.Find.{Query, firstModel, findRefusal, modelOr, foundBy, find, foundNumbers, foundPacked, foundVerdict}
 use Rattle.found.specs.declared.ModelFound.{ModelFound}
 use Rattle.found.specs.declared.ModelFound.the-variants.{Model, None, Refused as FindRefused}
 use Rattle.found.proofs.Refusals.{find-refuses, never-accepted, found-model, given-few}
-
--- the verdict whose number it is: "given" stands where a check's number of nodes does
-abbrev pub asVerdict : ModelFound → Verdict
-asVerdict (Model n pairs) = Accepted 1 0
-asVerdict None = Accepted 0 0
-asVerdict (FindRefused why p) = Refused why p
 
 -- the one number in four parts
 abbrev pub inParts : ModelFound → Numbers
 inParts r = let a = foundNumbers r in record { answer = a .answer; place = a .place; nodes = a .given; links = 0 }
 
-parts-as : (r : ModelFound) → inParts r ≡ verdictNumbers (asVerdict r)
+parts-as : (r : ModelFound) → inParts r ≡ verdictNumbers (foundVerdict r)
 unfolding foundNumbers verdictNumbers refusedNumbers
 parts-as (Model n pairs) = refl
 parts-as None = refl
 parts-as (FindRefused why p) = refl
 
-pub packed-as : (r : ModelFound) → foundPacked r ≡ packed (asVerdict r)
+pub packed-as : (r : ModelFound) → foundPacked r ≡ packed (foundVerdict r)
 unfolding foundPacked packed
 packed-as r = ap oneNumber (parts-as r)
 
 -- ---- it packs
 
-found-by-packs : (Q : Query) (x : Option Verdict) → ((v : Verdict) → x ≡ some v → IsRefused v) → Packs (asVerdict (foundBy x Q))
+found-by-packs : (Q : Query) (x : Option Verdict) → ((v : Verdict) → x ≡ some v → IsRefused v) → Packs (foundVerdict (foundBy x Q))
 unfolding foundBy modelOr
 found-by-packs Q none h = go (firstModel Q)
   where
-    go : (x : Option (List Wire)) → Packs (asVerdict (modelOr (Q .n) x))
+    go : (x : Option (List Wire)) → Packs (foundVerdict (modelOr (Q .n) x))
     go none = (omega arith, omega arith)
     go (some ws) = (omega arith, omega arith)
 found-by-packs Q (some (Accepted nodes links)) h = absurd (never-accepted (h (Accepted nodes links) refl))
@@ -56,7 +50,7 @@ found-by-packs Q (some (Refused why p)) h =
     near-packs why p (subst Near (sym same) (r .3))
 
 -- whatever is found packs, so a refusal's place does
-pub found-packs : (Q : Query) → Packs (asVerdict (find Q))
+pub found-packs : (Q : Query) → Packs (foundVerdict (find Q))
 unfolding find
 found-packs Q = found-by-packs Q (findRefusal Q) (find-refuses Q)
 
@@ -80,7 +74,7 @@ found-fits Q = go (find Q) refl (found-packs Q)
     coded why Whole h = omega arith
     coded why (At k) h = omega arith
 
-    go : (r : ModelFound) → find Q ≡ r → Packs (asVerdict r) → Fits r
+    go : (r : ModelFound) → find Q ≡ r → Packs (foundVerdict r) → Fits r
     go (Model n k) e h = record { answer = omega arith; place = omega arith; given = omega arith; pairs = found-few Q n k e }
     go None e h = record { answer = omega arith; place = omega arith; given = omega arith; pairs = omega arith }
     go (FindRefused why p) e h = record { answer = number-range why .1; place = coded why p h; given = omega arith; pairs = omega arith }
@@ -88,4 +82,4 @@ found-fits Q = go (find Q) refl (found-packs Q)
 -- ---- it is read back
 
 pub found-back : (Q : Query) → numbersIn (foundPacked (find Q)) ≡ inParts (find Q)
-found-back Q = ap numbersIn (packed-as (find Q)) ∙ read-back (asVerdict (find Q)) (found-packs Q) ∙ sym (parts-as (find Q))
+found-back Q = ap numbersIn (packed-as (find Q)) ∙ read-back (foundVerdict (find Q)) (found-packs Q) ∙ sym (parts-as (find Q))

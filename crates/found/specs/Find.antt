@@ -124,6 +124,12 @@ foundNumbers (FindRefused why p) = record { answer = refusalNumber why; place = 
 unfoldable pub foundPacked : ModelFound → ℕ
 foundPacked r = let a = foundNumbers r in oneNumber (record { answer = a .answer; place = a .place; nodes = a .given; links = 0 })
 
+-- the verdict with that number
+abbrev pub foundVerdict : ModelFound → Verdict
+foundVerdict (Model n pairs) = Accepted 1 0
+foundVerdict None = Accepted 0 0
+foundVerdict (FindRefused why p) = Refused why p
+
 -- the lent results: n, pairs
 unfoldable pub foundResults : ModelFound → List ℤ
 foundResults r = let a = foundNumbers r in a .n ∷ pos (a .pairs) ∷ []

@@ -16,13 +16,8 @@ use Rattle.stab.specs.declared.Verdict.{Verdict}
 use Rattle.stab.specs.declared.Verdict.the-variants.{Accepted, Refused}
 use Rattle.stab.proofs.Bools.{and-left, and-right, unless-none, otherwise-second}
 use Rattle.stab.proofs.Packed.{check-packs, read-back}
-use Rattle.joint.specs.Joint.{joint, jointFits, Rooms, refusalOf, joinRefusal, joinedBy, join, joinedNumbers, joinedPacked}
+use Rattle.joint.specs.Joint.{joint, jointFits, Rooms, refusalOf, joinRefusal, joinedBy, join, joinedNumbers, joinedPacked, JoinedFits}
 use Rattle.joint.specs.declared.Joined.{Joined}
-use Rattle.joint.specs.declared.Joined.the-variants.{Record, Refused as JoinRefused}
-
-abbrev pub JoinedFits : Joined → Type 0
-JoinedFits (Record root least schema proof nodes members) = (schema ≤ 1024) × (proof ≤ 1024) × (nodes ≤ 1024) × (members ≤ 8192)
-JoinedFits (JoinRefused why p) = Packs (Refused why p)
 
 -- ---- what is found packs
 

@@ -1,5 +1,5 @@
 -- 02, No. 11: one record for either fault.
-use Prim.Native.Nat.{ℕ, zero, suc, _+_, _-_}
+use Prim.Native.Nat.{ℕ, zero, suc, _+_, _-_, _≤_}
 use mathlib.Core.Bool.{Bool, true, false}
 use mathlib.Core.List.{List, [], _∷_, _++_}
 use mathlib.Core.Option.{Option, none, some}
@@ -12,7 +12,7 @@ use Rattle.stab.specs.Formula.{Row, rowAt, smallEnough}
 use Rattle.stab.specs.Node.{Tableau, Node, rows, rowCount, node}
 use Rattle.stab.specs.Check.{wholeUnless, atUnless, check, verdict}
 use Rattle.stab.specs.Text.{padded}
-use Rattle.stab.specs.Answer.{refusalNumber, placeNumber, oneNumber}
+use Rattle.stab.specs.Answer.{refusalNumber, placeNumber, oneNumber, Packs}
 use Rattle.stab.specs.declared.Refusal.the-variants.{TableTooShort, Leasts, Joint}
 use Rattle.stab.specs.declared.Verdict.{Verdict}
 use Rattle.stab.specs.declared.Verdict.the-variants.{Accepted, Refused}
@@ -191,6 +191,11 @@ joinedNumbers (JoinRefused why p) =
 -- the one number, without counts
 unfoldable pub joinedPacked : Joined → ℕ
 joinedPacked r = let a = joinedNumbers r in oneNumber (record { answer = a .answer; place = a .place; nodes = 0; links = 0 })
+
+-- the counts are within the limits, and a refusal's place fits
+abbrev pub JoinedFits : Joined → Type 0
+JoinedFits (Record root least schema proof nodes members) = (schema ≤ 1024) × (proof ≤ 1024) × (nodes ≤ 1024) × (members ≤ 8192)
+JoinedFits (JoinRefused why p) = Packs (Refused why p)
 
 -- the lent results
 unfoldable pub joinedResults : Joined → List ℤ

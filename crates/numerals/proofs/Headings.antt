@@ -12,11 +12,10 @@ use lib.ListN.{length, getD, drop, length-drop}
 use lib.Seq.{drop-cons, drop-length, drop-drop}
 use borrow.Author.Tests.{eqb-true, eq-eqb, ne-eqb}
 use Rattle.stab.specs.Basic.{_and_}
-use Rattle.stab.specs.Text.{Line, lines, sameBytes}
+use Rattle.stab.specs.Text.{Line, lines, sameBytes, lacks}
 use Rattle.stab.specs.Read.{read, stopped, require, headingAt}
 use Rattle.stab.specs.declared.Refusal.the-variants.{Heading}
 use Rattle.stab.proofs.Bools.{and-left, and-right, and-first-false, and-second-false, decide, if-true, if-false, false-of-not}
-use Rattle.stab.proofs.Texts.Lines.{lacks}
 use Rattle.numerals.specs.Here.{firstLine, afterLine}
 use Rattle.numerals.specs.Headings.{isHeading, afterHeading}
 use Rattle.numerals.proofs.Runs.{at-place}

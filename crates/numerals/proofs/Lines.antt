@@ -11,9 +11,9 @@ use lib.IntN.{ℤ}
 use lib.ListN.{length, drop}
 use borrow.Author.Tests.{eq-eqb, ne-eqb}
 use Rattle.stab.specs.Basic.{if_then_else_, _and_, _or_}
-use Rattle.stab.specs.Text.{Line, newline, lines, inFront, inFrontOf, numbersIn, numbers, numberOf, isDigit, fields, space, intoField}
+use Rattle.stab.specs.Text.{Line, newline, lines, inFront, inFrontOf, numbersIn, numbers, numberOf, isDigit, fields, space, intoField, lacks}
 use Rattle.stab.proofs.Bools.{and-both, if-true, if-false, decide, not-of-false}
-use Rattle.stab.proofs.Texts.Lines.{lacks, fields-last, fields-space}
+use Rattle.stab.proofs.Texts.Lines.{fields-last, fields-space}
 use Rattle.numerals.specs.Here.{firstLine, afterLine, row, ifNumber, numbersUpTo, firstNumbers, endsField, field, fieldEnd, pastField, numberHere}
 use Rattle.numerals.proofs.Fields.{field-none, field-more, end-here, end-later, ends-cases, ends-nonzero, ends-space, ends-line, natural-other, plainOf, here-plain}
 use Rattle.numerals.proofs.Steps.{end-or-none}

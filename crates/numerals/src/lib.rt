@@ -4,7 +4,7 @@ ghost use mathlib.Core.Bool.{true};
 ghost use Prim.Native.Nat.{_+_, _≤_};
 ghost use lib.IntN.{pos};
 ghost use lib.ListN.{length, getD, drop, set};
-ghost use Rattle.stab.proofs.Texts.Lines.{lacks};
+ghost use Rattle.stab.specs.Text.{lacks};
 ghost use Rattle.numerals.specs.Headings.{afterHeading};
 ghost use Rattle.numerals.specs.Here.{runLength, runValue};
 ghost use Rattle.numerals.specs.Here.{numberHere};

@@ -1,4 +1,4 @@
--- The answer as the one number: what it is as a verdict, and that its parts do not run into one another and are read back.
+-- The answer as the one number: its parts do not run into one another and are read back.
 use Prim.Native.Nat.{ℕ, _*_}
 use native.Mathlib.Omega.{arith}
 use mathlib.Core.Path.{_≡_, refl, sym, _∙_, ap}
@@ -16,37 +16,31 @@ use Rattle.stab.specs.declared.Refusal.the-variants.{TableTooShort, NotListed}
 use Rattle.stab.specs.declared.Verdict.{Verdict}
 use Rattle.stab.specs.declared.Verdict.the-variants.{Accepted, Refused}
 use Rattle.stab.proofs.Packed.{read-back}
-use Rattle.small.specs.Small.{onList, nextTable, nextRefusal, nextOr, nextBy, nextSmall, nextSmallNumbers, nextPacked}
+use Rattle.small.specs.Small.{onList, nextTable, nextRefusal, nextOr, nextBy, nextSmall, nextSmallNumbers, nextPacked, nextVerdict}
 use Rattle.small.specs.declared.NextSmall.{NextSmall}
 use Rattle.small.specs.declared.NextSmall.the-variants.{Table, Last, Refused as NextRefused}
 
--- the verdict with the same numbers
-abbrev pub asVerdict : NextSmall → Verdict
-asVerdict Table = Accepted 1 0
-asVerdict Last = Accepted 0 0
-asVerdict (NextRefused why p) = Refused why p
-
-numbers-are : (r : NextSmall) → verdictNumbers (asVerdict r) ≡ (record { answer = nextSmallNumbers r .answer; place = nextSmallNumbers r .place; nodes = nextSmallNumbers r .given; links = 0 })
+numbers-are : (r : NextSmall) → verdictNumbers (nextVerdict r) ≡ (record { answer = nextSmallNumbers r .answer; place = nextSmallNumbers r .place; nodes = nextSmallNumbers r .given; links = 0 })
 unfolding verdictNumbers refusedNumbers nextSmallNumbers
 numbers-are Table = refl
 numbers-are Last = refl
 numbers-are (NextRefused why p) = refl
 
-pub packed-is : (r : NextSmall) → nextPacked r ≡ packed (asVerdict r)
+pub packed-is : (r : NextSmall) → nextPacked r ≡ packed (nextVerdict r)
 unfolding nextPacked packed
 packed-is r = ap oneNumber (sym (numbers-are r))
 
-or-packs : (x : Option (List ℤ)) → Packs (asVerdict (nextOr x))
+or-packs : (x : Option (List ℤ)) → Packs (nextVerdict (nextOr x))
 unfolding nextOr
 or-packs none = (omega arith, omega arith)
 or-packs (some u) = (omega arith, omega arith)
 
 -- whatever is found packs
-pub next-packs : (n : ℕ) (t : List ℤ) (room : ℕ) → Packs (asVerdict (nextSmall n t room))
+pub next-packs : (n : ℕ) (t : List ℤ) (room : ℕ) → Packs (nextVerdict (nextSmall n t room))
 unfolding nextSmall nextRefusal nextBy wholeUnless unless _otherwise_
 next-packs n t room = go (holds t 4 n and leb (4 * n) room) (onList n t)
   where
-    go : (a b : Bool) → Packs (asVerdict (nextBy (unless a (Refused TableTooShort Whole) otherwise unless b (Refused NotListed Whole)) (nextTable n t)))
+    go : (a b : Bool) → Packs (nextVerdict (nextBy (unless a (Refused TableTooShort Whole) otherwise unless b (Refused NotListed Whole)) (nextTable n t)))
     go false b = tt
     go true false = tt
     go true true = or-packs (nextTable n t)
@@ -56,4 +50,4 @@ pub next-read-back : (n : ℕ) (t : List ℤ) (room : ℕ)
     → numbersIn (nextPacked (nextSmall n t room)) ≡ (record { answer = nextSmallNumbers (nextSmall n t room) .answer; place = nextSmallNumbers (nextSmall n t room) .place; nodes = nextSmallNumbers (nextSmall n t room) .given; links = 0 })
 next-read-back n t room =
     let r = nextSmall n t room in
-    ap numbersIn (packed-is r) ∙ read-back (asVerdict r) (next-packs n t room) ∙ numbers-are r
+    ap numbersIn (packed-is r) ∙ read-back (nextVerdict r) (next-packs n t room) ∙ numbers-are r

@@ -161,3 +161,9 @@ nextSmallNumbers (NextRefused why p) = record { answer = refusalNumber why; plac
 -- the one number
 unfoldable pub nextPacked : NextSmall → ℕ
 nextPacked r = let a = nextSmallNumbers r in oneNumber (record { answer = a .answer; place = a .place; nodes = a .given; links = 0 })
+
+-- the verdict with that number
+abbrev pub nextVerdict : NextSmall → Verdict
+nextVerdict Table = Accepted 1 0
+nextVerdict Last = Accepted 0 0
+nextVerdict (NextRefused why p) = Refused why p

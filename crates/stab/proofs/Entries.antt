@@ -19,7 +19,7 @@ use Rattle.stab.specs.Check.{checkAs}
 use Rattle.stab.specs.Model.{checkModel}
 use Rattle.stab.specs.LineNumber.{schemaRowLine, proofRowLine, nodeLine, pairLine}
 use Rattle.stab.specs.Program.{tableauOf, modelOf, noFault, inFirst, inSecond, rowFault, among, checkPoints, modelPoints, verdictFault, faultAfterReading, checkFault, modelFault}
-use Rattle.stab.specs.Entry.{withoutCounts, schemaPacked, proofPacked, modelPacked, writtenPacked, writtenIn, WrittenFits, faultNumber, faultIn}
+use Rattle.stab.specs.Entry.{withoutCounts, schemaPacked, proofPacked, modelPacked, writtenPacked, writtenIn, SchemaFits, ProofFits, ModelFits, WrittenFits, faultNumber, faultIn}
 use Rattle.stab.specs.declared.Place.{Place}
 use Rattle.stab.specs.declared.Written.{Written}
 use Rattle.stab.specs.declared.Written.the-variants.{Text, Refused as WriteRefused}
@@ -135,18 +135,6 @@ stops-model n text =
     (λ c. stops-then 4100 _ _ (stops-rows 4100 2 4096 4 c (omega arith)) (λ t. tt)))))
 
 -- ---- what a reader answers: counts of five digits, a refusal that packs
-
-abbrev pub SchemaFits : SchemaRead → Type 0
-SchemaFits (Schema root least rows) = rows ≤ 1024
-SchemaFits (SchemaRefused why p) = Packs (Refused why p)
-
-abbrev pub ProofFits : ProofRead → Type 0
-ProofFits (Proof rows nodes members) = (rows ≤ 1024) × (nodes ≤ 1024) × (members ≤ 8192)
-ProofFits (ProofRefused why p) = Packs (Refused why p)
-
-abbrev pub ModelFits : ModelRead → Type 0
-ModelFits (Model n pairs) = pairs ≤ 4096
-ModelFits (ModelRefused why p) = Packs (Refused why p)
 
 pub schema-fits : (n : ℕ) (text : List ℕ) → SchemaFits (schemaAnswer (readSchema n text))
 unfolding schemaAnswer

@@ -7,8 +7,11 @@ use Rattle.stab.specs.Basic.{if_then_else_}
 use Rattle.stab.specs.Answer.{WrittenNumbers, oneNumber, answerIn, placeIn, Packs, schemaNumbers, proofNumbers, modelNumbers, writtenNumbers}
 use Rattle.stab.specs.declared.Verdict.the-variants.{Refused}
 use Rattle.stab.specs.declared.SchemaRead.{SchemaRead}
+use Rattle.stab.specs.declared.SchemaRead.the-variants.{Schema, Refused as SchemaRefused}
 use Rattle.stab.specs.declared.ProofRead.{ProofRead}
+use Rattle.stab.specs.declared.ProofRead.the-variants.{Proof, Refused as ProofRefused}
 use Rattle.stab.specs.declared.ModelRead.{ModelRead}
+use Rattle.stab.specs.declared.ModelRead.the-variants.{Model, Refused as ModelRefused}
 use Rattle.stab.specs.declared.Fault.{Fault}
 use Rattle.stab.specs.declared.Written.{Written}
 use Rattle.stab.specs.declared.Written.the-variants.{Text, Refused as WriteRefused}
@@ -34,6 +37,19 @@ writtenPacked w = let a = writtenNumbers w in withoutCounts (a .answer) (a .plac
 -- read back as zorambi_bytes of include/zorambi.h does
 unfoldable pub writtenIn : ℕ → WrittenNumbers
 writtenIn x = record { answer = answerIn x; place = placeIn x; bytes = x % 67108864 }
+
+-- what is read is within the limits, and a refusal's place fits
+abbrev pub SchemaFits : SchemaRead → Type 0
+SchemaFits (Schema root least rows) = rows ≤ 1024
+SchemaFits (SchemaRefused why p) = Packs (Refused why p)
+
+abbrev pub ProofFits : ProofRead → Type 0
+ProofFits (Proof rows nodes members) = (rows ≤ 1024) × (nodes ≤ 1024) × (members ≤ 8192)
+ProofFits (ProofRefused why p) = Packs (Refused why p)
+
+abbrev pub ModelFits : ModelRead → Type 0
+ModelFits (Model n pairs) = pairs ≤ 4096
+ModelFits (ModelRefused why p) = Packs (Refused why p)
 
 -- the bytes stay below the place
 abbrev pub WrittenFits : Written → Type 0

@@ -21,6 +21,11 @@ sameBytes [] (y ∷ ys) = false
 sameBytes (x ∷ xs) [] = false
 sameBytes (x ∷ xs) (y ∷ ys) = eqb x y and sameBytes xs ys
 
+-- none of these bytes is c
+unfoldable pub lacks : ℕ → List ℕ → Bool
+lacks c [] = true
+lacks c (x ∷ xs) = not (eqb x c) and lacks c xs
+
 -- ---- lines
 
 -- A line's bytes, without its byte 10, and whether it has one: only a text's last line can be without.

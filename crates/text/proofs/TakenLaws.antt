@@ -11,12 +11,11 @@ use lib.Dec.{eqb, leb}
 use lib.IntN.{ℤ, pos}
 use lib.ListN.{length, take, drop, getD, set}
 use borrow.Author.Tests.{eqb-true, eq-eqb, leb-true, leb-false}
-use Rattle.stab.specs.Text.{Line, lines, nodeHeading}
+use Rattle.stab.specs.Text.{Line, lines, nodeHeading, lacks}
 use Rattle.stab.specs.Read.{Reading, read, stopped, _andThen_, headingAt, nodesFrom}
 use Rattle.stab.specs.declared.Refusal.{Refusal}
 use Rattle.stab.specs.declared.Refusal.the-variants.{Heading as HeadingRefused, Line as LineRefused, TooMany as TooManyRefused}
 use Rattle.stab.proofs.Bools.{and-right, if-true, if-false, decide}
-use Rattle.stab.proofs.Texts.Lines.{lacks}
 use Rattle.stab.proofs.Texts.Rows.{then-is}
 use Rattle.stab.proofs.Texts.Numbers.{same-bytes-true}
 use Rattle.numerals.specs.Here.{firstLine, row}

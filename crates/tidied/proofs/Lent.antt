@@ -22,7 +22,7 @@ use Rattle.stab.specs.declared.Verdict.the-variants.{Accepted, Refused}
 use Rattle.stab.specs.declared.ProofRead.the-variants.{Proof, Refused as ProofRefused}
 use Rattle.stab.proofs.Bools.{none-unless, some-unless}
 use Rattle.stab.proofs.Packed.{older-packs}
-use Rattle.stab.proofs.Entries.{ProofFits}
+use Rattle.stab.specs.Entry.{ProofFits}
 use Rattle.stab.proofs.Exactness.{accepts-exactly, older-accepts-exactly}
 use Rattle.tidied.specs.Tidied.{tidied}
 use Rattle.tidied.specs.Tidy.{Rooms, tidyVerdict, tidyAnswer, tidy, tidyTableBy, tidyProof, tidyNodeTable, tidyMemberTable, inTables, tidiedIn}

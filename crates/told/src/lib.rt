@@ -16,14 +16,10 @@ ghost use lib.IntN.{pos};
 ghost use Prim.Native.Nat.{_≤_, _<_};
 ghost use Rattle.stab.specs.Basic.{if_then_else_};
 ghost use Rattle.stab.specs.Answer.{Packs};
-ghost use Rattle.stab.specs.Entry.{schemaPacked, schemaResults, proofPacked, proofResults, modelPacked, modelResults, writtenPacked, WrittenFits, faultNumber};
-ghost use Rattle.stab.proofs.Entries.{SchemaFits, ProofFits, ModelFits};
-ghost use Rattle.found.specs.Find.{foundNumbers, foundPacked, foundResults};
-ghost use Rattle.found.proofs.Packed.{asVerdict as foundVerdict};
-ghost use Rattle.small.specs.Small.{nextPacked};
-ghost use Rattle.small.proofs.Packs.{asVerdict as nextVerdict};
-ghost use Rattle.joint.specs.Joint.{joinedPacked, joinedResults};
-ghost use Rattle.joint.proofs.Lent.{JoinedFits};
+ghost use Rattle.stab.specs.Entry.{schemaPacked, schemaResults, proofPacked, proofResults, modelPacked, modelResults, writtenPacked, SchemaFits, ProofFits, ModelFits, WrittenFits, faultNumber};
+ghost use Rattle.found.specs.Find.{foundNumbers, foundPacked, foundResults, foundVerdict};
+ghost use Rattle.small.specs.Small.{nextPacked, nextVerdict};
+ghost use Rattle.joint.specs.Joint.{joinedPacked, joinedResults, JoinedFits};
 ghost use Rattle.growing.specs.Growing.{growthPacked, shownNumber};
 ghost use Rattle.grow.specs.Packed.{asVerdict as growthVerdict};
 

@@ -12,7 +12,7 @@ use Rattle.stab.specs.declared.Verdict.the-variants.{Accepted, Refused}
 use Rattle.stab.proofs.Tests.{le-tests, whole-clears}
 use Rattle.stab.proofs.Exactness.Refusals.{FindsRefusals, of-whole, of-at, _or-else_, once, of-scan}
 use Rattle.stab.proofs.Packed.{near-packs}
-use Rattle.stab.proofs.Entries.{SchemaFits}
+use Rattle.stab.specs.Entry.{SchemaFits}
 use Rattle.wide.specs.Convert.{WideSchema, plainCount, plainRoot, wideRowRefusal, wideRefusal, plainRefusal, convertRefusal, convertedBy, converted}
 use Rattle.wide.proofs.Conversion.{convert-clears, plain-root}
 

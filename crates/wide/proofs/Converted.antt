@@ -23,6 +23,7 @@ use Rattle.stab.proofs.Texts.Outcomes.{padded-none}
 use Rattle.wide.specs.WideFormula.{wideTree}
 use Rattle.wide.specs.WideMeaning.{wideTruth}
 use Rattle.wide.specs.Plain.{constantRow, row}
+use Rattle.wide.specs.Converted.{WideRefuted}
 use Rattle.wide.specs.Convert.{WideSchema, plainTable, plainCount, plainRoot, convertRefusal, convertedTableBy, convertedTable}
 use Rattle.wide.proofs.Tables.{row-is, columns-length, row-padded}
 use Rattle.wide.proofs.PlainRows.{constant-tree}
@@ -95,10 +96,6 @@ module _ (W : WideSchema) (converts : convertRefusal W ≡ none) where
     kept .plainRules .limit,
     omega (arith, converted-length W, kept .room, kept .plainRules .limit),
   )
-
--- the wide schema is false at every n from its least value up, under every assignment
-abbrev pub WideRefuted : WideSchema → Type 0
-WideRefuted W = (n : ℕ) (σ : Assignment) → W .least ≤ℤ pos n → wideTruth σ n (wideTree (rowAt (W .wide)) (nat (W .root))) ≡ false
 
 refuted-wide : (W : WideSchema) → Refuted (convertedTable W) (pos (plainRoot W)) (W .least) → WideRefuted W
 unfolding nat

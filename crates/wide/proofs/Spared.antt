@@ -23,16 +23,11 @@ use Rattle.stab.specs.declared.Verdict.{Verdict}
 use Rattle.stab.specs.declared.Verdict.the-variants.{Accepted, Refused}
 use Rattle.stab.proofs.Bools.{decide, if-true, and-both, none-unless}
 use Rattle.stab.proofs.Trees.{below-of}
+use Rattle.wide.specs.Converted.{Spares}
 use Rattle.wide.specs.Convert.{WideSchema, plainTable, plainCount, plainRoot, convertRefusal, convertedTable}
 use Rattle.wide.proofs.Tables.{small-agrees}
 use Rattle.wide.proofs.Conversion.{Converts, convert-clears, HasPlainRows, row-formed, root-below, root-outer}
 use Rattle.wide.proofs.Converted.{has-plain-rows}
-
--- the verdict is not 6, and not 7 or 8 at one of the first s rows
-pub record Spares (s : ℕ) (v : Verdict) : Type 0 where
-  pub root : v ≢ Refused Root Whole
-  pub formed : (r : ℕ) → r < s → v ≢ Refused IllFormed (At r)
-  pub small : (r : ℕ) → r < s → v ≢ Refused TooLarge (At r)
 
 abbrev AllSpare : ℕ → Option Verdict → Type 0
 AllSpare s x = (v : Verdict) → x ≡ some v → Spares s v

@@ -13,9 +13,9 @@ use Rattle.stab.specs.Text.{fiveDigits}
 use Rattle.stab.specs.Read.{Reading, read, stopped}
 use Rattle.stab.specs.Check.{holds}
 use Rattle.stab.specs.Write.{Writing, wrote, refused, rowsWritable, setsWritable, schemaText, proofText, modelText, writeSchema, writeProof, writeModel}
-use Rattle.stab.specs.Entry.{WrittenFits}
+use Rattle.stab.specs.Entry.{SchemaFits, ProofFits, ModelFits, WrittenFits}
 use Rattle.stab.proofs.Bools.{and-left, and-right}
-use Rattle.stab.proofs.Entries.{Stops, SchemaFits, ProofFits, ModelFits, written-fits}
+use Rattle.stab.proofs.Entries.{Stops, written-fits}
 use Rattle.stab.proofs.Texts.Outcomes.{written as passes}
 use Rattle.round.specs.Again.{textAgain, schemaAgain, proofAgain, modelAgain}
 

@@ -10,11 +10,11 @@ use lib.ListN.{length, take, getD}
 use borrow.Author.Tests.{eqb-true}
 use Rattle.stab.specs.Basic.{_and_, allOf}
 use Rattle.stab.specs.Node.{setStart}
-use Rattle.stab.specs.Text.{Line, bytes, lines, fiveDigits, rowLine, headingLine, schemaHeading, rowHeading, nodeHeading, modelHeading, pairHeading}
+use Rattle.stab.specs.Text.{Line, bytes, lines, fiveDigits, rowLine, headingLine, schemaHeading, rowHeading, nodeHeading, modelHeading, pairHeading, lacks}
 use Rattle.stab.specs.Read.{read, headingAt, valuesAt, rowsFrom, nodesFrom, SchemaText, readSchemaLines, ProofText, readProofLines, ModelText, readModelLines}
 use Rattle.stab.specs.Write.{rowLines, nodeLines, nodesWritable, schemaText, proofText, modelText}
 use Rattle.stab.proofs.Bools.{and-left, and-both}
-use Rattle.stab.proofs.Texts.Lines.{lacks, full, rowBytes, textOf, lines-row, lines-heading}
+use Rattle.stab.proofs.Texts.Lines.{full, rowBytes, textOf, lines-row, lines-heading}
 use Rattle.stab.proofs.Texts.Rows.{read-injective, then-read, then-is, heading-full, heading-text, values-at-row, First, first-values, rows-back, rows-are}
 use Rattle.stab.proofs.Texts.Nodes.{Nodes, nodes-back}
 use Rattle.stab.proofs.Texts.ProofRows.{proof-rows-back, proof-rows-are}

@@ -11,16 +11,12 @@ use lib.IntN.{ℤ}
 use lib.ListN.{length}
 use borrow.Author.Tests.{leb-true, eqb-true, ne-eqb}
 use Rattle.stab.specs.Basic.{if_then_else_, _and_, allOf}
-use Rattle.stab.specs.Text.{Line, newline, inFront, lines, space, numberOf, intoField, fields, inFrontOf, numbersIn, numbers, fiveDigits, decimal, rowLine, headingLine}
+use Rattle.stab.specs.Text.{Line, newline, inFront, lines, space, numberOf, intoField, fields, inFrontOf, numbersIn, numbers, fiveDigits, decimal, rowLine, headingLine, lacks}
 use Rattle.stab.specs.Read.{startsWithU}
 use Rattle.stab.proofs.Bools.{and-left, and-right, and-both, decide, if-true, if-false, not-of-false, false-of-not}
 use Rattle.stab.proofs.Texts.Numbers.{decimal-number, number-decimal, decimal-high, number-start}
 
 -- ---- bytes that a part of a text lacks
-
-unfoldable pub lacks : ℕ → List ℕ → Bool
-lacks c [] = true
-lacks c (x ∷ xs) = not (eqb x c) and lacks c xs
 
 pub lacks-append : (c : ℕ) (xs ys : List ℕ) → lacks c xs ≡ true → lacks c ys ≡ true → lacks c (xs ++ ys) ≡ true
 unfolding lacks

@@ -11,12 +11,12 @@ use lib.ListN.{length, take, drop, length-append, length-drop}
 use lib.Seq.{length-take-le}
 use borrow.Author.Tests.{leb-true, le-leb, eqb-true, eq-eqb}
 use Rattle.stab.specs.Basic.{_and_, allOf}
-use Rattle.stab.specs.Text.{Line, bytes, lines, sameBytes, fiveDigits, rowLine, headingLine, nodeHeading}
+use Rattle.stab.specs.Text.{Line, bytes, lines, sameBytes, fiveDigits, rowLine, headingLine, nodeHeading, lacks}
 use Rattle.stab.specs.Read.{read, values, startsWithU, nodesFrom, ProofText, proofRowsFrom}
 use Rattle.stab.specs.Write.{rowLines}
 use Rattle.stab.proofs.Bools.{and-left, and-right, and-both, decide, if-true, if-false}
 use Rattle.stab.proofs.Texts.Numbers.{same-bytes-true, same-bytes-refl}
-use Rattle.stab.proofs.Texts.Lines.{lacks, full, rowBytes, textOf, lines-row, lines-heading, numbers-row, row-not-u, text-heading}
+use Rattle.stab.proofs.Texts.Lines.{full, rowBytes, textOf, lines-row, lines-heading, numbers-row, row-not-u, text-heading}
 use Rattle.stab.proofs.Texts.Rows.{read-injective, stopped-not-read, then-read, then-is, require-true, require-read, Row, values-row, row-values, all-append, all-front, all-back, take-row, front-rows}
 use Rattle.stab.proofs.Texts.Nodes.{Nodes, nodes-are}
 

@@ -6,9 +6,9 @@ use lib.IntN.{ℤ}
 use borrow.Author.Needs.{needs}
 use Rattle.signed.proofs.Signs.{read-back}
 use Rattle.stab.specs.Answer.{Packs}
-use Rattle.found.specs.Find.{foundNumbers, foundPacked, foundResults}
+use Rattle.found.specs.Find.{foundNumbers, foundPacked, foundResults, foundVerdict}
 use Rattle.found.specs.declared.ModelFound.{ModelFound}
-use Rattle.found.proofs.Packed.{asVerdict, packed-as}
+use Rattle.found.proofs.Packed.{packed-as}
 use Rattle.told.proofs.first_model.Statement.{statement}
 use Rattle.told.proofs.first_model.Tie as tie
 
@@ -36,7 +36,7 @@ enum-known-first-2 c = search needs
 pack-requires-3 : tie.Need-pack-requires-3
 pack-requires-3 c κs =
     let k = c .before .before in
-    subst (λ (r : ModelFound). Packs (asVerdict r)) (k .first2 .given .1) (k .before .before .pre .0)
+    subst (λ (r : ModelFound). Packs (foundVerdict r)) (k .first2 .given .1) (k .before .before .pre .0)
 
 returns : tie.Need-returns
 unfolding foundResults foundNumbers

@@ -6,7 +6,7 @@ use Rattle.signed.proofs.Signs.{read-back}
 use Rattle.stab.specs.Answer.{packed, verdictNumbers, refusedNumbers}
 use Rattle.joint.specs.Joint.{joinedNumbers, joinedPacked, joinedResults}
 use Rattle.joint.specs.declared.Joined.the-variants.{Record}
-use Rattle.joint.proofs.Lent.{JoinedFits}
+use Rattle.joint.specs.Joint.{JoinedFits}
 use Rattle.told.proofs.joined.Statement.{statement}
 use Rattle.told.proofs.joined.Tie as tie
 

@@ -5,8 +5,7 @@ use lib.IntN.{ℤ}
 use borrow.Author.Needs.{needs}
 use Rattle.signed.proofs.Signs.{read-back}
 use Rattle.stab.specs.Answer.{modelNumbers, packed, verdictNumbers, refusedNumbers}
-use Rattle.stab.specs.Entry.{modelPacked, modelResults, withoutCounts}
-use Rattle.stab.proofs.Entries.{ModelFits}
+use Rattle.stab.specs.Entry.{modelPacked, modelResults, withoutCounts, ModelFits}
 use Rattle.told.proofs.model.Statement.{statement}
 use Rattle.told.proofs.model.Tie as tie
 

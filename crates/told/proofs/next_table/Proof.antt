@@ -1,9 +1,9 @@
 use mathlib.Core.Path.{sym, _∙_, ap, subst}
 use borrow.Author.Needs.{needs}
 use Rattle.stab.specs.Answer.{Packs}
-use Rattle.small.specs.Small.{nextPacked}
+use Rattle.small.specs.Small.{nextPacked, nextVerdict}
 use Rattle.small.specs.declared.NextSmall.{NextSmall}
-use Rattle.small.proofs.Packs.{asVerdict, packed-is}
+use Rattle.small.proofs.Packs.{packed-is}
 use Rattle.told.proofs.next_table.Statement.{statement}
 use Rattle.told.proofs.next_table.Tie as tie
 
@@ -23,7 +23,7 @@ enum-known-next : tie.Need-enum-known-next
 enum-known-next c = search needs
 
 pack-requires-3 : tie.Need-pack-requires-3
-pack-requires-3 c κs = let k = c .before in subst (λ (r : NextSmall). Packs (asVerdict r)) (k .next .given .1) (k .before .before .pre)
+pack-requires-3 c κs = let k = c .before in subst (λ (r : NextSmall). Packs (nextVerdict r)) (k .next .given .1) (k .before .before .pre)
 
 returns : tie.Need-returns
 returns c = c .pack .ensures ∙ sym (packed-is _) ∙ ap nextPacked (sym (c .before .enum-told .given .1))

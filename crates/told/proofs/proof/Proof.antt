@@ -4,9 +4,8 @@ use mathlib.Core.List.{[], _∷_}
 use borrow.Author.Needs.{needs}
 use Rattle.signed.proofs.Signs.{read-back}
 use Rattle.stab.specs.Answer.{proofNumbers, packed, verdictNumbers, refusedNumbers}
-use Rattle.stab.specs.Entry.{proofPacked, proofResults, withoutCounts}
+use Rattle.stab.specs.Entry.{proofPacked, proofResults, withoutCounts, ProofFits}
 use Rattle.stab.specs.declared.ProofRead.the-variants.{Proof}
-use Rattle.stab.proofs.Entries.{ProofFits}
 use Rattle.told.proofs.proof.Statement.{statement}
 use Rattle.told.proofs.proof.Tie as tie
 

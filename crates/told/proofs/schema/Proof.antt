@@ -4,8 +4,7 @@ use mathlib.Core.List.{[], _∷_}
 use borrow.Author.Needs.{needs}
 use Rattle.signed.proofs.Signs.{read-back}
 use Rattle.stab.specs.Answer.{schemaNumbers, packed, verdictNumbers, refusedNumbers}
-use Rattle.stab.specs.Entry.{schemaPacked, schemaResults, withoutCounts}
-use Rattle.stab.proofs.Entries.{SchemaFits}
+use Rattle.stab.specs.Entry.{schemaPacked, schemaResults, withoutCounts, SchemaFits}
 use Rattle.told.proofs.schema.Statement.{statement}
 use Rattle.told.proofs.schema.Tie as tie
 

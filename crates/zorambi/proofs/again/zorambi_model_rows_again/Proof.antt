@@ -1,8 +1,7 @@
 use mathlib.Core.Path.{sym, _∙_, ap, subst}
 use mir.Facts.{toZ-ofZ}
 use borrow.Author.Needs.{needs}
-use Rattle.stab.specs.Entry.{modelPacked, modelResults}
-use Rattle.stab.proofs.Entries.{ModelFits}
+use Rattle.stab.specs.Entry.{modelPacked, modelResults, ModelFits}
 use Rattle.zorambi.proofs.Fits.{model-rows-fit}
 use Rattle.zorambi.proofs.again.zorambi_model_rows_again.Statement.{statement}
 use Rattle.zorambi.proofs.again.zorambi_model_rows_again.Tie as tie

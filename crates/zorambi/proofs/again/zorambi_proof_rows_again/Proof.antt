@@ -1,7 +1,6 @@
 use mathlib.Core.Path.{sym, _∙_, ap, subst}
 use borrow.Author.Needs.{needs}
-use Rattle.stab.specs.Entry.{proofPacked, proofResults}
-use Rattle.stab.proofs.Entries.{ProofFits}
+use Rattle.stab.specs.Entry.{proofPacked, proofResults, ProofFits}
 use Rattle.zorambi.proofs.Fits.{proof-rows-fit}
 use Rattle.zorambi.proofs.again.zorambi_proof_rows_again.Statement.{statement}
 use Rattle.zorambi.proofs.again.zorambi_proof_rows_again.Tie as tie

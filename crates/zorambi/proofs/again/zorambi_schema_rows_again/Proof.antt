@@ -1,8 +1,7 @@
 use mathlib.Core.Path.{sym, _∙_, ap, subst}
 use mir.Facts.{toZ-ofZ}
 use borrow.Author.Needs.{needs}
-use Rattle.stab.specs.Entry.{schemaPacked, schemaResults}
-use Rattle.stab.proofs.Entries.{SchemaFits}
+use Rattle.stab.specs.Entry.{schemaPacked, schemaResults, SchemaFits}
 use Rattle.zorambi.proofs.Fits.{schema-rows-fit}
 use Rattle.zorambi.proofs.again.zorambi_schema_rows_again.Statement.{statement}
 use Rattle.zorambi.proofs.again.zorambi_schema_rows_again.Tie as tie

@@ -3,9 +3,9 @@ use mathlib.Core.Path.{sym, _∙_, ap, subst}
 use mir.Facts.{toZ-ofZ}
 use borrow.Author.Needs.{needs}
 use Rattle.stab.specs.Answer.{Packs}
-use Rattle.found.specs.Find.{foundNumbers, foundPacked, foundResults}
+use Rattle.found.specs.Find.{foundNumbers, foundPacked, foundResults, foundVerdict}
 use Rattle.found.specs.declared.ModelFound.{ModelFound}
-use Rattle.found.proofs.Packed.{asVerdict, found-packs, found-fits}
+use Rattle.found.proofs.Packed.{found-packs, found-fits}
 use Rattle.zorambi.proofs.failing.zorambi_find_model.Statement.{statement}
 use Rattle.zorambi.proofs.failing.zorambi_find_model.Tie as tie
 
@@ -14,7 +14,7 @@ find-model-requires c κs = tt
 
 first-model-requires : tie.Need-first-model-requires
 first-model-requires c κs =
-    subst (λ (r : ModelFound). Packs (asVerdict r) × (foundNumbers r .pairs ≤ 16)) (sym (c .before .before .find-model .ensures .0)) (found-packs _, found-fits _ .pairs)
+    subst (λ (r : ModelFound). Packs (foundVerdict r) × (foundNumbers r .pairs ≤ 16)) (sym (c .before .before .find-model .ensures .0)) (found-packs _, found-fits _ .pairs)
 
 same-length : tie.Need-same-length
 same-length c = search needs

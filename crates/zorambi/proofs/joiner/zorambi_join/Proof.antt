@@ -5,7 +5,8 @@ use denote.Ref.{now}
 use borrow.Author.Needs.{needs}
 use Rattle.stab.specs.Node.{Tableau}
 use Rattle.branch.specs.Work.{tableau}
-use Rattle.joint.proofs.Lent.{JoinedFits, join-fits}
+use Rattle.joint.specs.Joint.{JoinedFits}
+use Rattle.joint.proofs.Lent.{join-fits}
 use Rattle.zorambi.proofs.Gives.{join-gives}
 use Rattle.zorambi.proofs.joiner.zorambi_join.Statement.{statement}
 use Rattle.zorambi.proofs.joiner.zorambi_join.Tie as tie

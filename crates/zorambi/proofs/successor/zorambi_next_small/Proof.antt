@@ -1,9 +1,9 @@
 use mathlib.Core.Path.{sym, _∙_, ap, subst}
 use borrow.Author.Needs.{needs}
 use Rattle.stab.specs.Answer.{Packs}
-use Rattle.small.specs.Small.{nextPacked}
+use Rattle.small.specs.Small.{nextPacked, nextVerdict}
 use Rattle.small.specs.declared.NextSmall.{NextSmall}
-use Rattle.small.proofs.Packs.{asVerdict, next-packs}
+use Rattle.small.proofs.Packs.{next-packs}
 use Rattle.zorambi.proofs.successor.zorambi_next_small.Statement.{statement}
 use Rattle.zorambi.proofs.successor.zorambi_next_small.Tie as tie
 
@@ -11,7 +11,7 @@ next-small-requires : tie.Need-next-small-requires
 next-small-requires c κs = tt
 
 next-table-requires : tie.Need-next-table-requires
-next-table-requires c κs = subst (λ (r : NextSmall). Packs (asVerdict r)) (sym (c .before .next-small .ensures .0)) (next-packs _ _ _)
+next-table-requires c κs = subst (λ (r : NextSmall). Packs (nextVerdict r)) (sym (c .before .next-small .ensures .0)) (next-packs _ _ _)
 
 same-length : tie.Need-same-length
 same-length c = search needs

@@ -1,7 +1,7 @@
 use mathlib.Core.Path.{sym, _∙_, ap, subst}
 use borrow.Author.Needs.{needs}
-use Rattle.stab.specs.Entry.{modelPacked, modelResults}
-use Rattle.stab.proofs.Entries.{ModelFits, model-fits}
+use Rattle.stab.specs.Entry.{modelPacked, modelResults, ModelFits}
+use Rattle.stab.proofs.Entries.{model-fits}
 use Rattle.zorambi.proofs.texts.zorambi_read_model.Statement.{statement}
 use Rattle.zorambi.proofs.texts.zorambi_read_model.Tie as tie
 

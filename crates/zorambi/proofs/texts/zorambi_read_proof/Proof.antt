@@ -1,7 +1,7 @@
 use mathlib.Core.Path.{sym, _∙_, ap, subst}
 use borrow.Author.Needs.{needs}
-use Rattle.stab.specs.Entry.{proofPacked, proofResults}
-use Rattle.stab.proofs.Entries.{ProofFits, proof-fits}
+use Rattle.stab.specs.Entry.{proofPacked, proofResults, ProofFits}
+use Rattle.stab.proofs.Entries.{proof-fits}
 use Rattle.zorambi.proofs.texts.zorambi_read_proof.Statement.{statement}
 use Rattle.zorambi.proofs.texts.zorambi_read_proof.Tie as tie
 

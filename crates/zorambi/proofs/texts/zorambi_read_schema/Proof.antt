@@ -1,7 +1,7 @@
 use mathlib.Core.Path.{sym, _∙_, ap, subst}
 use borrow.Author.Needs.{needs}
-use Rattle.stab.specs.Entry.{schemaPacked, schemaResults}
-use Rattle.stab.proofs.Entries.{SchemaFits, schema-fits}
+use Rattle.stab.specs.Entry.{schemaPacked, schemaResults, SchemaFits}
+use Rattle.stab.proofs.Entries.{schema-fits}
 use Rattle.zorambi.proofs.texts.zorambi_read_schema.Statement.{statement}
 use Rattle.zorambi.proofs.texts.zorambi_read_schema.Tie as tie
 

@@ -4,7 +4,7 @@ use mir.Facts.{toZ-ofZ}
 use denote.Ref.{now}
 use borrow.Author.Needs.{needs}
 use Rattle.stab.specs.Node.{Tableau}
-use Rattle.stab.proofs.Entries.{ProofFits}
+use Rattle.stab.specs.Entry.{ProofFits}
 use Rattle.branch.specs.Work.{tableau}
 use Rattle.tidied.proofs.Lent.{tidy-fits}
 use Rattle.zorambi.proofs.Gives.{tidy-gives}

@@ -1,8 +1,7 @@
 use mathlib.Core.Path.{sym, _∙_, ap, subst}
 use mir.Facts.{toZ-ofZ}
 use borrow.Author.Needs.{needs}
-use Rattle.stab.specs.Entry.{schemaPacked, schemaResults}
-use Rattle.stab.proofs.Entries.{SchemaFits}
+use Rattle.stab.specs.Entry.{schemaPacked, schemaResults, SchemaFits}
 use Rattle.wide.proofs.ConvertFits.{converted-fits}
 use Rattle.zorambi.proofs.wider.zorambi_convert.Statement.{statement}
 use Rattle.zorambi.proofs.wider.zorambi_convert.Tie as tie
