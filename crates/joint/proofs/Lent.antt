@@ -18,6 +18,7 @@ use Rattle.stab.proofs.Bools.{and-left, and-right, unless-none, otherwise-secon
 use Rattle.stab.proofs.Packed.{check-packs, read-back}
 use Rattle.joint.specs.Joint.{joint, jointFits, Rooms, refusalOf, joinRefusal, joinedBy, join, joinedNumbers, joinedPacked, JoinedFits}
 use Rattle.joint.specs.declared.Joined.{Joined}
+use Rattle.joint.specs.declared.Joined.the-variants.{Record, Refused as JoinRefused}
 
 -- ---- what is found packs
 
