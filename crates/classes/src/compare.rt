@@ -60,6 +60,9 @@ fn agrees(
     if kept_at(forms, 4 * f) != kept_at(forms, 4 * g) {
         return false;
     }
+    if is_known(forms, agreed, up, down, f, g) {
+        return true;
+    }
     let kind = natural_in(schema, s, proof, f, KIND);
     if kind != natural_in(schema, s, proof, g, KIND) {
         return false;
@@ -68,9 +71,10 @@ fn agrees(
         return true;
     }
     if kind < 4 {
-        return literals_agree(schema, s, proof, up, down, f, g);
-    }
-    if is_known(forms, agreed, up, down, f, g) {
+        if !literals_agree(schema, s, proof, up, down, f, g) {
+            return false;
+        }
+        remember(agreed, f, g);
         return true;
     }
     if kind < 6 {

@@ -429,7 +429,8 @@ pub fn crossed(held: usize, count: usize, widths: [usize; 2]) -> Tables {
         asked.extend([b.large_of(&own), b.row([FALSE, 0, 0, 0])]);
     }
     let bodies = [asked[0], no];
-    let iterations: Vec<[i32; 2]> = (0..3).map(|limit| bodies.map(|body| b.row([BIG_AND, body, -9999, limit]))).collect();
+    let iterations: Vec<[i32; 2]> =
+        (0..3).map(|limit| bodies.map(|body| b.row([BIG_AND, body, -9999, limit]))).collect();
     let both = b.row([AND, iterations[0][0], iterations[0][1], 0]);
     let root = b.row([AND, no, both, 0]);
     let schema_count = b.rows.len();

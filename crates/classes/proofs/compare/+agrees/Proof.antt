@@ -47,18 +47,18 @@ abbrev calls : ℕ → agrees-lts.Claims
 calls t = (
   kept-at-reads.Asked,
   kept-at-reads.Learnt,
+  is-known-reads.Asked,
+  is-known-reads.Learnt,
   natural-in-reads.Asked,
   natural-in-reads.Learnt,
   literals-agree-reads.Asked,
   literals-agree-reads.Learnt,
-  is-known-reads.Asked,
-  is-known-reads.Learnt,
+  remember-reads.Asked,
+  remember-reads.Learnt,
   agrees-below t,
   agrees.Post,
   besides-reads.Asked,
   besides-reads.Learnt,
-  remember-reads.Asked,
-  remember-reads.Learnt,
   ranges-agree-reads.Asked,
   ranges-agree-reads.Learnt,
 )
@@ -73,13 +73,13 @@ module _ (t : ℕ) where
   Classes = agrees-lts.After-kept-at2 (calls t) (agrees-at t) agrees.Post
 
   abbrev Same : Type 0
-  Same = agrees-lts.Else2 (calls t) (agrees-at t) agrees.Post
+  Same = agrees-lts.Else3 (calls t) (agrees-at t) agrees.Post
 
   abbrev start : Classes → Start
   start c = c .before .before .before .before
 
   abbrev begin : Same → Start
-  begin c = start (c .before .before .before .before)
+  begin c = start (c .before .before .before .before .before .before .before)
 
   -- ---- what is known there
 
@@ -125,7 +125,7 @@ module _ (t : ℕ) where
 
   same : (c : Same) → nat (rows (begin c) (begin c .args .f) .kind) ≡ nat (rows (begin c) (begin c .args .g) .kind)
   unfolding column
-  same c = sym (kind-f c) ∙ c .if2 .left ∙ c .before .natural-in2 .ensures
+  same c = sym (kind-f c) ∙ c .if3 .left ∙ c .before .natural-in2 .ensures
 
   -- what a call at smaller rows asks
   part-asks : (b : Start) (u v m n : ℕ) (agreed : List ℕ) → (u < 2 ^ 32) × (v < 2 ^ 32) → m < b .args .f → n < b .args .g → length agreed ≡ length (b .args .agreed .now) → Remembers (rows b) agreed → (m < t) × (((u < 2 ^ 32) × (v < 2 ^ 32)) × (((k : ℕ) × (m < k) × (n < k) × Ready (rows b) (b .args .forms .now) k × (k ≤ length agreed)) × Remembers (rows b) agreed))
@@ -142,7 +142,7 @@ module _ (t : ℕ) where
       let k = keeps b agreed l in
       subst (Remembers (rows b)) (sym e) (joined-agreed (rows b) agreed h _ _ (k .2) (k .3) (met-akin (by b) _ _ a))
 
-  -- ---- rows of different classes or kinds
+  -- ---- rows of different classes
 
   agrees-mul-kept-at : agrees-lts.Need-mul-kept-at (calls t) (agrees-at t) agrees.Post
   agrees-mul-kept-at c = omega (arith, small-f (c .before .before))
@@ -166,55 +166,21 @@ module _ (t : ℕ) where
         remembers b,
       )
 
-  agrees-natural-in-requires : agrees-lts.Need-natural-in-requires (calls t) (agrees-at t) agrees.Post
-  agrees-natural-in-requires c κs = (omega (arith, small-f (start (c .before))), omega arith)
-
-  agrees-natural-in-requires-2 : agrees-lts.Need-natural-in-requires-2 (calls t) (agrees-at t) agrees.Post
-  agrees-natural-in-requires-2 c κs = (omega (arith, small-g (start (c .before .before))), omega arith)
-
-  agrees-returns-2 : agrees-lts.Need-returns-2 (calls t) (agrees-at t) agrees.Post
-  unfolding column
-  agrees-returns-2 c =
-      let d = c .before in
-      let b = start (d .before .before .before) in (
-        sym
-            (kinds-differ (rows b) _ _ (ready b) (by b) _ _ (below-f b) (below-g b)
-            (λ e. c .if2 .taken (d .before .natural-in .ensures ∙ e ∙ sym (d .natural-in2 .ensures)))),
-        remembers b,
-      )
-
-  -- ---- constants and literals
-
-  agrees-returns-3 : agrees-lts.Need-returns-3 (calls t) (agrees-at t) agrees.Post
-  agrees-returns-3 c =
-      let d = c .before in
-      let b = begin d in
-      (sym (constants-met (rows b) _ _ (ready b) (by b) _ _ (below-f b) (below-g b) (same d) (omega (arith, kind-f d, c .if3 .taken))), remembers b)
-
-  agrees-literals-agree-requires : agrees-lts.Need-literals-agree-requires (calls t) (agrees-at t) agrees.Post
-  agrees-literals-agree-requires c κs =
-      let d = c .before .before in
-      let b = begin d in
-      ((small-f b, small-g b, b .pre .1 .0 .0, b .pre .1 .0 .1), ((ready b .formed _ (below-f b), ready b .formed _ (below-g b)), (same d, (omega (arith, kind-f d, c .before .if3 .left), omega (arith, kind-f d, c .if4 .taken)))))
-
-  agrees-returns-4 : agrees-lts.Need-returns-4 (calls t) (agrees-at t) agrees.Post
-  agrees-returns-4 c = (c .literals-agree .ensures, remembers (begin (c .before .before .before)))
-
   -- ---- rows that are remembered
 
   agrees-is-known-requires : agrees-lts.Need-is-known-requires (calls t) (agrees-at t) agrees.Post
   agrees-is-known-requires c κs =
-      let b = begin (c .before .before .before) in
+      let b = start (c .before .before) in
       (b .pre .1 .0 .0, b .pre .1 .0 .1, small-f b, small-g b)
 
   agrees-same-length : agrees-lts.Need-same-length (calls t) (agrees-at t) agrees.Post
   agrees-same-length c = search needs
 
-  agrees-returns-5 : agrees-lts.Need-returns-5 (calls t) (agrees-at t) agrees.Post
-  agrees-returns-5 c =
+  agrees-returns-2 : agrees-lts.Need-returns-2 (calls t) (agrees-at t) agrees.Post
+  agrees-returns-2 c =
       let k = c .before in
-      let b = begin (k .before .before .before .before) in
-      let h = sym (k .is-known .ensures) ∙ c .if5 .taken in (
+      let b = start (k .before .before .before) in
+      let h = sym (k .is-known .ensures) ∙ c .if2 .taken in (
         sym
             (known-met (rows b) _ _ (ready b) (by b) _ _ (below-f b) (below-g b) _ _ (λ i. by b)
             (known-akin (rows b) _ (remembers b) _ _ (eqb-true _ _ (and-left _ _ h)))
@@ -222,16 +188,85 @@ module _ (t : ℕ) where
         remembers b,
       )
 
+  -- ---- rows of different kinds, and constants
+
+  agrees-natural-in-requires : agrees-lts.Need-natural-in-requires (calls t) (agrees-at t) agrees.Post
+  agrees-natural-in-requires c κs = (omega (arith, small-f (start (c .before .before .before .before))), omega arith)
+
+  agrees-natural-in-requires-2 : agrees-lts.Need-natural-in-requires-2 (calls t) (agrees-at t) agrees.Post
+  agrees-natural-in-requires-2 c κs = (omega (arith, small-g (start (c .before .before .before .before .before))), omega arith)
+
+  agrees-same-length-2 : agrees-lts.Need-same-length-2 (calls t) (agrees-at t) agrees.Post
+  agrees-same-length-2 c = search needs
+
+  agrees-returns-3 : agrees-lts.Need-returns-3 (calls t) (agrees-at t) agrees.Post
+  unfolding column
+  agrees-returns-3 c =
+      let d = c .before in
+      let b = start (d .before .before .before .before .before .before) in (
+        sym
+            (kinds-differ (rows b) _ _ (ready b) (by b) _ _ (below-f b) (below-g b)
+            (λ e. c .if3 .taken (d .before .natural-in .ensures ∙ e ∙ sym (d .natural-in2 .ensures)))),
+        remembers b,
+      )
+
+  agrees-same-length-3 : agrees-lts.Need-same-length-3 (calls t) (agrees-at t) agrees.Post
+  agrees-same-length-3 c = search needs
+
+  agrees-returns-4 : agrees-lts.Need-returns-4 (calls t) (agrees-at t) agrees.Post
+  agrees-returns-4 c =
+      let d = c .before in
+      let b = begin d in
+      (sym (constants-met (rows b) _ _ (ready b) (by b) _ _ (below-f b) (below-g b) (same d) (omega (arith, kind-f d, c .if4 .taken))), remembers b)
+
+  -- ---- literals
+
+  agrees-literals-agree-requires : agrees-lts.Need-literals-agree-requires (calls t) (agrees-at t) agrees.Post
+  agrees-literals-agree-requires c κs =
+      let d = c .before .before in
+      let b = begin d in
+      ((small-f b, small-g b, b .pre .1 .0 .0, b .pre .1 .0 .1), ((ready b .formed _ (below-f b), ready b .formed _ (below-g b)), (same d, (omega (arith, kind-f d, c .before .if4 .left), omega (arith, kind-f d, c .if5 .taken)))))
+
+  agrees-same-length-4 : agrees-lts.Need-same-length-4 (calls t) (agrees-at t) agrees.Post
+  agrees-same-length-4 c = search needs
+
+  agrees-returns-5 : agrees-lts.Need-returns-5 (calls t) (agrees-at t) agrees.Post
+  agrees-returns-5 c = (sym (asked-false (c .before .literals-agree .ensures) (c .if6 .taken)), remembers (begin (c .before .before .before .before)))
+
+  abbrev Literal : Type 0
+  Literal = agrees-lts.Else6 (calls t) (agrees-at t) agrees.Post
+
+  abbrev lettered : Literal → Start
+  lettered c = begin (c .before .before .before .before)
+
+  literal-met : (c : Literal) → let b = lettered c in met b (by b) (b .args .f) (b .args .g) ≡ true
+  literal-met c = asked-true (c .before .literals-agree .ensures) (c .if6 .left)
+
+  agrees-remember-requires : agrees-lts.Need-remember-requires (calls t) (agrees-at t) agrees.Post
+  agrees-remember-requires c κs =
+      let b = lettered (c .before) in
+      keeps b (b .args .agreed .now) (λ i. length (b .args .agreed .now))
+
+  agrees-same-length-5 : agrees-lts.Need-same-length-5 (calls t) (agrees-at t) agrees.Post
+  agrees-same-length-5 c = c .before .before .remember .kept .0
+
+  agrees-returns-6 : agrees-lts.Need-returns-6 (calls t) (agrees-at t) agrees.Post
+  agrees-returns-6 c =
+      let r = c .before .before in
+      let d = r .before .before in
+      let b = lettered d in
+      (sym (literal-met d), more b _ _ (λ i. length (b .args .agreed .now)) (remembers b) (literal-met d) (r .remember .ensures))
+
   -- ---- an and or an or: its leading part, then the other
 
   abbrev Apart : Type 0
   Apart = agrees-lts.Else5 (calls t) (agrees-at t) agrees.Post
 
   abbrev alone : Apart → Same
-  alone c = c .before .before .before .before .before
+  alone c = c .before .before
 
   abbrev Junction : Type 0
-  Junction = agrees-lts.Then6 (calls t) (agrees-at t) agrees.Post
+  Junction = agrees-lts.Then7 (calls t) (agrees-at t) agrees.Post
 
   abbrev Leads : Type 0
   Leads = agrees-lts.After-kept-at4 (calls t) (agrees-at t) agrees.Post
@@ -243,10 +278,10 @@ module _ (t : ℕ) where
   junction c = c .before .before
 
   low : (j : Junction) → let b = begin (kinded j) in 4 ≤ nat (rows b (b .args .f) .kind)
-  low j = omega (arith, kind-f (kinded j), j .before .before .before .before .if4 .left)
+  low j = omega (arith, kind-f (kinded j), j .before .if5 .left)
 
   high : (j : Junction) → let b = begin (kinded j) in nat (rows b (b .args .f) .kind) < 6
-  high j = omega (arith, kind-f (kinded j), j .if6 .taken)
+  high j = omega (arith, kind-f (kinded j), j .if7 .taken)
 
   agrees-mul-kept-at-3 : agrees-lts.Need-mul-kept-at-3 (calls t) (agrees-at t) agrees.Post
   agrees-mul-kept-at-3 c = omega (arith, small-f (begin (kinded c)))
@@ -301,16 +336,16 @@ module _ (t : ℕ) where
   both : (j : Junction) → let b = begin (kinded j) in met b (by b) (b .args .f) (b .args .g) ≡ (met b (by b) (leadOf (rows b) (b .args .f)) (leadOf (rows b) (b .args .g)) and met b (by b) (otherOf (rows b) (b .args .f)) (otherOf (rows b) (b .args .g)))
   both j = let d = kinded j in let b = begin d in junctions-met (rows b) _ _ (ready b) (by b) _ _ (below-f b) (below-g b) (same d) (low j) (high j)
 
-  agrees-same-length-2 : agrees-lts.Need-same-length-2 (calls t) (agrees-at t) agrees.Post
-  agrees-same-length-2 c = c .before .before .before .agrees .kept .1 .1 .1 .1 .1 .1 .1 .1 .0
+  agrees-same-length-6 : agrees-lts.Need-same-length-6 (calls t) (agrees-at t) agrees.Post
+  agrees-same-length-6 c = c .before .before .before .agrees .kept .1 .1 .1 .1 .1 .1 .1 .1 .0
 
-  agrees-returns-6 : agrees-lts.Need-returns-6 (calls t) (agrees-at t) agrees.Post
-  agrees-returns-6 c =
+  agrees-returns-7 : agrees-lts.Need-returns-7 (calls t) (agrees-at t) agrees.Post
+  agrees-returns-7 c =
       let a = c .before .before .before in
-      (sym (both (junction (leads a)) ∙ and-first-false _ _ (asked-false (first-met a) (c .if7 .taken))), a .agrees .ensures .1)
+      (sym (both (junction (leads a)) ∙ and-first-false _ _ (asked-false (first-met a) (c .if8 .taken))), a .agrees .ensures .1)
 
   abbrev Half : Type 0
-  Half = agrees-lts.Else7 (calls t) (agrees-at t) agrees.Post
+  Half = agrees-lts.Else8 (calls t) (agrees-at t) agrees.Post
 
   abbrev first : Half → First
   first c = c .before .before .before
@@ -367,16 +402,16 @@ module _ (t : ℕ) where
   second-long : (c : Second) → length (c .agrees2 .last .1 .1 .1 .1 .1 .1 .1 .1 .0) ≡ length (opened (before c) .args .agreed .now)
   second-long c = c .agrees2 .kept .1 .1 .1 .1 .1 .1 .1 .1 .0 ∙ before c .agrees .kept .1 .1 .1 .1 .1 .1 .1 .1 .0
 
-  agrees-same-length-3 : agrees-lts.Need-same-length-3 (calls t) (agrees-at t) agrees.Post
-  agrees-same-length-3 c = second-long (c .before .before .before)
+  agrees-same-length-7 : agrees-lts.Need-same-length-7 (calls t) (agrees-at t) agrees.Post
+  agrees-same-length-7 c = second-long (c .before .before .before)
 
-  agrees-returns-7 : agrees-lts.Need-returns-7 (calls t) (agrees-at t) agrees.Post
-  agrees-returns-7 c =
+  agrees-returns-8 : agrees-lts.Need-returns-8 (calls t) (agrees-at t) agrees.Post
+  agrees-returns-8 c =
       let a = c .before .before .before in
-      (sym (both (junction (leads (before a))) ∙ and-second-false _ _ (asked-false (second-met a) (c .if8 .taken))), a .agrees2 .ensures .1)
+      (sym (both (junction (leads (before a))) ∙ and-second-false _ _ (asked-false (second-met a) (c .if9 .taken))), a .agrees2 .ensures .1)
 
   abbrev Joined : Type 0
-  Joined = agrees-lts.Else8 (calls t) (agrees-at t) agrees.Post
+  Joined = agrees-lts.Else9 (calls t) (agrees-at t) agrees.Post
 
   abbrev second : Joined → Second
   second c = c .before .before .before
@@ -385,33 +420,33 @@ module _ (t : ℕ) where
   joined-met c =
       let a = second c in
       both (junction (leads (before a)))
-      ∙ and-both _ _ (asked-true (first-met (before a)) (half (others a) .if7 .left)) (asked-true (second-met a) (c .if8 .left))
+      ∙ and-both _ _ (asked-true (first-met (before a)) (half (others a) .if8 .left)) (asked-true (second-met a) (c .if9 .left))
 
-  agrees-remember-requires : agrees-lts.Need-remember-requires (calls t) (agrees-at t) agrees.Post
-  agrees-remember-requires c κs = let a = second (c .before) in keeps (opened (before a)) (a .agrees2 .last .1 .1 .1 .1 .1 .1 .1 .1 .0) (second-long a)
+  agrees-remember-requires-2 : agrees-lts.Need-remember-requires-2 (calls t) (agrees-at t) agrees.Post
+  agrees-remember-requires-2 c κs = let a = second (c .before) in keeps (opened (before a)) (a .agrees2 .last .1 .1 .1 .1 .1 .1 .1 .1 .0) (second-long a)
 
-  agrees-same-length-4 : agrees-lts.Need-same-length-4 (calls t) (agrees-at t) agrees.Post
-  agrees-same-length-4 c =
+  agrees-same-length-8 : agrees-lts.Need-same-length-8 (calls t) (agrees-at t) agrees.Post
+  agrees-same-length-8 c =
       let r = c .before .before in
-      r .remember .kept .0 ∙ second-long (second (r .before .before))
+      r .remember2 .kept .0 ∙ second-long (second (r .before .before))
 
-  agrees-returns-8 : agrees-lts.Need-returns-8 (calls t) (agrees-at t) agrees.Post
-  agrees-returns-8 c =
+  agrees-returns-9 : agrees-lts.Need-returns-9 (calls t) (agrees-at t) agrees.Post
+  agrees-returns-9 c =
       let r = c .before .before in
       let d = r .before .before in
       let a = second d in
-      (sym (joined-met d), more (opened (before a)) _ _ (second-long a) (a .agrees2 .ensures .1) (joined-met d) (r .remember .ensures))
+      (sym (joined-met d), more (opened (before a)) _ _ (second-long a) (a .agrees2 .ensures .1) (joined-met d) (r .remember2 .ensures))
 
   -- ---- iterations: their ranges, then their bodies
 
   abbrev Iteration : Type 0
-  Iteration = agrees-lts.Else6 (calls t) (agrees-at t) agrees.Post
+  Iteration = agrees-lts.Else7 (calls t) (agrees-at t) agrees.Post
 
   abbrev iterating : Iteration → Same
   iterating c = alone (c .before)
 
   ranged : (c : Iteration) → let b = begin (iterating c) in 6 ≤ nat (rows b (b .args .f) .kind)
-  ranged c = omega (arith, kind-f (iterating c), c .if6 .left)
+  ranged c = omega (arith, kind-f (iterating c), c .if7 .left)
 
   agrees-ranges-agree-requires : agrees-lts.Need-ranges-agree-requires (calls t) (agrees-at t) agrees.Post
   agrees-ranges-agree-requires c κs =
@@ -426,14 +461,14 @@ module _ (t : ℕ) where
   whole : (c : Iteration) → let b = begin (iterating c) in let f = rows b (b .args .f) in let g = rows b (b .args .g) in met b (by b) (b .args .f) (b .args .g) ≡ (met b (pos 0) (nat (f .a)) (nat (g .a)) and eqZ (f .b) (g .b) and eqZ (f .c +ℤ by b) (g .c))
   whole c = let d = iterating c in let b = begin d in iterations-met (rows b) _ _ (ready b) (by b) _ _ (below-f b) (below-g b) (same d) (ranged c)
 
-  agrees-same-length-5 : agrees-lts.Need-same-length-5 (calls t) (agrees-at t) agrees.Post
-  agrees-same-length-5 c = search needs
+  agrees-same-length-9 : agrees-lts.Need-same-length-9 (calls t) (agrees-at t) agrees.Post
+  agrees-same-length-9 c = search needs
 
-  agrees-returns-9 : agrees-lts.Need-returns-9 (calls t) (agrees-at t) agrees.Post
-  agrees-returns-9 c =
+  agrees-returns-10 : agrees-lts.Need-returns-10 (calls t) (agrees-at t) agrees.Post
+  agrees-returns-10 c =
       let r = c .before in
       let i = r .before in
-      (sym (whole i ∙ and-second-false _ _ (asked-false (r .ranges-agree .ensures) (c .if9 .taken))), remembers (begin (iterating i)))
+      (sym (whole i ∙ and-second-false _ _ (asked-false (r .ranges-agree .ensures) (c .if10 .taken))), remembers (begin (iterating i)))
 
   agrees-natural-in-requires-3 : agrees-lts.Need-natural-in-requires-3 (calls t) (agrees-at t) agrees.Post
   agrees-natural-in-requires-3 c κs = (omega (arith, small-f (begin (iterating (c .before .before)))), omega arith)
@@ -480,16 +515,16 @@ module _ (t : ℕ) where
   third-met : (c : Third) → let b = ranging c in c .agrees3 .result ≡ met b (pos 0) (nat (rows b (b .args .f) .a)) (nat (rows b (b .args .g) .a))
   third-met c = let b = ranging c in c .agrees3 .ensures .0 ∙ ap₂ (met b (pos 0)) (body-is (bodies c)) (body-twin-is (bodies c))
 
-  agrees-same-length-6 : agrees-lts.Need-same-length-6 (calls t) (agrees-at t) agrees.Post
-  agrees-same-length-6 c = c .before .before .before .agrees3 .kept .1 .1 .1 .1 .1 .1 .1 .1 .0
+  agrees-same-length-10 : agrees-lts.Need-same-length-10 (calls t) (agrees-at t) agrees.Post
+  agrees-same-length-10 c = c .before .before .before .agrees3 .kept .1 .1 .1 .1 .1 .1 .1 .1 .0
 
-  agrees-returns-10 : agrees-lts.Need-returns-10 (calls t) (agrees-at t) agrees.Post
-  agrees-returns-10 c =
+  agrees-returns-11 : agrees-lts.Need-returns-11 (calls t) (agrees-at t) agrees.Post
+  agrees-returns-11 c =
       let a = c .before .before .before in
-      (sym (whole (iteration (bodies a)) ∙ and-first-false _ _ (asked-false (third-met a) (c .if10 .taken))), a .agrees3 .ensures .1)
+      (sym (whole (iteration (bodies a)) ∙ and-first-false _ _ (asked-false (third-met a) (c .if11 .taken))), a .agrees3 .ensures .1)
 
   abbrev Iterated : Type 0
-  Iterated = agrees-lts.Else10 (calls t) (agrees-at t) agrees.Post
+  Iterated = agrees-lts.Else11 (calls t) (agrees-at t) agrees.Post
 
   abbrev third : Iterated → Third
   third c = c .before .before .before
@@ -499,22 +534,22 @@ module _ (t : ℕ) where
       let a = third c in
       let e = bodies a .before .before in
       whole (iteration (bodies a))
-      ∙ and-both _ _ (asked-true (third-met a) (c .if10 .left)) (asked-true (e .before .ranges-agree .ensures) (e .if9 .left))
+      ∙ and-both _ _ (asked-true (third-met a) (c .if11 .left)) (asked-true (e .before .ranges-agree .ensures) (e .if10 .left))
 
-  agrees-remember-requires-2 : agrees-lts.Need-remember-requires-2 (calls t) (agrees-at t) agrees.Post
-  agrees-remember-requires-2 c κs = let a = third (c .before) in keeps (ranging a) (a .agrees3 .last .1 .1 .1 .1 .1 .1 .1 .1 .0) (a .agrees3 .kept .1 .1 .1 .1 .1 .1 .1 .1 .0)
+  agrees-remember-requires-3 : agrees-lts.Need-remember-requires-3 (calls t) (agrees-at t) agrees.Post
+  agrees-remember-requires-3 c κs = let a = third (c .before) in keeps (ranging a) (a .agrees3 .last .1 .1 .1 .1 .1 .1 .1 .1 .0) (a .agrees3 .kept .1 .1 .1 .1 .1 .1 .1 .1 .0)
 
-  agrees-same-length-7 : agrees-lts.Need-same-length-7 (calls t) (agrees-at t) agrees.Post
-  agrees-same-length-7 c =
+  agrees-same-length-11 : agrees-lts.Need-same-length-11 (calls t) (agrees-at t) agrees.Post
+  agrees-same-length-11 c =
       let r = c .before .before in
-      r .remember2 .kept .0 ∙ third (r .before .before) .agrees3 .kept .1 .1 .1 .1 .1 .1 .1 .1 .0
+      r .remember3 .kept .0 ∙ third (r .before .before) .agrees3 .kept .1 .1 .1 .1 .1 .1 .1 .1 .0
 
-  agrees-returns-11 : agrees-lts.Need-returns-11 (calls t) (agrees-at t) agrees.Post
-  agrees-returns-11 c =
+  agrees-returns-12 : agrees-lts.Need-returns-12 (calls t) (agrees-at t) agrees.Post
+  agrees-returns-12 c =
       let r = c .before .before in
       let d = r .before .before in
       let a = third d in
-      (sym (iterated-met d), more (ranging a) _ _ (a .agrees3 .kept .1 .1 .1 .1 .1 .1 .1 .1 .0) (a .agrees3 .ensures .1) (iterated-met d) (r .remember2 .ensures))
+      (sym (iterated-met d), more (ranging a) _ _ (a .agrees3 .kept .1 .1 .1 .1 .1 .1 .1 .1 .0) (a .agrees3 .ensures .1) (iterated-met d) (r .remember3 .ensures))
 
 pub +agrees-spec : {M : Type 1} → statement M
 +agrees-spec = close μ-agrees λ t. agrees-lts.spec (calls t)
@@ -525,15 +560,21 @@ pub +agrees-spec : {M : Type 1} → statement M
     (agrees-mul-kept-at-2 t)
     (agrees-kept-at-requires-2 t)
     (agrees-returns t)
-    (agrees-natural-in-requires t)
-    (agrees-natural-in-requires-2 t)
-    (agrees-returns-2 t)
-    (agrees-returns-3 t)
-    (agrees-literals-agree-requires t)
-    (agrees-returns-4 t)
     (agrees-is-known-requires t)
     (agrees-same-length t)
+    (agrees-returns-2 t)
+    (agrees-natural-in-requires t)
+    (agrees-natural-in-requires-2 t)
+    (agrees-same-length-2 t)
+    (agrees-returns-3 t)
+    (agrees-same-length-3 t)
+    (agrees-returns-4 t)
+    (agrees-literals-agree-requires t)
+    (agrees-same-length-4 t)
     (agrees-returns-5 t)
+    (agrees-remember-requires t)
+    (agrees-same-length-5 t)
+    (agrees-returns-6 t)
     (agrees-mul-kept-at-3 t)
     (agrees-add-kept-at t)
     (agrees-kept-at-requires-3 t)
@@ -541,24 +582,24 @@ pub +agrees-spec : {M : Type 1} → statement M
     (agrees-add-kept-at-2 t)
     (agrees-kept-at-requires-4 t)
     (agrees-agrees-requires t)
-    (agrees-same-length-2 t)
-    (agrees-returns-6 t)
+    (agrees-same-length-6 t)
+    (agrees-returns-7 t)
     (agrees-besides-requires t)
     (agrees-besides-requires-2 t)
     (agrees-agrees-requires-2 t)
-    (agrees-same-length-3 t)
-    (agrees-returns-7 t)
-    (agrees-remember-requires t)
-    (agrees-same-length-4 t)
+    (agrees-same-length-7 t)
     (agrees-returns-8 t)
-    (agrees-ranges-agree-requires t)
-    (agrees-same-length-5 t)
+    (agrees-remember-requires-2 t)
+    (agrees-same-length-8 t)
     (agrees-returns-9 t)
+    (agrees-ranges-agree-requires t)
+    (agrees-same-length-9 t)
+    (agrees-returns-10 t)
     (agrees-natural-in-requires-3 t)
     (agrees-natural-in-requires-4 t)
     (agrees-agrees-requires-3 t)
-    (agrees-same-length-6 t)
-    (agrees-returns-10 t)
-    (agrees-remember-requires-2 t)
-    (agrees-same-length-7 t)
+    (agrees-same-length-10 t)
     (agrees-returns-11 t)
+    (agrees-remember-requires-3 t)
+    (agrees-same-length-11 t)
+    (agrees-returns-12 t)
