@@ -247,24 +247,34 @@ fn by_another_library() {
     assert_eq!(catalogue(&records, &[&since[..], &["--quiet"]].concat()).stderr, b"");
 }
 
-/// The hashes of a table are those of coreutils.
+/// The hashes of a table are those of coreutils; a text over the limit is not read whole, and has none.
 #[test]
 fn hashes_of_the_texts() {
     let folder = scratch("hashes");
-    let table = folder.join("t.csv");
-    catalogue(&shipped(), &["--csv", table.to_str().unwrap()]);
+    let (records, table) = (folder.join("records"), folder.join("t.csv"));
+    let sums_of = |record: &Path| -> Vec<String> {
+        let mut command = std::process::Command::new("sha256sum");
+        let sums = command.args(["schema.txt", "proof.txt"]).current_dir(record).output().unwrap();
+        String::from_utf8(sums.stdout).unwrap().lines().map(|line| line[..64].to_string()).collect()
+    };
+    put(&records.join("longest"), vec![b'x'; 65_536], PROOF);
+    put(&records.join("longer"), vec![b'x'; 65_537], PROOF);
+    put(&records.join("empty"), "", PROOF);
+    assert!(std::process::Command::new("cp")
+        .arg("-r")
+        .args([shipped(), records.join("shipped")])
+        .status()
+        .unwrap()
+        .success());
+    catalogue(&records, &["--csv", table.to_str().unwrap()]);
     let rows = rows(&table);
     assert!(rows.len() > 30);
     for row in &rows[1..rows.len() - 1] {
-        let record = shipped().join(&row[0]);
-        let sums = std::process::Command::new("sha256sum")
-            .args(["schema.txt", "proof.txt"])
-            .current_dir(record)
-            .output()
-            .unwrap();
-        let sums = String::from_utf8(sums.stdout).unwrap();
-        let expected: Vec<&str> = sums.lines().map(|line| &line[..64]).collect();
-        assert_eq!(row[11..13], expected);
+        let mut expected = sums_of(&records.join(&row[0]));
+        if row[0] == "longer" {
+            expected[0] = String::new();
+        }
+        assert_eq!(row[11..13], expected, "{}", row[0]);
         assert_eq!(row[13], zorambi::IDENTITY);
     }
 }

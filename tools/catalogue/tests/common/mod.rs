@@ -22,7 +22,7 @@ pub fn by_two() -> String {
     PROOF.replace("-1 1 1 5 7\n", "-1 1 2 5 7\n")
 }
 
-/// The program that the tests run: the two commands by themselves.
+/// The program that the tests run: the two commands by themselves. `cargo test` builds it; with `--test NAME` it is what it was.
 pub fn program() -> PathBuf {
     let test = std::env::current_exe().unwrap();
     test.parent().unwrap().with_file_name("examples").join("catalogue")
