@@ -10,11 +10,11 @@ use lib.IntN.{ℤ}
 use lib.ListN.{length, take, drop, length-append}
 use lib.Seq.{drop-drop, take-at, drop-append-seam, take-append-seam}
 use Rattle.stab.specs.Basic.{if_then_else_, _and_}
-use Rattle.stab.specs.Text.{newline, lines, rowLine, headingLine, schemaHeading, rowHeading, nodeHeading, modelHeading, pairHeading}
+use Rattle.stab.specs.Text.{newline, lines, rowLine, headingLine, schemaHeading, rowHeading, nodeHeading, modelHeading, pairHeading, lacks}
 use Rattle.stab.specs.Read.{read, SchemaText, ProofText, ModelText, readSchemaLines, readProofLines, readModelLines, readSchema, readProof, readModel}
 use Rattle.stab.specs.Write.{rowLines, nodeValues, nodeLines, schemaText, proofText, modelText}
 use Rattle.stab.specs.LineNumber.{Span, spanFrom, lineSpan, spanned, lineOf, schemaRowLine, proofRowLine, nodeLine, pairLine, LineIs}
-use Rattle.stab.proofs.Texts.Lines.{lacks, full, rowBytes, row-line, row-lacks, lines-full, lines-row, text-lines}
+use Rattle.stab.proofs.Texts.Lines.{full, rowBytes, row-line, row-lacks, lines-full, lines-row, text-lines}
 use Rattle.stab.proofs.Texts.Kinds.{schema-heading-lacks, row-heading-lacks, model-heading-lacks, pair-heading-lacks, schema-lines-are, proof-lines-are, model-lines-are}
 use Rattle.stab.proofs.Texts.ProofRows.{node-heading-lacks}
 use Rattle.stab.proofs.Texts.Outcomes.{passed}
