@@ -9,11 +9,8 @@ use zorambi::{
 /// The paper's record with so many splits before its link, each with a link of its own: a node of a range of one value,
 /// and the rest.
 fn with_splits(splits: i32) -> Record {
-    let schema = Schema {
-        root: 4,
-        least: 1,
-        rows: vec![[2, 0, 2, 0], [3, 0, 2, 0], [7, 0, 2, 0], [6, 1, 2, 0], [4, 2, 3, 0]],
-    };
+    let schema =
+        Schema { root: 4, least: 1, rows: vec![[2, 0, 2, 0], [3, 0, 2, 0], [7, 0, 2, 0], [6, 1, 2, 0], [4, 2, 3, 0]] };
     let mut proof = Proof { rows: vec![[7, 0, 2, 1], [2, 0, 1, 0], [6, 1, 2, 1], [3, 0, 1, 0]], ..Proof::default() };
     proof.push_node([-1, 0, 4, -1, -1, -1, 0], &[4]);
     proof.push_node([0, 2, -1, -1, -1, -1, 0], &[2, 3]);
@@ -105,8 +102,8 @@ fn proof_of(bytes: usize) -> Proof {
         left -= more;
         wide(more)
     };
-    let mut proof = Proof::default();
-    proof.rows = (0..1024).map(|_| std::array::from_fn(|_| number())).collect();
+    let rows = (0..1024).map(|_| std::array::from_fn(|_| number())).collect();
+    let mut proof = Proof { rows, ..Proof::default() };
     for _ in 0..1024 {
         proof.push_node(std::array::from_fn(|_| number()), &[]);
     }
