@@ -70,7 +70,7 @@ static void convert(void) { zorambi_convert(SCHEMA, of_schema[0], of_schema[1], 
 static void next_small(void) { zorambi_next_small(schema, 12, 3, more[0], 12); }
 static void tidy(void) { zorambi_tidy(RECORD, more[0], 4096, more[1], 9216, more[2], 8192, results); }
 static void join(void) { zorambi_join(RECORD, RECORD, more[0], 4096, more[1], 4096, more[2], 9216, more[3], 8192, results); }
-static void begin(void) { zorambi_begin(TABLES, ROOM); }
+static void begin(void) { zorambi_begin(TABLES, ROOM, waiting); }
 static void add(void) { zorambi_add(TABLES, ROOM, row, set, set_len, waiting); }
 static void take_back(void) { zorambi_take_back(TABLES, ROOM, waiting); }
 static void enquire(void) { zorambi_enquire(TABLES, ROOM, row, set, set_len, waiting); }
