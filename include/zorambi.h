@@ -16,11 +16,11 @@
  * zorambi_join; those that grow a tableau and zorambi_find_model; all others, as the check. A thread that calls needs so much besides
  * what is its own. The programs check_proof, check_older and check_model run in a stack of ZORAMBI_STACK_PROGRAM, with arguments and an
  * environment of some KiB in it. */
-#define ZORAMBI_STACK 180224
-#define ZORAMBI_STACK_JOIN 155648
-#define ZORAMBI_STACK_GROW 122880
-#define ZORAMBI_STACK_CHECK 73728
-#define ZORAMBI_STACK_PROGRAM 327680
+#define ZORAMBI_STACK 196608
+#define ZORAMBI_STACK_JOIN 176128
+#define ZORAMBI_STACK_GROW 143360
+#define ZORAMBI_STACK_CHECK 94208
+#define ZORAMBI_STACK_PROGRAM 352256
 
 #ifdef __cplusplus
 extern "C" {
