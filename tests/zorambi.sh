@@ -11,14 +11,17 @@ failed=0
 # A repository of six crates: the program check_proof is made of two of them, check_older of three, the library of two.
 repo=$work/repo
 mkdir -p "$work/kit" "$work/tmp" "$work/record" "$repo/crates/low/src" "$repo/crates/low/must-fail" "$repo/crates/check_proof/src" \
+  "$repo/crates/low/specs" "$repo/crates/low/proofs" \
   "$repo/bindings/rust" "$repo/tools/zorambi/src" "$repo/.cargo" "$repo/tests"
 cp zorambi "$repo/zorambi"
 printf '# NAME: what it depends on\nlow:\nother: low\nzorambi: low\ncheck_proof: low io libc\ncheck_older: low other io\ncheck_model: low\n' >"$repo/crates.txt"
 echo one >"$repo/crates/low/src/lib.rt"
 echo two >"$repo/crates/low/src/more.rt"
 echo three >"$repo/crates/check_proof/src/main.rt"
+echo a definition >"$repo/crates/low/specs/words.antt"
+echo a proof >"$repo/crates/low/proofs/laws.antt"
 echo four >"$repo/tools/zorambi/src/main.rs"
-touch "$repo/Cargo.toml" "$repo/Cargo.lock"
+touch "$repo/Cargo.toml" "$repo/Cargo.lock" "$repo/.cargo/config.toml"
 
 # rt's stand-in notes each proof and makes what it is asked for; `during` is run while it proves.
 cat >"$work/kit/rt" <<'R'
@@ -48,7 +51,7 @@ echo "$package" >>"$at/builds"
 package=$package sh "$at/building" || exit 101
 mkdir -p build/release
 case $package in
-  zorambi-commands) made=zorambi-use text='case $1 in check | model | find | build | test | fuzz | bench) exit 3 ;; help) echo help ;; *) echo wrong >&2; exit 2 ;; esac' ;;
+  zorambi-commands) made=zorambi-use text='case $1 in check | model | find | build | test | fuzz | bench | install) exit 3 ;; help) echo help ;; *) echo wrong >&2; exit 2 ;; esac' ;;
   zorambi-cli) made=zorambi text='echo "$PWD: $*"; [ "$1" != find ] || { echo "$$"; exec sleep 30; }; [ "$2" != refused ]' ;;
   *) exit 0 ;;
 esac
@@ -126,6 +129,10 @@ changed() { # NAME PROOFS BUILDS
 # The library that the kit makes is always the same here, so that the program is built again only where its own sources or kit change.
 echo two more >>"$repo/crates/low/src/more.rt"
 changed "a source edited" 2 "$words"
+echo another definition >"$repo/crates/low/specs/words.antt"
+changed "a definition edited" 2 "$words"
+echo another proof >"$repo/crates/low/proofs/laws.antt"
+changed "a proof edited" 2 "$words"
 echo one >"$repo/crates/low/src/lib.rt.new"
 touch -d '2001-01-01' "$repo/crates/low/src/lib.rt.new"
 mv "$repo/crates/low/src/lib.rt.new" "$repo/crates/low/src/new.rt"
@@ -150,8 +157,10 @@ echo five >>"$repo/tools/zorambi/src/main.rs"
 changed "a file of the tools edited" 0 "$words$program"
 echo six >"$repo/bindings/rust/lib.rs"
 changed "a file of the binding added" 0 "$words$program"
-echo '# a remark' >>"$repo/Cargo.lock"
-changed "the list of packages edited" 0 "$words$program"
+for file in Cargo.lock Cargo.toml .cargo/config.toml; do
+  echo '# a remark' >>"$repo/$file"
+  changed "$file edited" 0 "$words$program"
+done
 echo '# by hand' >>"$repo/build/release/zorambi"
 changed "another program zorambi in its place" 0 "$words$program"
 echo 'an edit' >"$repo/crates/low/must-fail/wrong.edit"
@@ -306,6 +315,13 @@ rm "$repo/target/staticlib/libzorambi.a"
 use bench
 expect "bench" printed "bench in $repo: "
 expect "bench wants the library" ended 0 1 "$words"
+# shellcheck disable=SC2016
+printf '#!/bin/sh\necho "$PROGRAM in $PWD: $*"\n' >"$repo/tools/install.sh"
+chmod +x "$repo/tools/install.sh"
+rm -r "$repo/target/bin"
+use install "a prefix"
+expect "install wants the three programs" ended 0 3 "$words$program"
+expect "install, from where the caller stands" printed "$repo/build/release/zorambi in $from: a prefix"
 
 expect "nothing is left in the temporary folder" [ -z "$(ls -A "$work/tmp")" ]
 expect "at most 200 lines" [ "$(wc -l <zorambi)" -le 200 ]
