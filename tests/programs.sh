@@ -276,6 +276,10 @@ for f in schema.txt proof.txt model.txt; do
   spoil "3,000,000 bytes in $f" $f < <(head -c 3000000 /dev/zero | tr '\0' '7')
   spoil "NUL bytes in $f" $f < <(head -c 300 /dev/zero)
 done
+record "$work/b"
+for f in schema.txt proof.txt; do head -c 65537 /dev/zero >"$work/b/$f"; done
+check_record "$work/b" "both texts too long"
+said_exactly "both texts too long" "refused: schema.txt has over 65,536 bytes (1)"
 spoil "65,000 digits" schema.txt < <((printf 'root least\n'; head -c 65000 /dev/zero | tr '\0' '1'))
 spoil "CR LF in schema.txt" schema.txt < <(printf 'root least\r\n4 1\r\nkind a b c\r\n')
 spoil "no last byte 10" schema.txt < <(printf 'root least\n4 1\nkind a b c\n2 0 2 0')
@@ -423,12 +427,26 @@ done
 
 # ---- wrong use, and the commands that make texts
 
+# What is said: one line that begins with the command's name and, where words are missing, too many or no options, its use as its help has it.
+wrong_use_is_said() { # COMMAND
+  local first use
+  { IFS= read -r first; use=$(cat); } <"$work/err"
+  case $first in
+    "zorambi $1: "*" is missing" | "zorambi $1: one word too many: "* | "zorambi $1: no option "* | "zorambi $1: an empty word where a name is wanted" | \
+      "zorambi $1: "*" is given twice") [ "$use" = "$("$zorambi" help "$1" | head -n 1)" ] ;;
+    "zorambi $1: no such folder: "?* | "zorambi $1: no number of up to 5 digits: "?* | "zorambi $1: rows below 0" | \
+      "zorambi $1: "*": the folder is not empty" | "zorambi: no command '$1'; did you mean '"*"'? 'zorambi help' lists them" | \
+      "zorambi: $1 is a command of ./zorambi in the project's folder") [ -z "$use" ] ;;
+    "use: zorambi COMMAND ..") [ -z "$1" ] && [ "$first"$'\n'"$use" = "$("$zorambi" help)" ] ;;
+    *) false ;;
+  esac
+}
 # Nothing is printed, and what is wrong is said: with the use of the command, or with the nearest command.
 wrong_use() { # WORD...
   local status
   "$zorambi" "$@" >"$work/out" 2>"$work/err"
   status=$?
-  if [ "$status" -eq 2 ] && [ ! -s "$work/out" ] && grep -qE "^(zorambi|use: zorambi)" "$work/err"; then
+  if [ "$status" -eq 2 ] && [ ! -s "$work/out" ] && wrong_use_is_said "${1-}"; then
     passed=$((passed + 1))
   else
     failed=$((failed + 1))
