@@ -49,6 +49,11 @@ not_tidied() { # NAME NUMBERS SAID
 }
 not_tidied "tidy a proof that is none" "4 12 0 0" "refused: a line's form (4) at line 12
 proof.txt:12: 4 8 -1 -1 -1 1 1 5 x"
+# A row that repeats an earlier one is no fault here: the line is that of what the older check refuses.
+record "$work/t"
+sed -i '5s/$/\n3 0 1 0/; s/^4 8 -1 -1 -1 1 1 5 7$/4 8 -1 -1 -1 1 2 5 7/' "$work/t/proof.txt"
+not_tidied "tidy a repeated row and a fault" "14 5 0 0" "refused: a link's bounds: n - by may lie outside its target's (14) at node 5
+proof.txt:13: 4 8 -1 -1 -1 1 2 5 7"
 head -c 65537 /dev/zero >"$work/t/proof.txt"
 not_tidied "tidy a long proof" "1 0 0 0" "refused: proof.txt has over 65,536 bytes (1)"
 sed -i 's/^root/Root/' "$work/t/schema.txt"
