@@ -277,6 +277,29 @@ node 0: rule 0, and, has 0 of 1 children
 0 0 2 0 open
 node 1: rule 2, split, has 0 of 2 children
 " "$work/g"
+mkdir -p "$work/or"
+printf 'root least\n1 0\nkind a b c\n1 0 0 0\n5 0 0 0\n' >"$work/or/schema.txt"
+answers "open at an or and at false" '-1 1 1 -1 -1 -1 0 1
+open
+0 5 0 -1 -1 -1 0 0
+open
+0 5 0 -1 -1 -1 0 0
+open
+' "0 0 0 0 open
+0 0 1 0 open
+node 0: rule 1, or, has 0 of 2 children
+0 0 2 0 open
+node 0: rule 1, or, has 1 of 2 children
+0 0 3 0 closed
+no node wants children
+" "$work/or"
+# Of a word 20 bytes are shown.
+answers "words that are cut" "xxxxxxxxxxyyyyyyyyyy
+xxxxxxxxxxyyyyyyyyyyz
+" "0 0 0 0 open
+no such word: 'xxxxxxxxxxyyyyyyyyyy'; 'help' lists them
+no such word: 'xxxxxxxxxxyyyyyyyyyy...'; 'help' lists them
+" "$work/or"
 "$zorambi" grow "$work/g" <<<help >"$work/out" 2>"$work/err"
 alike "help, its status" 0 $?
 for word in '? ROW' commit back rows open 'save FILE' help; do alike "help on $word" 1 "$(grep -c "^$word " "$work/out")"; done
