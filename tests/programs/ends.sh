@@ -132,7 +132,38 @@ alike "refused on a terminal" "${lines}14 3 0 0"$'\n\e[31mrefused: a void\'s bou
 export NO_COLOR=1
 alike "accepted on a terminal, NO_COLOR" "${lines}0 0 65 3
 accepted: 65 nodes, 3 links" "$(on_a_terminal check records/accepted/rca_zero)"
+# One that is empty counts as none, as no-color.org has it.
+export NO_COLOR=''
+alike "accepted on a terminal, NO_COLOR empty" "${lines}0 0 65 3"$'\n\e[32maccepted: 65 nodes, 3 links\e[0m' "$(on_a_terminal check records/accepted/rca_zero)"
 unset NO_COLOR
+
+# ---- texts behind links out of their folder, in the commands that make texts
+
+mkdir "$work/links"
+ln -s "$PWD/records/tidy/rows_twice/schema.txt" "$PWD/records/tidy/rows_twice/proof.txt" "$PWD/records/wide/adder_zero/wide.txt" "$work/links"
+for words in "find @ 3" "tidy @" "convert @"; do
+  wanted=records/tidy/rows_twice
+  [[ $words != convert* ]] || wanted=records/wide/adder_zero
+  # shellcheck disable=SC2086
+  ends "$words --follow" 0 "$("$zorambi" ${words/@/$wanted})" "" "$zorambi" ${words/@/$work/links} --follow
+  # shellcheck disable=SC2086
+  "$zorambi" ${words/@/$work/links} >"$work/out" 2>"$work/err"
+  alike "$words without --follow" 1 $?
+  said "$words without --follow" "is a link out of its folder, to "
+done
+ln -sf "$PWD/records/tidy/rows_once/schema.txt" "$PWD/records/tidy/rows_once/proof.txt" "$work/links"
+once=records/tidy/rows_once
+"$zorambi" join "$once" "$once" "$work/linked"
+ends "join --follow" 0 "" "" "$zorambi" join --follow "$work/links" "$work/links" "$work/followed"
+alike "join --follow, what is written" "$(cat "$work"/linked/*)" "$(cat "$work"/followed/*)"
+ends "join without --follow, the second" 1 "${lines}3 1 0 0" "refused: schema.txt is a link out of its folder, to $PWD/$once/schema.txt, \
+which is followed only with --follow (3)
+in the second record:
+$work/links/" "$zorambi" join "$once" "$work/links" "$work/unfollowed"
+ends "grow --follow" 0 "$("$zorambi" grow "$once" </dev/null)" "" "$zorambi" grow --follow "$work/links" </dev/null
+ends "grow without --follow" 1 "${lines}3 1 0 0" "refused: schema.txt is a link out of its folder, to $PWD/$once/schema.txt, \
+which is followed only with --follow (3)" "$zorambi" grow "$work/links" </dev/null
+rm -r "$work/links" "$work/linked" "$work/followed"
 
 # ---- objects, quiet, help, version
 
