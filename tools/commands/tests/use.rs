@@ -23,7 +23,8 @@ fn right_words() {
 
 #[test]
 fn help() {
-    for (words, start) in [(&["help"][..], "use: zorambi COMMAND ..\n"), (&["check", "--help"], "use: zorambi check [")] {
+    for (words, start) in [(&["help"][..], "use: zorambi COMMAND ..\n"), (&["check", "--help"], "use: zorambi check [")]
+    {
         let output = command(words).output().unwrap();
         let (status, printed, said) = ended(&output);
         assert_eq!((status, said), (Some(0), ""), "{words:?}");
