@@ -209,6 +209,18 @@ fn older_records() {
     }
     let totals = "10 records: 3 accepted, 7 refused; of these, 5 older: 2 accepted, 3 refused";
     assert_eq!(lines(&output).last().unwrap(), totals);
+    // The same counts, as numbers, and the four numbers of a record.
+    let json = scratch("older table").join("t.json");
+    catalogue(&records, &["--json", json.to_str().unwrap()]);
+    let program = "import json, sys\n\
+                   *records, end = map(json.loads, open(sys.argv[1]))\n\
+                   print([end[key] for key in ('records', 'accepted', 'refused', 'older_accepted', 'older_refused',\n\
+                   \x20   'not_listed', 'not_followed', 'listed_elsewhere')])\n\
+                   print([records[1][key] for key in ('record', 'answer', 'place', 'nodes', 'links', 'check')])\n";
+    let counts = "[10, 3, 7, 2, 3, 0, 0, 0]\n['older/line', 4, 4, 0, 0, 'older']\n";
+    assert_eq!(python(program, &[&json]), counts);
+    let accepted = program.replace("records[1]", "records[2]");
+    assert!(python(&accepted, &[&json]).ends_with("\n['older/once', 0, 0, 7, 1, 'older']\n"));
 }
 
 #[test]
@@ -298,8 +310,14 @@ fn wrong_use() {
         let output = command(&["catalogue"]).args(words).output().unwrap();
         assert_eq!(status(&output), 2, "{words:?}");
         assert!(output.stdout.is_empty(), "{words:?}");
-        let first = errors(&output).lines().next().unwrap().to_string();
-        assert!(first.starts_with("zorambi catalogue: ") && first.contains(why), "{words:?}: {first}");
+        let said = errors(&output);
+        let lines: Vec<&str> = said.lines().collect();
+        assert!(lines[0].starts_with("zorambi catalogue: ") && lines[0].contains(why), "{words:?}: {said}");
+        // Words that the table of commands knows to be wrong are told with the use.
+        let by_the_table = ["is missing", "wants a FILE", "too many", "no option", "given twice"];
+        let with_use = by_the_table.iter().any(|part| why.contains(part));
+        assert_eq!(lines.len(), 1 + usize::from(with_use), "{words:?}: {said}");
+        assert!(!with_use || lines[1].starts_with("use: zorambi catalogue DIR [--csv FILE] "), "{words:?}: {said}");
     }
     assert_eq!(names(&folder), ["empty", "record"]);
 }

@@ -338,6 +338,67 @@ fn a_table_on_a_full_disk() {
     assert_eq!(left, [""; 0]);
 }
 
+/// A table that reaches its file only at the end, when what is left is flushed: told, and nothing of it is left.
+#[test]
+fn a_table_that_cannot_be_flushed() {
+    let folder = scratch("flushed");
+    let records = folder.join("records");
+    for number in 0..8 {
+        put(&records.join(number.to_string()), SCHEMA, PROOF);
+    }
+    for (option, name) in [("--csv", "t.csv"), ("--json", "t.json")] {
+        let table = folder.join(name);
+        // A file may have 1,024 bytes.
+        let mut shell = Command::new("sh");
+        shell.args(["-c", "trap '' XFSZ; ulimit -f 1; exec \"$@\"", "sh"]).arg(common::program());
+        let output = shell.arg("catalogue").arg(&records).arg(option).arg(&table).output().unwrap();
+        assert_eq!(status(&output), 2);
+        let why = format!("zorambi catalogue: {} cannot be written: File too large (os error 27)\n", table.display());
+        assert_eq!(errors(&output), why);
+        assert_eq!(names(&folder), ["records"]);
+    }
+}
+
+/// A run whose standard output nobody reads yet, so that it waits before its end; it has as many threads as it is asked for and one
+/// more.
+fn waiting(records: &Path, words: &[&str], jobs: usize) -> std::process::Child {
+    let mut command = command(&["catalogue"]);
+    command.arg(records).args(words).args(["--jobs", &jobs.to_string()]).stdout(Stdio::piped()).stderr(Stdio::piped());
+    let child = command.spawn().unwrap();
+    let tasks = format!("/proc/{}/task", child.id());
+    let started = Instant::now();
+    while fs::read_dir(&tasks).unwrap().count() != jobs + 1 {
+        assert!(started.elapsed() < Duration::from_secs(60), "never {jobs} threads and one more");
+        std::thread::sleep(Duration::from_millis(10));
+    }
+    child
+}
+
+/// As many threads as are asked for; and a file that takes the table's name while it is made stays as it is.
+#[test]
+fn what_came_meanwhile() {
+    let folder = scratch("meanwhile");
+    let records = folder.join("records");
+    for number in 0..3000 {
+        put(&records.join(format!("{number:04}")), SCHEMA, PROOF);
+    }
+    let table = folder.join("t.csv");
+    for jobs in [1, 3, 5] {
+        let child = waiting(&records, &["--csv", table.to_str().unwrap()], jobs);
+        fs::write(&table, "another's\n").unwrap();
+        let output = child.wait_with_output().unwrap();
+        assert_eq!(status(&output), 2);
+        let why = format!(
+            "zorambi catalogue: {} is there and is no table of a catalogue: it is not written over\n",
+            table.display()
+        );
+        assert_eq!(errors(&output), why);
+        assert_eq!(fs::read(&table).unwrap(), b"another's\n");
+        assert_eq!(names(&folder), ["records", "t.csv"]);
+        fs::remove_file(&table).unwrap();
+    }
+}
+
 /// What is there is written over only if it is a table or empty, and then as a whole.
 #[test]
 fn what_a_table_does_not_write_over() {

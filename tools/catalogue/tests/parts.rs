@@ -239,7 +239,7 @@ fn by_another_library() {
     // In one of another library it is not.
     let another = zorambi::IDENTITY.replace("library ", "library 0");
     fs::write(&table, wrong.replace(zorambi::IDENTITY, &another)).unwrap();
-    let output = catalogue(&records, &since);
+    let output = noted(&records, &since);
     assert_eq!(errors(&output), format!("the earlier table is another library's ({another}): everything is checked\n"));
     let words = format!("unchanged and with another verdict, {ACCEPTED}; before: accepted");
     assert_eq!(said(&output, &records.join("a")), words);

@@ -38,8 +38,19 @@ pub fn run<Word: AsRef<OsStr>>(words: &[Word]) -> Output {
     command(words).output().unwrap()
 }
 
-/// `catalogue` of a folder, with further words.
+/// `catalogue` of a folder, with further words. Of verdicts nothing is said on standard error; of a failure one line.
 pub fn catalogue(folder: &Path, words: &[&str]) -> Output {
+    let output = noted(folder, words);
+    let said = errors(&output);
+    match status(&output) {
+        2 => assert!(said.starts_with("zorambi catalogue: ") && said.lines().count() == 1, "{words:?}: {said}"),
+        _ => assert_eq!(said, "", "{words:?}"),
+    }
+    output
+}
+
+/// The same where standard error may have a note.
+pub fn noted(folder: &Path, words: &[&str]) -> Output {
     command(&["catalogue"]).arg(folder).args(words).output().unwrap()
 }
 
