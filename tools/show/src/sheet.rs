@@ -57,8 +57,13 @@ impl Sheet {
 
     /// Words, in as many lines as they need.
     pub fn words(&mut self, words: &str) {
-        for line in wrapped(words, self.width()) {
-            self.line(line);
+        self.indented("", words);
+    }
+
+    /// The same, with this before each line.
+    pub fn indented(&mut self, before: &str, words: &str) {
+        for line in wrapped(words, self.width().saturating_sub(before.chars().count())) {
+            self.line(format!("{before}{line}"));
         }
     }
 
