@@ -40,6 +40,9 @@ printf '0 carry\n1 a b\n\0332\n' >"$work/s/names.txt"
 shows "names" 0 "names.txt:2: 1 a b: not a line NUMBER NAME
 names.txt:3: \\x1b2: not a line NUMBER NAME" "  [8] = ¬carry(n)" "$work/s"
 rm "$work/s/names.txt"
+mkdir "$work/s/names.txt"
+shows "a folder for names.txt" 0 "names.txt is a folder, not a regular file: no name is taken from it" "  [8] = ¬p0(n)" "$work/s"
+rmdir "$work/s/names.txt"
 # Texts that cannot be read are told with their refusal, and what can be shown is.
 rm "$work/s/proof.txt"
 shows "a schema alone" 0 "" "well formed" "$work/s"

@@ -1,5 +1,5 @@
-//! The lines that are shown. In plain letters only the schema is text of the language; all else stands in comments, so that the whole
-//! can be given to `zorambi compile`.
+//! The lines that are shown. In plain letters only the schema is text of the language; all else stands in comments, so
+//! that the whole can be given to `zorambi compile`.
 
 use crate::notation::Style;
 
@@ -80,8 +80,8 @@ impl Sheet {
     }
 }
 
-/// Words in lines of at most so many columns; a word that is longer has a line of its own. A number stays with the word before it:
-/// `row 7` is not parted.
+/// Words in lines of at most so many columns; a word that is longer has a line of its own. A number stays with the word
+/// before it: `row 7` is not parted.
 pub fn wrapped(words: &str, width: usize) -> Vec<String> {
     let (mut lines, mut rest) = (Vec::new(), words);
     loop {

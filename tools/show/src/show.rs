@@ -290,9 +290,8 @@ impl<'a> Showing<'a> {
         let formulas: Vec<i32> = named.iter().map(|row| *row as i32).collect();
         let mut shared = notation.shared(&formulas);
         shared.extend(&named);
-        let all = shared.clone();
         self.heading("rows of the tableau");
-        listed(&all, &shared, &notation, refused, &mut self.sheet);
+        listed(&shared, &shared, &notation, refused, &mut self.sheet);
     }
 
     fn tree(&mut self, proof: &Proof, bounds: &[Option<Bound>], rows: &[Row], refused: Option<(usize, String)>) {

@@ -1,5 +1,5 @@
-//! Any bytes are shown: nothing panics, nothing goes on for ever, no byte of a record reaches the terminal as anything but plain text,
-//! and the verdict that is shown is the library's.
+//! Any bytes are shown: nothing panics, nothing goes on for ever, no byte of a record reaches the terminal as anything
+//! but plain text, and the verdict that is shown is the library's.
 
 mod common;
 

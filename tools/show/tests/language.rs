@@ -1,5 +1,6 @@
-//! What is shown of a schema means the schema: the text is read again by a reader of the language that is written here, from its
-//! definition alone, and gives the formula of the table. So are parentheses and precedence held to the language.
+//! What is shown of a schema means the schema: the text is read again by a reader of the language that is written here,
+//! from its definition alone, and gives the formula of the table. So are parentheses and precedence held to the
+//! language.
 
 mod common;
 
