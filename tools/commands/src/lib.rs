@@ -5,6 +5,7 @@ mod catalogue;
 mod checks;
 mod circuits;
 mod help;
+mod show;
 mod texts;
 mod words;
 
@@ -66,6 +67,7 @@ pub fn commands() -> &'static [&'static Command] {
     &[
         &checks::CHECK,
         &checks::MODEL,
+        &show::SHOW,
         &catalogue::CATALOGUE,
         &catalogue::MERGE,
         &texts::FIND,
