@@ -1,6 +1,5 @@
 // What is remembered of comparisons: for each row the smallest that it was found to agree with.
 use crate::numbers::shifts_fit;
-use formula::kept::kept_at;
 ghost use mathlib.Core.Path.{_≡_};
 ghost use Prim.Native.Nat.{_+_, _*_, _<_, _^_};
 ghost use lib.Dec.{eqb};
@@ -11,10 +10,10 @@ ghost use Rattle.classes.specs.Agreed.{standIn, joinedIn};
 
 // The row that stands for row r.
 fn stand_in(agreed: &[u32], r: usize) -> usize
-    requires { ⌜ r < 1024 ⌝ }
+    requires { ⌜ (r < 1024) × (r < length (now agreed)) ⌝ }
     ensures { λ v. ⌜ (v ≡ standIn (now (agreed .entry)) r) × (v + 1 < 2 ^ 32) ⌝ }
 {
-    let number = kept_at(agreed, r);
+    let number = agreed[r] as usize;
     if number == 0 {
         return r;
     }
@@ -23,7 +22,7 @@ fn stand_in(agreed: &[u32], r: usize) -> usize
 
 // Rows f and g are remembered to agree, f lowered by up - down: one row stands for both, and their shifts fit.
 pub fn is_known(forms: &[u32], agreed: &[u32], up: usize, down: usize, f: usize, g: usize) -> bool
-    requires { ⌜ (up < 2 ^ 32) × (down < 2 ^ 32) × (f < 1024) × (g < 1024) ⌝ }
+    requires { ⌜ (up < 2 ^ 32) × (down < 2 ^ 32) × (f < 1024) × (g < 1024) × (f < length (now agreed)) × (g < length (now agreed)) ⌝ }
     ensures { λ v. ⌜ v ≡ (eqb (standIn (now (agreed .entry)) f) (standIn (now (agreed .entry)) g) and fitting up down (getD (now (forms .entry)) (4 * f + 1) 0) (getD (now (forms .entry)) (4 * g + 1) 0)) ⌝ }
 {
     if stand_in(agreed, f) != stand_in(agreed, g) {

@@ -61,16 +61,16 @@ body-below c =
     let b = start c in
     omega (arith, c .natural-in2 .ensures, body-less (rows b) (b .args .on) (formed b) _ (iterates b .1))
 
-agrees-requires : tie.Need-agrees-requires
+agrees-anew-requires : tie.Need-agrees-anew-requires
 unfolding column
-agrees-requires d κs =
+agrees-anew-requires d κs =
     let c = d .before in
     let b = start c in
     let small = offset-small _ (limit-offset (rows b) (b .args .on) (formed b) _ (iterates b .1)) in
     ((omega (arith, c .before .before .natural-in .ensures, small), omega (arith, c .before .under-in .ensures, small)), ((b .pre .0 .0, omega (arith, body-below c, b .pre .0 .1), b .pre .0 .2, b .pre .0 .3, b .pre .0 .5), b .pre .1 .1))
 
 same-length : tie.Need-same-length
-same-length c = c .before .before .agrees .kept .1 .1 .1 .1 .1 .1 .1 .1 .0
+same-length c = c .before .before .agrees-anew .kept .1 .1 .1 .1 .1 .1 .1 .1 .0
 
 returns-2 : tie.Need-returns-2
 unfolding column
@@ -79,13 +79,13 @@ returns-2 c =
     let n = a .before .before in
     let e = n .before .before .before in
     let b = start n in (
-      a .agrees .ensures .0
+      a .agrees-anew .ensures .0
           ∙ ap₂ (λ (k : ℤ) (m : ℕ). alike (lower k (ground (tree (rows b) m))) (ground (tree (rows b) (b .args .z))))
           (ap₂ (λ (m n : ℕ). pos m -ℤ pos n) (n .before .before .natural-in .ensures) (n .before .under-in .ensures) ∙ whole-parts (rows b (b .args .on) .c))
           (n .natural-in2 .ensures)
           ∙ body-met (rows b (b .args .on) .c) _ _ (body-fixed (rows b) (b .args .on) (formed b) _ (iterates b .1))
           (bit-zero _ (sym (b .pre .0 .4 (b .args .z) (b .pre .0 .2) .loose) ∙ sym (e .before .kept-at .ensures .0) ∙ e .if1 .left)),
-      a .agrees .ensures .1,
+      a .agrees-anew .ensures .1,
     )
 
 pub is-instance-spec : {M : Type 1} → statement M
@@ -99,6 +99,6 @@ is-instance-spec =
     natural-in-requires
     under-in-requires
     natural-in-requires-2
-    agrees-requires
+    agrees-anew-requires
     same-length
     returns-2)

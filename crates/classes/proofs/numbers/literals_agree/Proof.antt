@@ -1,139 +1,151 @@
 use borrow.Author.Needs.{needs}
-use Prim.Native.Nat.{ℕ}
 use native.Mathlib.Omega.{arith}
-use mathlib.Core.Path.{_≡_, sym, _∙_, ap}
-use lib.IntN.{ℤ, pos, _-ℤ_}
+use mathlib.Core.Path.{_≡_, sym, _∙_, ap, ap₂}
+use lib.IntN.{ℤ, pos, _+ℤ_, _-ℤ_}
 use Rattle.stab.specs.Basic.{eqZ, nat}
-use Rattle.stab.specs.Formula.{Row, joined}
-use Rattle.formula.specs.Column.{column}
-use Rattle.classes.proofs.Meets.{and-none, less-is-more, added-f, added-g, symbols-differ, nothings-met, nothing-other, other-nothing, others-met}
+use Rattle.stab.specs.Formula.{Row}
+use Rattle.signed.proofs.Signs.{read-back}
+use Rattle.formula.specs.Cells.{rowOf}
+use Rattle.formula.specs.declared.cells.Cells.{Cells}
+use Rattle.classes.proofs.Meets.{and-none, less-is-more, symbols-differ, nothings-met, nothing-other, other-nothing, others-met}
+use Rattle.classes.proofs.Shifts.{offset-read}
 use Rattle.classes.proofs.numbers.literals_agree.Statement.{statement}
 use Rattle.classes.proofs.numbers.literals_agree.Tie as tie
-
-abbrev rows : tie.Start → ℕ → Row
-rows b = joined (b .args .schema .now) (b .args .s) (b .args .proof .now)
 
 abbrev by : tie.Start → ℤ
 by b = pos (b .args .up) -ℤ pos (b .args .down)
 
-natural-in-requires : tie.Need-natural-in-requires
-natural-in-requires c κs = search needs
+-- a column of a row by the columns that were read
+a-of : (w : Cells) {r : Row} → rowOf w ≡ r → nat (w .a) ≡ nat (r .a)
+unfolding rowOf
+a-of w e = ap (λ (u : Row). nat (u .a)) e
 
-natural-in-requires-2 : tie.Need-natural-in-requires-2
-natural-in-requires-2 c κs = search needs
+b-of : (w : Cells) {r : Row} → rowOf w ≡ r → nat (w .b) ≡ nat (r .b)
+unfolding rowOf
+b-of w e = ap (λ (u : Row). nat (u .b)) e
+
+c-of : (w : Cells) {r : Row} → rowOf w ≡ r → w .c ≡ r .c
+unfolding rowOf
+c-of w e = ap (λ (u : Row). u .c) e
+
+natural-requires : tie.Need-natural-requires
+natural-requires c κs = search needs
+
+natural-requires-2 : tie.Need-natural-requires-2
+natural-requires-2 c κs = search needs
 
 -- ---- symbols
 
+abbrev start : tie.After-natural2 → tie.Start
+start c = c .before .before .before .before
+
+symbol-x : (c : tie.After-natural2) → c .before .before .natural .result ≡ nat (start c .args .x .a)
+symbol-x c =
+    let n = c .before .before in
+    n .natural .ensures ∙ ap nat (read-back (start c .args .x .a) (n .before .struct-told .given .1 .0 .1))
+
+symbol-y : (c : tie.After-natural2) → c .natural2 .result ≡ nat (start c .args .y .a)
+symbol-y c = c .natural2 .ensures ∙ ap nat (read-back (start c .args .y .a) (c .before .struct-told2 .given .1 .0 .1))
+
 returns : tie.Need-returns
-unfolding column
-returns c =
+returns c rows f g ex ey wf wg same p l =
     let d = c .before in
-    let b = d .before .before in
-    let p = b .pre .1 in
     sym
-    (symbols-differ (rows b) (by b) _ _ (p .0 .0) (p .0 .1) (p .1 .0) (p .1 .1 .0) (p .1 .1 .1)
-    (λ e. c .if1 .taken (d .before .natural-in .ensures ∙ e ∙ sym (d .natural-in2 .ensures))))
+    (symbols-differ rows (by (start d)) f g wf wg same p l
+    (λ e. c .if1 .taken (symbol-x d ∙ a-of (start d .args .x) ex ∙ e ∙ sym (symbol-y d ∙ a-of (start d .args .y) ey))))
 
-natural-in-requires-3 : tie.Need-natural-in-requires-3
-natural-in-requires-3 c κs = search needs
+natural-requires-3 : tie.Need-natural-requires-3
+natural-requires-3 c κs = search needs
 
-natural-in-requires-4 : tie.Need-natural-in-requires-4
-natural-in-requires-4 c κs = search needs
+natural-requires-4 : tie.Need-natural-requires-4
+natural-requires-4 c κs = search needs
 
 -- ---- where what both are on has been read
 
-abbrev begin : tie.After-natural-in4 → tie.Start
-begin c = c .before .before .before .before .before
+abbrev symbols : tie.After-natural4 → tie.After-natural2
+symbols c = c .before .before .before .before .before
 
-one-symbol : (c : tie.After-natural-in4) → let b = begin c in nat (rows b (b .args .f) .a) ≡ nat (rows b (b .args .g) .a)
-unfolding column
-one-symbol c =
-    let e = c .before .before in
-    sym (e .before .before .natural-in .ensures) ∙ e .if1 .left ∙ e .before .natural-in2 .ensures
+abbrev begin : tie.After-natural4 → tie.Start
+begin c = start (symbols c)
 
-base-f : (c : tie.After-natural-in4) → let b = begin c in c .before .natural-in3 .result ≡ nat (rows b (b .args .f) .b)
-unfolding column
-base-f c = c .before .natural-in3 .ensures
+one-symbol : (c : tie.After-natural4) → nat (begin c .args .x .a) ≡ nat (begin c .args .y .a)
+one-symbol c = sym (symbol-x (symbols c)) ∙ c .before .before .before .before .if1 .left ∙ symbol-y (symbols c)
 
-base-g : (c : tie.After-natural-in4) → let b = begin c in c .natural-in4 .result ≡ nat (rows b (b .args .g) .b)
-unfolding column
-base-g c = c .natural-in4 .ensures
+base-x : (c : tie.After-natural4) → c .before .before .natural3 .result ≡ nat (begin c .args .x .b)
+base-x c =
+    let n = c .before .before in
+    n .natural3 .ensures ∙ ap nat (read-back (begin c .args .x .b) (n .before .struct-told3 .given .1 .1 .0 .1))
+
+base-y : (c : tie.After-natural4) → c .natural4 .result ≡ nat (begin c .args .y .b)
+base-y c = c .natural4 .ensures ∙ ap nat (read-back (begin c .args .y .b) (c .before .struct-told4 .given .1 .1 .0 .1))
 
 -- ---- a number of its own
 
 returns-2 : tie.Need-returns-2
-returns-2 c =
+returns-2 c rows f g ex ey wf wg same p l =
     let d = c .before .before in
-    let b = begin d in
-    let p = b .pre .1 in
     sym
-    (nothing-other (rows b) (by b) _ _ (p .0 .0) (p .0 .1) (p .1 .0) (p .1 .1 .0) (p .1 .1 .1) (one-symbol d)
-    (sym (base-f d) ∙ c .before .if2 .taken)
-    (λ e. c .if3 .taken (base-g d ∙ e)))
+    (nothing-other rows (by (begin d)) f g wf wg same p l (sym (a-of (begin d .args .x) ex) ∙ one-symbol d ∙ a-of (begin d .args .y) ey)
+    (sym (b-of (begin d .args .x) ex) ∙ sym (base-x d) ∙ c .before .if2 .taken)
+    (λ e. c .if3 .taken (base-y d ∙ b-of (begin d .args .y) ey ∙ e)))
 
 is-raised-requires : tie.Need-is-raised-requires
-unfolding column
 is-raised-requires c κs =
-    let b = begin (c .before .before) in
-    let p = b .pre .1 in
-    ((omega (arith, b .pre .0), omega (arith, b .pre .0), omega arith), ((omega arith, omega arith), (added-f (rows b) (by b) _ _ (p .0 .0) (p .0 .1) (p .1 .0) (p .1 .1 .0) (p .1 .1 .1), added-g (rows b) (by b) _ _ (p .0 .0) (p .0 .1) (p .1 .0) (p .1 .1 .0) (p .1 .1 .1))))
+    let p = begin (c .before .before .before .before) .pre in
+    ((omega arith, omega arith), (offset-read _ (c .before .struct-told5 .given .1 .1 .1 .0 .1) (p .2), offset-read _ (c .struct-told6 .given .1 .1 .1 .0 .1) (p .3)))
 
 returns-3 : tie.Need-returns-3
-unfolding column
-returns-3 c =
-    let e = c .before in
+returns-3 c rows f g ex ey wf wg same p l =
+    let t = c .before in
+    let e = t .before .before in
     let d = e .before .before in
-    let b = begin d in
-    let p = b .pre .1 in
+    let a = begin d .args in
     c .is-raised .ensures
-    ∙ ap (λ (z : ℤ). eqZ z (rows b (b .args .g) .c)) (and-none (rows b (b .args .f) .c))
+    ∙ ap₂ (λ (z w : ℤ). eqZ (z +ℤ (pos 0 -ℤ pos 0)) w) (read-back (a .x .c) (t .before .struct-told5 .given .1 .1 .1 .0 .1) ∙ c-of (begin d .args .x) ex) (read-back (a .y .c) (t .struct-told6 .given .1 .1 .1 .0 .1) ∙ c-of (begin d .args .y) ey)
+    ∙ ap (λ (z : ℤ). eqZ z (rows g .c)) (and-none (rows f .c))
     ∙ sym
-    (nothings-met (rows b) (by b) _ _ (p .0 .0) (p .0 .1) (p .1 .0) (p .1 .1 .0) (p .1 .1 .1) (one-symbol d)
-    (sym (base-f d) ∙ e .before .if2 .taken)
-    (sym (base-g d) ∙ e .if3 .left))
+    (nothings-met rows (by (begin d)) f g wf wg same p l (sym (a-of (begin d .args .x) ex) ∙ one-symbol d ∙ a-of (begin d .args .y) ey)
+    (sym (b-of (begin d .args .x) ex) ∙ sym (base-x d) ∙ e .before .if2 .taken)
+    (sym (b-of (begin d .args .y) ey) ∙ sym (base-y d) ∙ e .if3 .left))
 
 -- ---- a number added to n or i
 
 returns-4 : tie.Need-returns-4
-returns-4 c =
+returns-4 c rows f g ex ey wf wg same p l =
     let d = c .before .before in
-    let b = begin d in
-    let p = b .pre .1 in
     sym
-    (other-nothing (rows b) (by b) _ _ (p .0 .0) (p .0 .1) (p .1 .0) (p .1 .1 .0) (p .1 .1 .1) (one-symbol d)
-    (λ e. c .before .if2 .left (base-f d ∙ e))
-    (sym (base-g d) ∙ c .if4 .taken))
+    (other-nothing rows (by (begin d)) f g wf wg same p l (sym (a-of (begin d .args .x) ex) ∙ one-symbol d ∙ a-of (begin d .args .y) ey)
+    (λ e. c .before .if2 .left (base-x d ∙ b-of (begin d .args .x) ex ∙ e))
+    (sym (b-of (begin d .args .y) ey) ∙ sym (base-y d) ∙ c .if4 .taken))
 
 is-raised-requires-2 : tie.Need-is-raised-requires-2
-unfolding column
 is-raised-requires-2 c κs =
-    let b = begin (c .before .before) in
-    let p = b .pre .1 in
-    ((omega (arith, b .pre .0), omega (arith, b .pre .0), omega arith), ((b .pre .0 .3, b .pre .0 .2), (added-f (rows b) (by b) _ _ (p .0 .0) (p .0 .1) (p .1 .0) (p .1 .1 .0) (p .1 .1 .1), added-g (rows b) (by b) _ _ (p .0 .0) (p .0 .1) (p .1 .0) (p .1 .1 .0) (p .1 .1 .1))))
+    let p = begin (c .before .before .before .before) .pre in
+    ((p .1, p .0), (offset-read _ (c .before .struct-told7 .given .1 .1 .1 .0 .1) (p .2), offset-read _ (c .struct-told8 .given .1 .1 .1 .0 .1) (p .3)))
 
 returns-5 : tie.Need-returns-5
-unfolding column
-returns-5 c =
-    let e = c .before in
+returns-5 c rows f g ex ey wf wg same p l =
+    let t = c .before in
+    let e = t .before .before in
     let d = e .before .before in
-    let b = begin d in
-    let p = b .pre .1 in
+    let a = begin d .args in
     c .is-raised2 .ensures
-    ∙ ap (λ (z : ℤ). eqZ z (rows b (b .args .g) .c)) (less-is-more (rows b (b .args .f) .c) (b .args .up) (b .args .down))
+    ∙ ap₂ (λ (z w : ℤ). eqZ (z +ℤ (pos (a .down) -ℤ pos (a .up))) w) (read-back (a .x .c) (t .before .struct-told7 .given .1 .1 .1 .0 .1) ∙ c-of (begin d .args .x) ex) (read-back (a .y .c) (t .struct-told8 .given .1 .1 .1 .0 .1) ∙ c-of (begin d .args .y) ey)
+    ∙ ap (λ (z : ℤ). eqZ z (rows g .c)) (less-is-more (rows f .c) (a .up) (a .down))
     ∙ sym
-    (others-met (rows b) (by b) _ _ (p .0 .0) (p .0 .1) (p .1 .0) (p .1 .1 .0) (p .1 .1 .1) (one-symbol d)
-    (λ h. e .before .if2 .left (base-f d ∙ h))
-    (λ h. e .if4 .left (base-g d ∙ h)))
+    (others-met rows (by (begin d)) f g wf wg same p l (sym (a-of (begin d .args .x) ex) ∙ one-symbol d ∙ a-of (begin d .args .y) ey)
+    (λ h. e .before .if2 .left (base-x d ∙ b-of (begin d .args .x) ex ∙ h))
+    (λ h. e .if4 .left (base-y d ∙ b-of (begin d .args .y) ey ∙ h)))
 
 pub literals-agree-spec : {M : Type 1} → statement M
 literals-agree-spec =
     tie.close
     (tie.spec
-    natural-in-requires
-    natural-in-requires-2
+    natural-requires
+    natural-requires-2
     returns
-    natural-in-requires-3
-    natural-in-requires-4
+    natural-requires-3
+    natural-requires-4
     returns-2
     is-raised-requires
     returns-3
