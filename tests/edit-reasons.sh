@@ -1,9 +1,10 @@
 #!/usr/bin/env bash
 # Why the must-fail edits were refused, by the logs that `rt ci` or `rt must-fail` left. An edit shows something only if
 # a fact no longer holds with it. One that takes away a name which the proof uses is refused too, whatever the name
-# said: so an edit fails here if its first error says that a name is gone. An edit may have a wrong answer of each of
-# several functions, which are proved each by itself: of every function that it names, in a line "# fn NAME: ..", it is
-# asked that its own proof is refused, and not for such a reason. Run from anywhere; tries nothing itself.
+# said: so an edit fails here if its first error says that a name is gone. An edit may have several wrong answers, each
+# with a line that says what refuses it: "# fn NAME: .." a function, which is proved by itself, or
+# "# theorem FILE NAME: .." a theorem of the crate's. Of each it is asked that its own proof is refused, and not for such
+# a reason. Run from anywhere; tries nothing itself.
 set -u
 cd "$(dirname "$0")/.." || exit 2
 gone='that can be named from here|to be named from here|is not in scope|is not declared|not declared in|has no field|has no member|has no module|is no module|no module is found|does not export|cannot find (type|value)'
@@ -23,14 +24,13 @@ first_error() { # LOG
     END { print error != "" ? error : note }' "$1"
 }
 
-# The first error in a function's own proof, or that its search finds no proof where it has no proof file. That a callee is not proved, or
-# that what was refused is cited further down, is no error of its own.
-error_of() { # LOG FUNCTION
-  local path=${2#*::}
-  awk -v file="/proofs/${path//:://}/Proof.antt:" -v search="fn $2: no proof: " '
-    index($0, search) == 1 && /`search` does not close/ { print; exit }
+# The first error in a file of proofs, of one theorem where it is named. That a callee is not proved, or that what was
+# refused is cited further down, is no error of its own.
+error_in() { # LOG FILE [THEOREM]
+  awk -v file="/$2:" -v start="${3:+\`$3\`: }" '
     index($0, file) && (at = index($0, ": error: ")) && !/was not admitted/ {
       error = substr($0, at + 9)
+      if (substr(error, 1, length(start)) != start) next
       # a long name of a record ends the line
       if ((getline next_line) > 0 && next_line ~ /^  has no /) error = error next_line
       print error
@@ -38,19 +38,30 @@ error_of() { # LOG FUNCTION
     }' "$1"
 }
 
-# Every function that the edit names is refused, and not because a name is gone.
-functions_refused() { # EDIT LOG NAME
-  local function error ok=0
-  while read -r function; do
-    error=$(error_of "$2" "$function")
+# The first error in a function's own proof, or that its search finds no proof where it has no proof file.
+error_of() { # LOG FUNCTION
+  local path=${2#*::} unfound
+  unfound=$(grep -m 1 -E "^fn $2: no proof: .*\`search\` does not close" "$1")
+  if [ -n "$unfound" ]; then
+    echo "$unfound"
+  else
+    error_in "$1" "proofs/${path//:://}/Proof.antt"
+  fi
+}
+
+# All that the edit names is refused, and not because a name is gone.
+named_refused() { # EDIT LOG NAME
+  local kind what theorem error ok=0
+  while read -r kind what theorem; do
+    if [ "$kind" = fn ]; then error=$(error_of "$2" "$what"); else error=$(error_in "$2" "$what" "$theorem"); fi
     if [ -z "$error" ]; then
-      wrong "$3" "$function is not refused"
+      wrong "$3" "$what${theorem:+ $theorem} is not refused"
       ok=1
     elif [[ $error =~ $gone ]]; then
-      wrong "$3" "of the proof of $function only a name is gone: ${error:0:200}"
+      wrong "$3" "of the proof of $what${theorem:+ $theorem} only a name is gone: ${error:0:200}"
       ok=1
     fi
-  done < <(sed -n 's/^# fn \([a-z0-9_:]*\): .*/\1/p' "$1")
+  done < <(sed -nE 's/^# (fn [A-Za-z0-9_:]+|theorem [^ ]+ [^ ]+): .*/\1/p' "$1")
   return $ok
 }
 
@@ -67,7 +78,7 @@ for edit in crates/*/must-fail/*.edit; do
     wrong "$name" "no error in $log"
   elif [[ $error =~ $gone ]]; then
     wrong "$name" "only a name of the proof is gone: ${error:0:200}"
-  elif functions_refused "$edit" "$log" "$name"; then
+  elif named_refused "$edit" "$log" "$name"; then
     passed=$((passed + 1))
   fi
 done

@@ -4,7 +4,7 @@
 Every name in backquotes in docs/TOUR.md, READING.md, THEOREMS.md, DECISIONS.md and WRONG_ANSWERS.md that looks like a file, a definition,
 a theorem, a function or an edit has to exist in the tree:
 
-- `name/NAME` in WRONG_ANSWERS.md is an edit, crates/name/must-fail/NAME.edit;
+- `name/NAME` in WRONG_ANSWERS.md is an edit, crates/name/must-fail/NAME.edit, or a wrong answer that an edit of the crate has under that name;
 - a path, or a file's name, is a file or folder: from the top, below crates/, or below the folder that the page says it speaks of;
 - `crate::module::name`, `module::name` and `name_*` are functions, types or modules of the code, there and not elsewhere;
 - `NAME` (`FILE`) is defined in that file; a theorem of THEOREMS.md in one of the files of its row; a function that DECISIONS.md
@@ -25,7 +25,7 @@ PAGES = ["TOUR", "READING", "THEOREMS", "DECISIONS", "WRONG_ANSWERS"]
 # Where a page's files are when it names no folder.
 FOLDERS = {"READING": CRATES / "stab" / "specs", "THEOREMS": CRATES / "stab" / "proofs"}
 # Words in marks that are no names of the tree: libraries and types of the kit, a byte, a command, folders and files of any crate.
-WORDS = {"io", "os", "libc", "i32", "u", "cargo", "specs/", "proofs/", "crates/CRATE/must-fail/NAME.edit"}
+WORDS = {"io", "os", "libc", "i32", "u", "cargo", "specs/", "proofs/", "CRATE/NAME", "crates/CRATE/must-fail/NAME.edit"}
 
 NAME = re.compile(r"[A-Za-z][\w′₀-₉]*(?:[-·][\w′₀-₉]+)*$")
 
@@ -50,6 +50,11 @@ def defined_in(file, name):
     return re.search(rf"^{word}\(\) {{", text, re.M) is not None
 
 
+def wrong_answers(file):
+    """The names of an edit: its own, and those of the wrong answers that it has, "# fn NAME: name: .." or "# theorem FILE NAME: name: .."."""
+    return {file.stem, *re.findall(r"^# (?:fn|theorem \S+) \S+: (\w+): ", file.read_text(), re.M)}
+
+
 class Tree:
     def __init__(self):
         self.rt = sorted(CRATES.glob("*/src/**/*.rt"))
@@ -64,6 +69,7 @@ class Tree:
         for file in self.antt:
             self.names |= stated(code(file.read_text()))
         self.names |= {path.name for path in (ROOT / "records").glob("*/*")}
+        self.edits = {f"{file.parent.parent.name}/{name}" for file in CRATES.glob("*/must-fail/*.edit") for name in wrong_answers(file)}
 
     def module(self, parts):
         """The file of a module, given by its crate and its names, or None."""
@@ -119,8 +125,7 @@ def fault(tree, page, word, named):
     if " " in word or word in WORDS:
         return ""
     if page == "WRONG_ANSWERS" and re.fullmatch(r"\w+/\w+", word):
-        crate, label = word.split("/")
-        return None if (CRATES / crate / "must-fail" / f"{label}.edit").is_file() else "no such edit"
+        return None if word in tree.edits else "no such edit"
     if "::" in word:
         parts = word.rstrip("(").split("::")
         return None if tree.has_path(parts) else "no such function, type or module"
@@ -132,9 +137,7 @@ def fault(tree, page, word, named):
         return None if any(re.fullmatch(word.replace("*", r"\w+"), name) for name in tree.names) else "no such name"
     if not NAME.match(word):
         return ""
-    if any(CRATES.glob(f"*/must-fail/{word}.edit")):
-        return None
-    return None if word in tree.names else "no such name"
+    return None if word in tree.names or any(edit.endswith(f"/{word}") for edit in tree.edits) else "no such name"
 
 
 def main():
