@@ -8,6 +8,7 @@
 set -u
 cd "$(dirname "$0")/.." || exit 2
 gone='that can be named from here|to be named from here|is not in scope|is not declared|not declared in|has no field|has no member|has no module|is no module|no module is found|does not export|cannot find (type|value)'
+named='^(fn [A-Za-z0-9_:]+|theorem [^ ]+ [^ ]+): '
 passed=0
 failed=0
 
@@ -51,8 +52,14 @@ error_of() { # LOG FUNCTION
 
 # All that the edit names is refused, and not because a name is gone.
 named_refused() { # EDIT LOG NAME
-  local kind what theorem error ok=0
-  while read -r kind what theorem; do
+  local line kind what theorem error ok=0
+  while read -r line; do
+    if [[ ! $line =~ $named ]]; then
+      wrong "$3" "not understood: # $line"
+      ok=1
+      continue
+    fi
+    read -r kind what theorem <<<"${BASH_REMATCH[1]}"
     if [ "$kind" = fn ]; then error=$(error_of "$2" "$what"); else error=$(error_in "$2" "$what" "$theorem"); fi
     if [ -z "$error" ]; then
       wrong "$3" "$what${theorem:+ $theorem} is not refused"
@@ -61,7 +68,7 @@ named_refused() { # EDIT LOG NAME
       wrong "$3" "of the proof of $what${theorem:+ $theorem} only a name is gone: ${error:0:200}"
       ok=1
     fi
-  done < <(sed -nE 's/^# (fn [A-Za-z0-9_:]+|theorem [^ ]+ [^ ]+): .*/\1/p' "$1")
+  done < <(sed -n 's/^# \(fn \|theorem \)/\1/p' "$1")
   return $ok
 }
 
