@@ -8,7 +8,7 @@ ghost use Prim.Native.Nat.{ℕ, _+_, _*_, _-_, _<_, _≤_, _^_};
 ghost use lib.IntN.{pos};
 ghost use lib.ListN.{getD, length};
 ghost use Rattle.stab.specs.Basic.{nat, allOf};
-ghost use Rattle.stab.specs.Formula.{joined, tree, loose};
+ghost use Rattle.stab.specs.Formula.{formulaRows, tree, loose};
 ghost use Rattle.stab.specs.Node.{nodeAt, set, setOf};
 ghost use Rattle.stab.specs.Rule.{isLowered, hasLowered};
 ghost use Rattle.classes.specs.Class.{Ready};
@@ -31,13 +31,13 @@ fn place(
     agreed: &mut [u32],
 ) -> usize
     requires { ⌜ (j < 2 ^ 32) × (z < t .schema + t .proof) × (lo ≤ hi) × (hi ≤ nat (nodeAt (now nodes) j .size)) ⌝ }
-    requires { ⌜ Ready (joined (now schema) (t .schema) (now proof)) (now forms) (t .schema + t .proof) ⌝ }
-    requires { ⌜ loose (tree (joined (now schema) (t .schema) (now proof)) z) ≡ false ⌝ }
-    requires { ⌜ SetOfRows (joined (now schema) (t .schema) (now proof)) (now nodes) (now members) (t .schema + t .proof) j ⌝ }
-    requires { ⌜ Remembers (joined (now schema) (t .schema) (now proof)) (now agreed) × (t .schema + t .proof ≤ length (now agreed)) ⌝ }
+    requires { ⌜ Ready (formulaRows (now schema) (t .schema) (now proof)) (now forms) (t .schema + t .proof) ⌝ }
+    requires { ⌜ loose (tree (formulaRows (now schema) (t .schema) (now proof)) z) ≡ false ⌝ }
+    requires { ⌜ SetOfRows (formulaRows (now schema) (t .schema) (now proof)) (now nodes) (now members) (t .schema + t .proof) j ⌝ }
+    requires { ⌜ Remembers (formulaRows (now schema) (t .schema) (now proof)) (now agreed) × (t .schema + t .proof ≤ length (now agreed)) ⌝ }
     ensures { λ r. ⌜ (r < hi → isLowered (lent (now (schema .entry)) (now (proof .entry)) (now (nodes .entry)) (now (members .entry)) t) k (pos z) (getD (setOf (now (members .entry)) (nodeAt (now (nodes .entry)) j)) r (pos 0)) ≡ true) ⌝ }
     ensures { λ r. ⌜ (hi ≤ r → (i : ℕ) → lo ≤ i → i < hi → isLowered (lent (now (schema .entry)) (now (proof .entry)) (now (nodes .entry)) (now (members .entry)) t) k (pos z) (getD (setOf (now (members .entry)) (nodeAt (now (nodes .entry)) j)) i (pos 0)) ≡ false) ⌝ }
-    ensures { λ _. ⌜ Remembers (joined (now (schema .entry)) (t .schema) (now (proof .entry))) (now (agreed .exit)) ⌝ }
+    ensures { λ _. ⌜ Remembers (formulaRows (now (schema .entry)) (t .schema) (now (proof .entry))) (now (agreed .exit)) ⌝ }
 {
     let start = node::natural_of(nodes, j, node::START);
     let mut i = lo;
@@ -67,13 +67,13 @@ fn partner(
     agreed: &mut [u32],
 ) -> usize
     requires { ⌜ (j < 2 ^ 32) × (z < t .schema + t .proof) × (from ≤ nat (nodeAt (now nodes) j .size)) ⌝ }
-    requires { ⌜ Ready (joined (now schema) (t .schema) (now proof)) (now forms) (t .schema + t .proof) ⌝ }
-    requires { ⌜ loose (tree (joined (now schema) (t .schema) (now proof)) z) ≡ false ⌝ }
-    requires { ⌜ SetOfRows (joined (now schema) (t .schema) (now proof)) (now nodes) (now members) (t .schema + t .proof) j ⌝ }
-    requires { ⌜ Remembers (joined (now schema) (t .schema) (now proof)) (now agreed) × (t .schema + t .proof ≤ length (now agreed)) ⌝ }
+    requires { ⌜ Ready (formulaRows (now schema) (t .schema) (now proof)) (now forms) (t .schema + t .proof) ⌝ }
+    requires { ⌜ loose (tree (formulaRows (now schema) (t .schema) (now proof)) z) ≡ false ⌝ }
+    requires { ⌜ SetOfRows (formulaRows (now schema) (t .schema) (now proof)) (now nodes) (now members) (t .schema + t .proof) j ⌝ }
+    requires { ⌜ Remembers (formulaRows (now schema) (t .schema) (now proof)) (now agreed) × (t .schema + t .proof ≤ length (now agreed)) ⌝ }
     ensures { λ r. ⌜ (r < nat (nodeAt (now (nodes .entry)) j .size) → true ≡ hasLowered (lent (now (schema .entry)) (now (proof .entry)) (now (nodes .entry)) (now (members .entry)) t) k (set (lent (now (schema .entry)) (now (proof .entry)) (now (nodes .entry)) (now (members .entry)) t) j) (pos z)) ⌝ }
     ensures { λ r. ⌜ (nat (nodeAt (now (nodes .entry)) j .size) ≤ r → false ≡ hasLowered (lent (now (schema .entry)) (now (proof .entry)) (now (nodes .entry)) (now (members .entry)) t) k (set (lent (now (schema .entry)) (now (proof .entry)) (now (nodes .entry)) (now (members .entry)) t) j) (pos z)) ⌝ }
-    ensures { λ _. ⌜ Remembers (joined (now (schema .entry)) (t .schema) (now (proof .entry))) (now (agreed .exit)) ⌝ }
+    ensures { λ _. ⌜ Remembers (formulaRows (now (schema .entry)) (t .schema) (now (proof .entry))) (now (agreed .exit)) ⌝ }
 {
     let size = node::natural_of(nodes, j, node::SIZE);
     let after = place(
@@ -164,12 +164,12 @@ pub fn all_lowered(
     agreed: &mut [u32],
 ) -> bool
     requires { ⌜ (j < 2 ^ 32) × (to < 2 ^ 32) ⌝ }
-    requires { ⌜ Ready (joined (now schema) (t .schema) (now proof)) (now forms) (t .schema + t .proof) ⌝ }
-    requires { ⌜ SetOfRows (joined (now schema) (t .schema) (now proof)) (now nodes) (now members) (t .schema + t .proof) j ⌝ }
-    requires { ⌜ SetOfRows (joined (now schema) (t .schema) (now proof)) (now nodes) (now members) (t .schema + t .proof) to ⌝ }
-    requires { ⌜ Remembers (joined (now schema) (t .schema) (now proof)) (now agreed) × (t .schema + t .proof ≤ length (now agreed)) ⌝ }
+    requires { ⌜ Ready (formulaRows (now schema) (t .schema) (now proof)) (now forms) (t .schema + t .proof) ⌝ }
+    requires { ⌜ SetOfRows (formulaRows (now schema) (t .schema) (now proof)) (now nodes) (now members) (t .schema + t .proof) j ⌝ }
+    requires { ⌜ SetOfRows (formulaRows (now schema) (t .schema) (now proof)) (now nodes) (now members) (t .schema + t .proof) to ⌝ }
+    requires { ⌜ Remembers (formulaRows (now schema) (t .schema) (now proof)) (now agreed) × (t .schema + t .proof ≤ length (now agreed)) ⌝ }
     ensures { λ r. ⌜ r ≡ allOf (hasLowered (lent (now (schema .entry)) (now (proof .entry)) (now (nodes .entry)) (now (members .entry)) t) k (set (lent (now (schema .entry)) (now (proof .entry)) (now (nodes .entry)) (now (members .entry)) t) j)) (set (lent (now (schema .entry)) (now (proof .entry)) (now (nodes .entry)) (now (members .entry)) t) to) ⌝ }
-    ensures { λ _. ⌜ Remembers (joined (now (schema .entry)) (t .schema) (now (proof .entry))) (now (agreed .exit)) ⌝ }
+    ensures { λ _. ⌜ Remembers (formulaRows (now (schema .entry)) (t .schema) (now (proof .entry))) (now (agreed .exit)) ⌝ }
 {
     let size = node::natural_of(nodes, to, node::SIZE);
     let width = node::natural_of(nodes, j, node::SIZE);

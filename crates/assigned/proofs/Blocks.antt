@@ -13,9 +13,9 @@ use Rattle.stab.specs.Basic.{allOf}
 use Rattle.stab.specs.Meaning.{op}
 use Rattle.stab.proofs.Bools.{and-left, and-right, and-both, and-first-false, and-second-false}
 use Rattle.pairs.specs.Reading.{opOf}
-use Rattle.pairs.specs.Word.{word, joinedWord}
-use Rattle.pairs.proofs.Words.{word-same, joined-word, settled-word}
-use Rattle.assigned.specs.Words.{digit, words, digitOf, joinedWords}
+use Rattle.pairs.specs.Word.{word, combinedWord}
+use Rattle.pairs.proofs.Words.{word-same, combined-word, settled-word}
+use Rattle.assigned.specs.Words.{digit, words, digitOf, combinedWords}
 use Rattle.assigned.proofs.DigitLaws.{word-digit}
 
 -- ---- one by one
@@ -62,11 +62,11 @@ same-words v w (suc k) h = ap₂ (λ (x : ℕ) (xs : List ℕ). x ∷ xs) h (sam
 
 -- ---- digit by digit
 
-pub joined-words : (any : Bool) (p q : ℕ → Bool) (k : ℕ) → joinedWords any (words p k) (words q k) ≡ words (λ j. op (opOf any) (p j) (q j)) k
-unfolding words joinedWords
-joined-words any p q zero = refl
-joined-words any p q (suc k) =
-    ap₂ (λ (x : ℕ) (xs : List ℕ). x ∷ xs) (joined-word p q any 64) (joined-words any (λ j. p (64 + j)) (λ j. q (64 + j)) k)
+pub combined-words : (any : Bool) (p q : ℕ → Bool) (k : ℕ) → combinedWords any (words p k) (words q k) ≡ words (λ j. op (opOf any) (p j) (q j)) k
+unfolding words combinedWords
+combined-words any p q zero = refl
+combined-words any p q (suc k) =
+    ap₂ (λ (x : ℕ) (xs : List ℕ). x ∷ xs) (combined-word p q any 64) (combined-words any (λ j. p (64 + j)) (λ j. q (64 + j)) k)
 
 -- words that settle the whole
 pub settled-words : (any : Bool) (p q : ℕ → Bool) (k : ℕ) → allOf (λ w. eqb w (word (λ j. any) 64)) (words p k) ≡ true → words p k ≡ words (λ j. op (opOf any) (p j) (q j)) k
@@ -94,41 +94,41 @@ module _ (p : ℕ → Bool) (t : List ℕ) (k : ℕ) where
       let same : k ≡ n = omega arith in
       sym (take-all k t (omega arith)) ∙ e ∙ ap (words p) same
 
-join-more : (any : Bool) (xs ys : List ℕ) (x y : ℕ) → length xs ≡ length ys → joinedWords any (xs ++ x ∷ []) (ys ++ y ∷ []) ≡ joinedWords any xs ys ++ joinedWord any x y ∷ []
-unfolding joinedWords
-join-more any [] [] x y h = refl
-join-more any [] (v ∷ ys) x y h = absurd (omega arith)
-join-more any (u ∷ xs) [] x y h = absurd (omega arith)
-join-more any (u ∷ xs) (v ∷ ys) x y h = ap (λ (l : List ℕ). joinedWord any u v ∷ l) (join-more any xs ys x y (omega arith))
+combine-more : (any : Bool) (xs ys : List ℕ) (x y : ℕ) → length xs ≡ length ys → combinedWords any (xs ++ x ∷ []) (ys ++ y ∷ []) ≡ combinedWords any xs ys ++ combinedWord any x y ∷ []
+unfolding combinedWords
+combine-more any [] [] x y h = refl
+combine-more any [] (v ∷ ys) x y h = absurd (omega arith)
+combine-more any (u ∷ xs) [] x y h = absurd (omega arith)
+combine-more any (u ∷ xs) (v ∷ ys) x y h = ap (λ (l : List ℕ). combinedWord any u v ∷ l) (combine-more any xs ys x y (omega arith))
 
--- the first k words of a table are joined, the others are as they were
-pub record Joined (any : Bool) (before t ws : List ℕ) (k : ℕ) : Type 0 where
+-- the first k words of a table are combined, the others are as they were
+pub record Combined (any : Bool) (before t ws : List ℕ) (k : ℕ) : Type 0 where
   pub long : length t ≡ length before
-  pub front : take k t ≡ joinedWords any (take k before) (take k ws)
+  pub front : take k t ≡ combinedWords any (take k before) (take k ws)
   pub back : drop k t ≡ drop k before
 
-pub joined-start : (any : Bool) (t ws : List ℕ) → Joined any t t ws 0
-unfolding joinedWords
-joined-start any t ws = record { long = refl; front = refl; back = refl }
+pub combined-start : (any : Bool) (t ws : List ℕ) → Combined any t t ws 0
+unfolding combinedWords
+combined-start any t ws = record { long = refl; front = refl; back = refl }
 
-module _ (any : Bool) (before t ws : List ℕ) (k : ℕ) (j : Joined any before t ws k) (h : k < length before) where
-  pub joined-same : getD t k 0 ≡ getD before k 0
-  joined-same =
+module _ (any : Bool) (before t ws : List ℕ) (k : ℕ) (j : Combined any before t ws k) (h : k < length before) where
+  pub combined-same : getD t k 0 ≡ getD before k 0
+  combined-same =
       let e : k ≡ k + 0 = omega arith in
       ap (λ (x : ℕ). getD t x 0) e ∙ sym (getD-drop k t 0 0) ∙ ap (λ (l : List ℕ). getD l 0 0) (j .back) ∙ getD-drop k before 0 0 ∙ ap (λ (x : ℕ). getD before x 0) (sym e)
 
-  pub joined-put : (w : ℕ) → k < length ws → w ≡ joinedWord any (getD t k 0) (getD ws k 0) → Joined any before (set t k w) ws (k + 1)
-  joined-put w l e =
+  pub combined-put : (w : ℕ) → k < length ws → w ≡ combinedWord any (getD t k 0) (getD ws k 0) → Combined any before (set t k w) ws (k + 1)
+  combined-put w l e =
       let same : length (take k before) ≡ length (take k ws) = length-take-le k before (omega arith) ∙ sym (length-take-le k ws (omega arith)) in
       record {
         long = length-set t k w ∙ j .long;
         front =
             ap (λ (x : ℕ). take x (set t k w)) (add-one k)
             ∙ take-suc-set t k w (omega (arith, j .long))
-            ∙ ap₂ (λ (l : List ℕ) (x : ℕ). l ++ x ∷ []) (j .front) (e ∙ ap (λ (x : ℕ). joinedWord any x (getD ws k 0)) joined-same)
-            ∙ sym (join-more any (take k before) (take k ws) (getD before k 0) (getD ws k 0) same)
-            ∙ ap₂ (joinedWords any) (sym (take-suc before k 0 h)) (sym (take-suc ws k 0 l))
-            ∙ ap (λ (x : ℕ). joinedWords any (take x before) (take x ws)) (sym (add-one k));
+            ∙ ap₂ (λ (l : List ℕ) (x : ℕ). l ++ x ∷ []) (j .front) (e ∙ ap (λ (x : ℕ). combinedWord any x (getD ws k 0)) combined-same)
+            ∙ sym (combine-more any (take k before) (take k ws) (getD before k 0) (getD ws k 0) same)
+            ∙ ap₂ (combinedWords any) (sym (take-suc before k 0 h)) (sym (take-suc ws k 0 l))
+            ∙ ap (λ (x : ℕ). combinedWords any (take x before) (take x ws)) (sym (add-one k));
         back =
             ap (λ (x : ℕ). drop x (set t k w)) (add-one k)
             ∙ drop-set-lt (suc k) t k w (omega arith)
@@ -138,11 +138,11 @@ module _ (any : Bool) (before t ws : List ℕ) (k : ℕ) (j : Joined any before 
             ∙ drop-drop 1 k before;
       }
 
-pub joined-all : (any : Bool) (before t ws : List ℕ) (k : ℕ) → Joined any before t ws k → length before ≤ k → length ws ≤ k → t ≡ joinedWords any before ws
-joined-all any before t ws k j g h =
+pub combined-all : (any : Bool) (before t ws : List ℕ) (k : ℕ) → Combined any before t ws k → length before ≤ k → length ws ≤ k → t ≡ combinedWords any before ws
+combined-all any before t ws k j g h =
     sym (take-all k t (omega (arith, j .long)))
     ∙ j .front
-    ∙ ap₂ (joinedWords any) (take-all k before g) (take-all k ws h)
+    ∙ ap₂ (combinedWords any) (take-all k before g) (take-all k ws h)
 
 -- ---- each word passes
 

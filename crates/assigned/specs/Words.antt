@@ -4,7 +4,7 @@ use mathlib.Core.Bool.{Bool, true, false}
 use mathlib.Core.List.{List, [], _∷_}
 use lib.Dec.{eqb}
 use lib.ListN.{getD}
-use Rattle.pairs.specs.Word.{word, joinedWord}
+use Rattle.pairs.specs.Word.{word, combinedWord}
 
 -- digit b of m, by its weight 2 ^ b
 unfoldable pub digit : ℕ → ℕ → Bool
@@ -25,7 +25,7 @@ turnedWord true w = w
 turnedWord false w = 18446744073709551615 - w
 
 -- words and words, digit by digit: by or where `any`, else by and
-unfoldable pub joinedWords : Bool → List ℕ → List ℕ → List ℕ
-joinedWords any [] ws = []
-joinedWords any (v ∷ vs) [] = []
-joinedWords any (v ∷ vs) (w ∷ ws) = joinedWord any v w ∷ joinedWords any vs ws
+unfoldable pub combinedWords : Bool → List ℕ → List ℕ → List ℕ
+combinedWords any [] ws = []
+combinedWords any (v ∷ vs) [] = []
+combinedWords any (v ∷ vs) (w ∷ ws) = combinedWord any v w ∷ combinedWords any vs ws

@@ -6,7 +6,7 @@ use formula::kept::kept_at;
 use formula::rows::LOOSE;
 use occurring::literal_key;
 use pairs::moved;
-use value::joined;
+use value::combined;
 use value::range_size;
 ghost use mathlib.Core.Path.{_≡_};
 ghost use Prim.Native.Nat.{_+_, _*_, _<_, _≤_, _%_, _^_};
@@ -23,7 +23,7 @@ ghost use Rattle.found.specs.Number.{numbered, leastBelow, leastOr};
 ghost use Rattle.pairs.specs.Index.{unbiased, Reached};
 ghost use Rattle.pairs.specs.Reading.{IsLiteral};
 ghost use Rattle.pairs.specs.Word.{word};
-ghost use Rattle.assigned.specs.Words.{digit, words, digitOf, turnedWord, joinedWords};
+ghost use Rattle.assigned.specs.Words.{digit, words, digitOf, turnedWord, combinedWords};
 ghost use Rattle.assigned.specs.Assignments.{placeOf, valuesFrom, lookedAt, Evaluable, Searchable};
 
 // ---- words
@@ -87,7 +87,7 @@ fn digits(held: bool, m: usize, b: usize, out: &mut [u64; 64])
     }
 }
 
-// Words that stay as they are, whatever they are joined to: by or where `any`, else by and.
+// Words that stay as they are, whatever they are combined with: by or where `any`, else by and.
 fn settled(any: bool, ws: &[u64; 64]) -> bool
     requires { ⌜ length (now ws) ≡ 64 ⌝ }
     ensures { λ r. ⌜ r ≡ allOf (λ w. eqb w (word (λ j. any) 64)) (now (ws .entry)) ⌝ }
@@ -103,14 +103,14 @@ fn settled(any: bool, ws: &[u64; 64]) -> bool
     true
 }
 
-// Words and words, joined: by or where `any`, else by and.
-fn join(any: bool, out: &mut [u64; 64], ws: &[u64; 64])
+// Words and words, combined: by or where `any`, else by and.
+fn combine(any: bool, out: &mut [u64; 64], ws: &[u64; 64])
     requires { ⌜ (length (now out) ≡ 64) × (length (now ws) ≡ 64) ⌝ }
-    ensures { λ _. ⌜ now (out .exit) ≡ joinedWords any (now (out .entry)) (now (ws .entry)) ⌝ }
+    ensures { λ _. ⌜ now (out .exit) ≡ combinedWords any (now (out .entry)) (now (ws .entry)) ⌝ }
 {
     let mut k = 0;
     while k < 64 {
-        out[k] = joined(any, out[k], ws[k]);
+        out[k] = combined(any, out[k], ws[k]);
         k += 1;
     }
 }
@@ -219,10 +219,10 @@ fn formula_values(
     let b = signed::natural_at(schema, 4 * f + B);
     let mut right = [0u64; 64];
     formula_values(schema, facts, b, n, i, keys, count, m, &mut right);
-    join(any, out, &right);
+    combine(any, out, &right);
 }
 
-// The values of row f, an iteration, at n: no i changes them. The values of its body at one i after the other are joined.
+// The values of row f, an iteration, at n: no i changes them. The values of its body at one i after the other are combined.
 fn range_values(
     schema: &[i32],
     facts: &[u32],
@@ -245,7 +245,7 @@ fn range_values(
     let mut k = 0;
     while k < left {
         formula_values(schema, facts, body, n, first + k, keys, count, m, &mut next);
-        join(any, out, &next);
+        combine(any, out, &next);
         if settled(any, out) {
             return;
         }

@@ -322,9 +322,9 @@ module _ (rows : ℕ → Row) (forms : List ℕ) (n : ℕ) (ready : Ready rows f
       parts x y = met k (tree rows x) (tree rows y)
 
       -- parts that meet, in either order
-      joined-met : ((parts (nat (rows f .a)) (nat (rows g .a)) ≡ true) × (parts (nat (rows f .b)) (nat (rows g .b)) ≡ true)) ⊎ ((parts (nat (rows f .a)) (nat (rows g .b)) ≡ true) × (parts (nat (rows f .b)) (nat (rows g .a)) ≡ true)) → Met ≡ true
+      either-met : ((parts (nat (rows f .a)) (nat (rows g .a)) ≡ true) × (parts (nat (rows f .b)) (nat (rows g .b)) ≡ true)) ⊎ ((parts (nat (rows f .a)) (nat (rows g .b)) ≡ true) × (parts (nat (rows f .b)) (nat (rows g .a)) ≡ true)) → Met ≡ true
       unfolding lower instance
-      joined-met h =
+      either-met h =
           ap₂ (met k) (tree-junction rows f _ (junction-f .1) (ready .formed f lf)) (tree-junction rows g _ junction-g (ready .formed g lg))
           ∙ joins-alike (junction-f .0) _ _ _ _ h
 
@@ -332,8 +332,8 @@ module _ (rows : ℕ → Row) (forms : List ℕ) (n : ℕ) (ready : Ready rows f
       parts-join a b =
           let cases-g = lead-cases rows n (ready .formed) (ready .few) g lg _ junction-g in
           ⊎-elim
-          (λ c. ⊎-elim (λ d. joined-met (inl (sym (ap₂ parts (c .0) (d .0)) ∙ a, sym (ap₂ parts (c .1) (d .1)) ∙ b))) (λ d. joined-met (inr (sym (ap₂ parts (c .0) (d .0)) ∙ a, sym (ap₂ parts (c .1) (d .1)) ∙ b))) cases-g)
-          (λ c. ⊎-elim (λ d. joined-met (inr (sym (ap₂ parts (c .1) (d .1)) ∙ b, sym (ap₂ parts (c .0) (d .0)) ∙ a))) (λ d. joined-met (inl (sym (ap₂ parts (c .1) (d .1)) ∙ b, sym (ap₂ parts (c .0) (d .0)) ∙ a))) cases-g)
+          (λ c. ⊎-elim (λ d. either-met (inl (sym (ap₂ parts (c .0) (d .0)) ∙ a, sym (ap₂ parts (c .1) (d .1)) ∙ b))) (λ d. either-met (inr (sym (ap₂ parts (c .0) (d .0)) ∙ a, sym (ap₂ parts (c .1) (d .1)) ∙ b))) cases-g)
+          (λ c. ⊎-elim (λ d. either-met (inr (sym (ap₂ parts (c .1) (d .1)) ∙ b, sym (ap₂ parts (c .0) (d .0)) ∙ a))) (λ d. either-met (inl (sym (ap₂ parts (c .1) (d .1)) ∙ b, sym (ap₂ parts (c .0) (d .0)) ∙ a))) cases-g)
           (lead-cases rows n (ready .formed) (ready .few) f lf _ (junction-f .1))
 
       -- the leading part meets the leading part, and the other the other

@@ -13,7 +13,7 @@ use Rattle.stab.specs.Basic.{if_then_else_}
 use Rattle.stab.specs.Formula.{Row, tree}
 use Rattle.stab.proofs.Bools.{decide, if-true, if-false}
 use Rattle.classes.specs.Class.{akin}
-use Rattle.classes.specs.Agreed.{standIn, joinedIn, Remembers}
+use Rattle.classes.specs.Agreed.{standIn, unitedIn, Remembers}
 use Rattle.classes.proofs.Least.{akin-refl, akin-sym, akin-trans}
 
 module _ (agreed : List ℕ) (r : ℕ) where
@@ -61,9 +61,9 @@ module _ (rows : ℕ → Row) where
               (decide (eqb r i));
         }
 
-    pub joined-agreed : (f g : ℕ) → f < length agreed → g < length agreed → Akin f g → Remembers rows (joinedIn agreed f g)
-    unfolding joinedIn
-    joined-agreed f g lf lg a =
+    pub united-agreed : (f g : ℕ) → f < length agreed → g < length agreed → Akin f g → Remembers rows (unitedIn agreed f g)
+    unfolding unitedIn
+    united-agreed f g lf lg a =
         let p = standIn agreed f in
         let q = standIn agreed g in
         ⊎-elim

@@ -14,8 +14,8 @@ unfoldable pub standIn : List ℕ → ℕ → ℕ
 standIn agreed r = if eqb (getD agreed r 0) 0 then r else getD agreed r 0 - 1
 
 -- rows f and g agree: of the rows that stood for them the smaller one stands for both
-unfoldable pub joinedIn : List ℕ → ℕ → ℕ → List ℕ
-joinedIn agreed f g =
+unfoldable pub unitedIn : List ℕ → ℕ → ℕ → List ℕ
+unitedIn agreed f g =
     let p = standIn agreed f in
     let q = standIn agreed g in
     if ltb p q then set agreed g (p + 1) else set agreed f (q + 1)

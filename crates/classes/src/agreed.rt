@@ -6,7 +6,7 @@ ghost use lib.Dec.{eqb};
 ghost use lib.ListN.{length, getD};
 ghost use Rattle.stab.specs.Basic.{_and_};
 ghost use Rattle.classes.specs.Key.{fitting};
-ghost use Rattle.classes.specs.Agreed.{standIn, joinedIn};
+ghost use Rattle.classes.specs.Agreed.{standIn, unitedIn};
 
 // The row that stands for row r.
 fn stand_in(agreed: &[u32], r: usize) -> usize
@@ -34,7 +34,7 @@ pub fn is_known(forms: &[u32], agreed: &[u32], up: usize, down: usize, f: usize,
 // They are from now on: the smaller of the rows that stood for them stands for both.
 pub fn remember(agreed: &mut [u32], f: usize, g: usize)
     requires { ⌜ (f < 1024) × (g < 1024) × (f < length (now agreed)) × (g < length (now agreed)) ⌝ }
-    ensures { λ _. ⌜ now (agreed .exit) ≡ joinedIn (now (agreed .entry)) f g ⌝ }
+    ensures { λ _. ⌜ now (agreed .exit) ≡ unitedIn (now (agreed .entry)) f g ⌝ }
 {
     let p = stand_in(agreed, f);
     let q = stand_in(agreed, g);

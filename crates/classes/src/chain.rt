@@ -10,7 +10,7 @@ ghost use Prim.Native.Nat.{_+_, _*_, _<_, _^_};
 ghost use lib.Dec.{eqb};
 ghost use lib.ListN.{length, getD, set};
 ghost use Rattle.stab.specs.Basic.{_and_, nat};
-ghost use Rattle.stab.specs.Formula.{joined};
+ghost use Rattle.stab.specs.Formula.{formulaRows};
 ghost use Rattle.formula.specs.Facts.{AllFormed};
 ghost use Rattle.classes.specs.Class.{classOf};
 ghost use Rattle.classes.specs.Key.{formOf, hashOf, hashAt, Done, formsWith, sidesWith};
@@ -34,7 +34,7 @@ fn has_key(
     high: usize,
 ) -> bool
     requires { ⌜ q < 1024 ⌝ }
-    ensures { λ v. ⌜ v ≡ (eqb (nat (joined (now (schema .entry)) s (now (proof .entry)) q .kind)) kind and eqb (getD (now (sides .entry)) (2 * q) 0) low and eqb (getD (now (sides .entry)) (2 * q + 1) 0) high) ⌝ }
+    ensures { λ v. ⌜ v ≡ (eqb (nat (formulaRows (now (schema .entry)) s (now (proof .entry)) q .kind)) kind and eqb (getD (now (sides .entry)) (2 * q) 0) low and eqb (getD (now (sides .entry)) (2 * q + 1) 0) high) ⌝ }
 {
     if natural_in(schema, s, proof, q, KIND) != kind {
         return false;
@@ -59,11 +59,11 @@ pub fn class_of(
     sides: &[u32],
     heads: &[u16],
 ) -> usize
-    requires { ⌜ (r < 1024) × (kind ≡ nat (joined (now schema) s (now proof) r .kind)) ⌝ }
-    requires { ⌜ AllFormed (joined (now schema) s (now proof)) (r + 1) ⌝ }
-    requires { ⌜ Done (joined (now schema) s (now proof)) (now forms) (now sides) (now heads) r ⌝ }
-    requires { ⌜ (f ≡ formOf (joined (now schema) s (now proof)) r) × (h ≡ hashAt (joined (now schema) s (now proof)) r) ⌝ }
-    ensures { λ v. ⌜ v ≡ classOf (joined (now (schema .entry)) s (now (proof .entry))) r ⌝ }
+    requires { ⌜ (r < 1024) × (kind ≡ nat (formulaRows (now schema) s (now proof) r .kind)) ⌝ }
+    requires { ⌜ AllFormed (formulaRows (now schema) s (now proof)) (r + 1) ⌝ }
+    requires { ⌜ Done (formulaRows (now schema) s (now proof)) (now forms) (now sides) (now heads) r ⌝ }
+    requires { ⌜ (f ≡ formOf (formulaRows (now schema) s (now proof)) r) × (h ≡ hashAt (formulaRows (now schema) s (now proof)) r) ⌝ }
+    ensures { λ v. ⌜ v ≡ classOf (formulaRows (now (schema .entry)) s (now (proof .entry))) r ⌝ }
 {
     let mut next = number_at(heads, h);
     while 0 < next {

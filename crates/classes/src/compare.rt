@@ -19,7 +19,7 @@ ghost use lib.Dec.{eqb};
 ghost use lib.IntN.{pos, _-ℤ_};
 ghost use lib.ListN.{length};
 ghost use Rattle.stab.specs.Basic.{if_then_else_, nat};
-ghost use Rattle.stab.specs.Formula.{joined, tree, loose};
+ghost use Rattle.stab.specs.Formula.{formulaRows, tree, loose};
 ghost use Rattle.stab.specs.Alike.{lower, instance, alike};
 ghost use Rattle.formula.specs.Facts.{AllKnown};
 ghost use Rattle.classes.specs.Class.{ground, Ready};
@@ -51,10 +51,10 @@ fn gone_down(
     agreed: &mut [u32],
 ) -> bool
     requires { ⌜ (up < 2 ^ 32) × (down < 2 ^ 32) ⌝ }
-    requires { ⌜ ((n : ℕ) × (f < n) × (g < n) × Ready (joined (now schema) s (now proof)) (now forms) n × (n ≤ length (now agreed))) ⌝ }
-    requires { ⌜ Remembers (joined (now schema) s (now proof)) (now agreed) ⌝ }
-    ensures { λ v. ⌜ v ≡ alike (lower (pos up -ℤ pos down) (ground (tree (joined (now (schema .entry)) s (now (proof .entry))) f))) (ground (tree (joined (now (schema .entry)) s (now (proof .entry))) g)) ⌝ }
-    ensures { λ _. ⌜ Remembers (joined (now (schema .entry)) s (now (proof .entry))) (now (agreed .exit)) ⌝ }
+    requires { ⌜ ((n : ℕ) × (f < n) × (g < n) × Ready (formulaRows (now schema) s (now proof)) (now forms) n × (n ≤ length (now agreed))) ⌝ }
+    requires { ⌜ Remembers (formulaRows (now schema) s (now proof)) (now agreed) ⌝ }
+    ensures { λ v. ⌜ v ≡ alike (lower (pos up -ℤ pos down) (ground (tree (formulaRows (now (schema .entry)) s (now (proof .entry))) f))) (ground (tree (formulaRows (now (schema .entry)) s (now (proof .entry))) g)) ⌝ }
+    ensures { λ _. ⌜ Remembers (formulaRows (now (schema .entry)) s (now (proof .entry))) (now (agreed .exit)) ⌝ }
 {
     let x = cells::of_row(schema, s, proof, f);
     let y = cells::of_row(schema, s, proof, g);
@@ -99,10 +99,10 @@ fn agrees_anew(
     agreed: &mut [u32],
 ) -> bool
     requires { ⌜ (up < 2 ^ 32) × (down < 2 ^ 32) ⌝ }
-    requires { ⌜ ((n : ℕ) × (f < n) × (g < n) × Ready (joined (now schema) s (now proof)) (now forms) n × (n ≤ length (now agreed))) ⌝ }
-    requires { ⌜ Remembers (joined (now schema) s (now proof)) (now agreed) ⌝ }
-    ensures { λ v. ⌜ v ≡ alike (lower (pos up -ℤ pos down) (ground (tree (joined (now (schema .entry)) s (now (proof .entry))) f))) (ground (tree (joined (now (schema .entry)) s (now (proof .entry))) g)) ⌝ }
-    ensures { λ _. ⌜ Remembers (joined (now (schema .entry)) s (now (proof .entry))) (now (agreed .exit)) ⌝ }
+    requires { ⌜ ((n : ℕ) × (f < n) × (g < n) × Ready (formulaRows (now schema) s (now proof)) (now forms) n × (n ≤ length (now agreed))) ⌝ }
+    requires { ⌜ Remembers (formulaRows (now schema) s (now proof)) (now agreed) ⌝ }
+    ensures { λ v. ⌜ v ≡ alike (lower (pos up -ℤ pos down) (ground (tree (formulaRows (now (schema .entry)) s (now (proof .entry))) f))) (ground (tree (formulaRows (now (schema .entry)) s (now (proof .entry))) g)) ⌝ }
+    ensures { λ _. ⌜ Remembers (formulaRows (now (schema .entry)) s (now (proof .entry))) (now (agreed .exit)) ⌝ }
 {
     if !gone_down(schema, s, proof, forms, up, down, f, g, agreed) {
         return false;
@@ -124,10 +124,10 @@ fn agrees(
     agreed: &mut [u32],
 ) -> bool
     requires { ⌜ (up < 2 ^ 32) × (down < 2 ^ 32) ⌝ }
-    requires { ⌜ ((n : ℕ) × (f < n) × (g < n) × Ready (joined (now schema) s (now proof)) (now forms) n × (n ≤ length (now agreed))) ⌝ }
-    requires { ⌜ Remembers (joined (now schema) s (now proof)) (now agreed) ⌝ }
-    ensures { λ v. ⌜ v ≡ alike (lower (pos up -ℤ pos down) (ground (tree (joined (now (schema .entry)) s (now (proof .entry))) f))) (ground (tree (joined (now (schema .entry)) s (now (proof .entry))) g)) ⌝ }
-    ensures { λ _. ⌜ Remembers (joined (now (schema .entry)) s (now (proof .entry))) (now (agreed .exit)) ⌝ }
+    requires { ⌜ ((n : ℕ) × (f < n) × (g < n) × Ready (formulaRows (now schema) s (now proof)) (now forms) n × (n ≤ length (now agreed))) ⌝ }
+    requires { ⌜ Remembers (formulaRows (now schema) s (now proof)) (now agreed) ⌝ }
+    ensures { λ v. ⌜ v ≡ alike (lower (pos up -ℤ pos down) (ground (tree (formulaRows (now (schema .entry)) s (now (proof .entry))) f))) (ground (tree (formulaRows (now (schema .entry)) s (now (proof .entry))) g)) ⌝ }
+    ensures { λ _. ⌜ Remembers (formulaRows (now (schema .entry)) s (now (proof .entry))) (now (agreed .exit)) ⌝ }
 {
     if is_known(forms, agreed, up, down, f, g) {
         return true;
@@ -146,11 +146,11 @@ pub fn is_lowered(
     x: usize,
     agreed: &mut [u32],
 ) -> bool
-    requires { ⌜ ((n : ℕ) × (z < n) × (x < n) × Ready (joined (now schema) s (now proof)) (now forms) n × (n ≤ length (now agreed))) ⌝ }
-    requires { ⌜ (loose (tree (joined (now schema) s (now proof)) z) ≡ false) × (loose (tree (joined (now schema) s (now proof)) x) ≡ false) ⌝ }
-    requires { ⌜ Remembers (joined (now schema) s (now proof)) (now agreed) ⌝ }
-    ensures { λ v. ⌜ v ≡ alike (lower k (tree (joined (now (schema .entry)) s (now (proof .entry))) z)) (tree (joined (now (schema .entry)) s (now (proof .entry))) x) ⌝ }
-    ensures { λ _. ⌜ Remembers (joined (now (schema .entry)) s (now (proof .entry))) (now (agreed .exit)) ⌝ }
+    requires { ⌜ ((n : ℕ) × (z < n) × (x < n) × Ready (formulaRows (now schema) s (now proof)) (now forms) n × (n ≤ length (now agreed))) ⌝ }
+    requires { ⌜ (loose (tree (formulaRows (now schema) s (now proof)) z) ≡ false) × (loose (tree (formulaRows (now schema) s (now proof)) x) ≡ false) ⌝ }
+    requires { ⌜ Remembers (formulaRows (now schema) s (now proof)) (now agreed) ⌝ }
+    ensures { λ v. ⌜ v ≡ alike (lower k (tree (formulaRows (now (schema .entry)) s (now (proof .entry))) z)) (tree (formulaRows (now (schema .entry)) s (now (proof .entry))) x) ⌝ }
+    ensures { λ _. ⌜ Remembers (formulaRows (now (schema .entry)) s (now (proof .entry))) (now (agreed .exit)) ⌝ }
 {
     if kept_at(forms, 4 * z) != kept_at(forms, 4 * x) {
         return false;
@@ -176,11 +176,11 @@ pub fn is_instance(
     z: usize,
     agreed: &mut [u32],
 ) -> bool
-    requires { ⌜ ((n : ℕ) × (on < n) × (z < n) × Ready (joined (now schema) s (now proof)) (now forms) n × AllKnown (joined (now schema) s (now proof)) (now facts) n × (n ≤ length (now agreed))) ⌝ }
-    requires { ⌜ 6 ≤ nat (joined (now schema) s (now proof) on .kind) ⌝ }
-    requires { ⌜ Remembers (joined (now schema) s (now proof)) (now agreed) ⌝ }
-    ensures { λ v. ⌜ v ≡ alike (instance (joined (now (schema .entry)) s (now (proof .entry)) on .c) (tree (joined (now (schema .entry)) s (now (proof .entry))) (nat (joined (now (schema .entry)) s (now (proof .entry)) on .a)))) (tree (joined (now (schema .entry)) s (now (proof .entry))) z) ⌝ }
-    ensures { λ _. ⌜ Remembers (joined (now (schema .entry)) s (now (proof .entry))) (now (agreed .exit)) ⌝ }
+    requires { ⌜ ((n : ℕ) × (on < n) × (z < n) × Ready (formulaRows (now schema) s (now proof)) (now forms) n × AllKnown (formulaRows (now schema) s (now proof)) (now facts) n × (n ≤ length (now agreed))) ⌝ }
+    requires { ⌜ 6 ≤ nat (formulaRows (now schema) s (now proof) on .kind) ⌝ }
+    requires { ⌜ Remembers (formulaRows (now schema) s (now proof)) (now agreed) ⌝ }
+    ensures { λ v. ⌜ v ≡ alike (instance (formulaRows (now (schema .entry)) s (now (proof .entry)) on .c) (tree (formulaRows (now (schema .entry)) s (now (proof .entry))) (nat (formulaRows (now (schema .entry)) s (now (proof .entry)) on .a)))) (tree (formulaRows (now (schema .entry)) s (now (proof .entry))) z) ⌝ }
+    ensures { λ _. ⌜ Remembers (formulaRows (now (schema .entry)) s (now (proof .entry))) (now (agreed .exit)) ⌝ }
 {
     if kept_at(facts, 4 * z + LOOSE) != 0 {
         return false;

@@ -9,7 +9,7 @@ use formula::cells;
 ghost use mathlib.Core.Path.{_≡_};
 ghost use Prim.Native.Nat.{ℕ, _+_, _*_, _<_, _≤_};
 ghost use lib.ListN.{length, getD, set};
-ghost use Rattle.stab.specs.Formula.{joined};
+ghost use Rattle.stab.specs.Formula.{formulaRows};
 ghost use Rattle.formula.specs.Facts.{AllFormed};
 ghost use Rattle.classes.specs.Class.{classOf, AllWorked};
 ghost use Rattle.classes.specs.Key.{formOf, hashAt, latest, Done, formsWith, sidesWith, formsAfter, sidesAfter, headsAfter};
@@ -25,12 +25,12 @@ fn step(
     heads: &mut [u16],
 )
     requires { ⌜ (r < 1024) × (4 * r + 3 < length (now forms)) × (2 * r + 1 < length (now sides)) × (2048 ≤ length (now heads)) ⌝ }
-    requires { ⌜ AllFormed (joined (now schema) s (now proof)) (r + 1) ⌝ }
-    requires { ⌜ Done (joined (now schema) s (now proof)) (now forms) (now sides) (now heads) r ⌝ }
-    ensures { λ _. ⌜ now (forms .exit) ≡ formsWith (now (forms .entry)) r (classOf (joined (now (schema .entry)) s (now (proof .entry))) r) (formOf (joined (now (schema .entry)) s (now (proof .entry))) r) (latest (joined (now (schema .entry)) s (now (proof .entry))) (hashAt (joined (now (schema .entry)) s (now (proof .entry))) r) r) ⌝ }
-    ensures { λ _. ⌜ now (sides .exit) ≡ sidesWith (now (sides .entry)) r (formOf (joined (now (schema .entry)) s (now (proof .entry))) r) ⌝ }
-    ensures { λ _. ⌜ now (heads .exit) ≡ set (now (heads .entry)) (hashAt (joined (now (schema .entry)) s (now (proof .entry))) r) (r + 1) ⌝ }
-    ensures { λ _. ⌜ Done (joined (now (schema .entry)) s (now (proof .entry))) (now (forms .exit)) (now (sides .exit)) (now (heads .exit)) (r + 1) ⌝ }
+    requires { ⌜ AllFormed (formulaRows (now schema) s (now proof)) (r + 1) ⌝ }
+    requires { ⌜ Done (formulaRows (now schema) s (now proof)) (now forms) (now sides) (now heads) r ⌝ }
+    ensures { λ _. ⌜ now (forms .exit) ≡ formsWith (now (forms .entry)) r (classOf (formulaRows (now (schema .entry)) s (now (proof .entry))) r) (formOf (formulaRows (now (schema .entry)) s (now (proof .entry))) r) (latest (formulaRows (now (schema .entry)) s (now (proof .entry))) (hashAt (formulaRows (now (schema .entry)) s (now (proof .entry))) r) r) ⌝ }
+    ensures { λ _. ⌜ now (sides .exit) ≡ sidesWith (now (sides .entry)) r (formOf (formulaRows (now (schema .entry)) s (now (proof .entry))) r) ⌝ }
+    ensures { λ _. ⌜ now (heads .exit) ≡ set (now (heads .entry)) (hashAt (formulaRows (now (schema .entry)) s (now (proof .entry))) r) (r + 1) ⌝ }
+    ensures { λ _. ⌜ Done (formulaRows (now (schema .entry)) s (now (proof .entry))) (now (forms .exit)) (now (sides .exit)) (now (heads .exit)) (r + 1) ⌝ }
 {
     let w = cells::of_row(schema, s, proof, r);
     let kind = signed::natural(w.kind);
@@ -53,11 +53,11 @@ pub fn work_out(
 )
     requires { ⌜ (n ≤ 1024) × (4 * n ≤ length (now forms)) × (2 * n ≤ length (now sides)) × (2048 ≤ length (now heads)) ⌝ }
     requires { ⌜ ((h : ℕ) → h < 2048 → getD (now heads) h 0 ≡ 0) ⌝ }
-    requires { ⌜ AllFormed (joined (now schema) s (now proof)) n ⌝ }
-    ensures { λ _. ⌜ now (forms .exit) ≡ formsAfter (joined (now (schema .entry)) s (now (proof .entry))) (now (forms .entry)) n ⌝ }
-    ensures { λ _. ⌜ now (sides .exit) ≡ sidesAfter (joined (now (schema .entry)) s (now (proof .entry))) (now (sides .entry)) n ⌝ }
-    ensures { λ _. ⌜ now (heads .exit) ≡ headsAfter (joined (now (schema .entry)) s (now (proof .entry))) (now (heads .entry)) n ⌝ }
-    ensures { λ _. ⌜ AllWorked (joined (now (schema .entry)) s (now (proof .entry))) (now (forms .exit)) n ⌝ }
+    requires { ⌜ AllFormed (formulaRows (now schema) s (now proof)) n ⌝ }
+    ensures { λ _. ⌜ now (forms .exit) ≡ formsAfter (formulaRows (now (schema .entry)) s (now (proof .entry))) (now (forms .entry)) n ⌝ }
+    ensures { λ _. ⌜ now (sides .exit) ≡ sidesAfter (formulaRows (now (schema .entry)) s (now (proof .entry))) (now (sides .entry)) n ⌝ }
+    ensures { λ _. ⌜ now (heads .exit) ≡ headsAfter (formulaRows (now (schema .entry)) s (now (proof .entry))) (now (heads .entry)) n ⌝ }
+    ensures { λ _. ⌜ AllWorked (formulaRows (now (schema .entry)) s (now (proof .entry))) (now (forms .exit)) n ⌝ }
 {
     let mut r: usize = 0;
     while r < n {

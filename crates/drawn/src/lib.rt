@@ -10,7 +10,7 @@ ghost use Prim.Native.Nat.{_+_, _-_, _<_, _≤_, _^_};
 ghost use lib.IntN.{pos};
 ghost use lib.ListN.{getD, length, take, drop};
 ghost use Rattle.stab.specs.Basic.{nat, has, allOf};
-ghost use Rattle.stab.specs.Formula.{joined};
+ghost use Rattle.stab.specs.Formula.{formulaRows};
 ghost use Rattle.stab.specs.Node as N;
 ghost use Rattle.stab.specs.Node.{nodeAt, set, setOf};
 ghost use Rattle.stab.specs.Search.{placeOf};
@@ -20,7 +20,7 @@ ghost use Rattle.branch.specs.Lent.{lent, SetHeld, ChildKnown};
 // z is a part of row r.
 fn is_part(schema: &[i32], s: usize, proof: &[i32], r: usize, z: i32) -> bool
     requires { ⌜ r < 2 ^ 32 ⌝ }
-    ensures { λ v. ⌜ v ≡ has z (joined (now (schema .entry)) s (now (proof .entry)) r .a ∷ joined (now (schema .entry)) s (now (proof .entry)) r .b ∷ []) ⌝ }
+    ensures { λ v. ⌜ v ≡ has z (formulaRows (now (schema .entry)) s (now (proof .entry)) r .a ∷ formulaRows (now (schema .entry)) s (now (proof .entry)) r .b ∷ []) ⌝ }
 {
     if formula::is_in(schema, s, proof, r, formula::A, z) {
         return true;
@@ -31,7 +31,7 @@ fn is_part(schema: &[i32], s: usize, proof: &[i32], r: usize, z: i32) -> bool
 // z is the left part for the first child, the right part for the second.
 fn is_side(schema: &[i32], s: usize, proof: &[i32], r: usize, rank: usize, z: i32) -> bool
     requires { ⌜ r < 2 ^ 32 ⌝ }
-    ensures { λ v. ⌜ v ≡ has z (oneOf (joined (now (schema .entry)) s (now (proof .entry)) r .a) (joined (now (schema .entry)) s (now (proof .entry)) r .b) rank) ⌝ }
+    ensures { λ v. ⌜ v ≡ has z (oneOf (formulaRows (now (schema .entry)) s (now (proof .entry)) r .a) (formulaRows (now (schema .entry)) s (now (proof .entry)) r .b) rank) ⌝ }
 {
     if rank == 0 {
         return formula::is_in(schema, s, proof, r, formula::A, z);

@@ -9,7 +9,7 @@ ghost use mathlib.Core.Path.{_≡_};
 ghost use mathlib.Core.Bool.{true, false};
 ghost use Prim.Native.Nat.{_+_, _<_, _≤_, _^_};
 ghost use Rattle.stab.specs.Basic.{_or_, eqZ, below, has};
-ghost use Rattle.stab.specs.Formula.{joined};
+ghost use Rattle.stab.specs.Formula.{formulaRows};
 ghost use Rattle.stab.specs.Node.{nodeAt, setOf};
 ghost use Rattle.stab.specs.Rule.{unused, symbolFits, fieldsFit};
 ghost use Rattle.branch.specs.NodeColumn.{nodeColumn};
@@ -38,7 +38,7 @@ fn kind_fits(
 ) -> bool
     requires { ⌜ (j < 2 ^ 32) × (k < 9) ⌝ }
     requires { ⌜ t .schema + t .proof ≤ 1024 ⌝ }
-    ensures { λ r. ⌜ r ≡ fitsKind (joined (now (schema .entry)) (t .schema) (now (proof .entry))) (t .schema + t .proof) need (nodeColumn (nodeAt (now (nodes .entry)) j) k) ⌝ }
+    ensures { λ r. ⌜ r ≡ fitsKind (formulaRows (now (schema .entry)) (t .schema) (now (proof .entry))) (t .schema + t .proof) need (nodeColumn (nodeAt (now (nodes .entry)) j) k) ⌝ }
 {
     if signed::equal(need, -1) {
         return node::is_of(nodes, j, k, -1);

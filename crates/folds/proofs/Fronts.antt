@@ -8,9 +8,9 @@ use mathlib.Core.List.{List, _++_, append-assoc}
 use lib.IntN.{ℤ, pos}
 use lib.ListN.{length, take, drop, set, length-append}
 use lib.Seq.{getD-take, take-at, length-take-le, sets, sets-eq}
-use Rattle.stab.specs.Formula.{Row, rowAt, joined}
+use Rattle.stab.specs.Formula.{Row, rowAt, formulaRows}
 use Rattle.tidied.specs.Tidied.{columns}
-use Rattle.tidied.proofs.Foldings.{joined-below, joined-above, rowAt-next, columns-length, schema-or-proof}
+use Rattle.tidied.proofs.Foldings.{formula-rows-below, formula-rows-above, rowAt-next, columns-length, schema-or-proof}
 
 rowAt-take : (t : List ℤ) (n r : ℕ) → 4 * r + 3 < n → rowAt (take n t) r ≡ rowAt t r
 unfolding rowAt
@@ -46,18 +46,18 @@ put-columns t n w p q r s i = set (set (set (set t n (p i)) (add-one n i) (q i))
 
 module _ (schema : List ℤ) (s : ℕ) (t front : List ℤ) (n : ℕ) (held : take (4 * n) t ≡ front) where
   -- the rows in front are those of the table
-  pub joined-front : (q : ℕ) → q < s + n → joined schema s t q ≡ joined schema s front q
-  joined-front q h =
+  pub formula-rows-front : (q : ℕ) → q < s + n → formulaRows schema s t q ≡ formulaRows schema s front q
+  formula-rows-front q h =
       ⊎-elim
-      (λ l. joined-below schema s t q l ∙ sym (joined-below schema s front q l))
+      (λ l. formula-rows-below schema s t q l ∙ sym (formula-rows-below schema s front q l))
       (λ m.
       let k = m .0 in
-      ap (joined schema s t) (m .1)
-      ∙ joined-above schema s t k
+      ap (formulaRows schema s t) (m .1)
+      ∙ formula-rows-above schema s t k
       ∙ sym (rowAt-take t (4 * n) k (omega (arith, m .1)))
       ∙ ap (λ (u : List ℤ). rowAt u k) held
-      ∙ sym (joined-above schema s front k)
-      ∙ ap (joined schema s front) (sym (m .1)))
+      ∙ sym (formula-rows-above schema s front k)
+      ∙ ap (formulaRows schema s front) (sym (m .1)))
       (schema-or-proof s q)
 
 module _ (schema : List ℤ) (s : ℕ) (t front : List ℤ) (n : ℕ) (held : take (4 * n) t ≡ front) (w : Row) (room : 4 * n + 3 < length t) where
@@ -80,9 +80,9 @@ module _ (schema : List ℤ) (s : ℕ) (t front : List ℤ) (n : ℕ) (held : ta
       next = omega (arith, columns-length w)
 
   -- the row that was put
-  pub put-row : joined schema s (sets t (4 * n) (columns w)) (s + n) ≡ w
+  pub put-row : formulaRows schema s (sets t (4 * n) (columns w)) (s + n) ≡ w
   put-row =
-      joined-above schema s (sets t (4 * n) (columns w)) n
+      formula-rows-above schema s (sets t (4 * n) (columns w)) n
       ∙ sym (rowAt-take (sets t (4 * n) (columns w)) (4 * (n + 1)) n (omega arith))
       ∙ ap (λ (u : List ℤ). rowAt u n) put-more
       ∙ rowAt-next front n w front-length

@@ -11,7 +11,7 @@ use lib.IntN.{ℤ}
 use lib.ListN.{length, getD, take, set, replicate, length-append, length-set}
 use lib.Seq.{sets, getD-set-same, getD-set-other}
 use borrow.Author.Tests.{eqb-true, eqb-false}
-use Rattle.stab.specs.Formula.{Row, rowAt, joined}
+use Rattle.stab.specs.Formula.{Row, rowAt, formulaRows}
 use Rattle.stab.specs.Text.{padded}
 use Rattle.stab.proofs.Bools.{decide}
 use Rattle.repeats.specs.Places.{Linked}
@@ -19,7 +19,7 @@ use Rattle.tidied.specs.Tidied.{renumbered, columns, Folding, newNumber, earlie
 use Rattle.folds.specs.Folds.{rowOr, AllSmall, Folds}
 use Rattle.folds.proofs.Numbers.{getD-zeros, new-padded, padded-empty, padded-more}
 use Rattle.folds.proofs.Earlier.{was-found, none-found, found-small, earliest-agree, linked-agree}
-use Rattle.folds.proofs.Fronts.{joined-front, put-front, put-more, put-row}
+use Rattle.folds.proofs.Fronts.{formula-rows-front, put-front, put-more, put-row}
 
 -- ---- how much k rows come to
 
@@ -74,21 +74,21 @@ module _ (schema : List ℤ) (s : ℕ) (proof : List ℤ) (k count : ℕ) (out :
         ∙ put-more schema s out (F .table) count (I .held) w room
         ∙ ap (λ (v : Row). F .table ++ columns v) same-row
 
-    row : joined schema s out₁ (s + count) ≡ w′
-    row = ap (λ (t : List ℤ). joined schema s t (s + count)) put ∙ put-row schema s out (F .table) count (I .held) w room ∙ same-row
+    row : formulaRows schema s out₁ (s + count) ≡ w′
+    row = ap (λ (t : List ℤ). formulaRows schema s t (s + count)) put ∙ put-row schema s out (F .table) count (I .held) w room ∙ same-row
 
-    rows-front : (q : ℕ) → q < s + count → joined schema s out₁ q ≡ joined schema s (F .table) q
-    rows-front q l = joined-front schema s out₁ (F .table) count front q l
+    rows-front : (q : ℕ) → q < s + count → formulaRows schema s out₁ q ≡ formulaRows schema s (F .table) q
+    rows-front q l = formula-rows-front schema s out₁ (F .table) count front q l
 
     -- what was linked is
-    pub still-linked : Linked (joined schema s out₁) next heads (s + count)
+    pub still-linked : Linked (formulaRows schema s out₁) next heads (s + count)
     still-linked =
-        linked-agree (joined schema s out) (joined schema s out₁) (s + count)
-        (λ q l. joined-front schema s out (F .table) count (I .held) q l ∙ sym (rows-front q l))
+        linked-agree (formulaRows schema s out) (formulaRows schema s out₁) (s + count)
+        (λ q l. formula-rows-front schema s out (F .table) count (I .held) q l ∙ sym (rows-front q l))
         (I .linked)
 
     abbrev equal : Option ℕ
-    equal = earliest (joined schema s out₁) (s + count) (joined schema s out₁ (s + count))
+    equal = earliest (formulaRows schema s out₁) (s + count) (formulaRows schema s out₁ (s + count))
 
     next-folding : {o : Option ℕ} → equal ≡ o → foldedInto s F w′ o ≡ folding schema s proof (k + 1)
     unfolding folding foldNext foldRow
@@ -96,18 +96,18 @@ module _ (schema : List ℤ) (s : ℕ) (proof : List ℤ) (k count : ℕ) (out :
         ap (foldedInto s F w′) (sym e ∙ among) ∙ ap (folding schema s proof) (sym (add-one k))
       where
         -- what is found among the rows that stay
-        among : equal ≡ earliest (joined schema s (F .table)) (s + F .count) w′
+        among : equal ≡ earliest (formulaRows schema s (F .table)) (s + F .count) w′
         among =
-            ap (earliest (joined schema s out₁) (s + count)) row
-            ∙ earliest-agree (joined schema s out₁) (joined schema s (F .table)) (s + count) rows-front w′
-            ∙ ap (λ (n : ℕ). earliest (joined schema s (F .table)) (s + n) w′) (I .counted)
+            ap (earliest (formulaRows schema s out₁) (s + count)) row
+            ∙ earliest-agree (formulaRows schema s out₁) (formulaRows schema s (F .table)) (s + count) rows-front w′
+            ∙ ap (λ (n : ℕ). earliest (formulaRows schema s (F .table)) (s + n) w′) (I .counted)
 
     module _ (q : ℕ) (e : q ≡ rowOr (s + count) equal) (few : s + count ≤ 4096) (place : k < length numbers) where
       abbrev numbers₁ : List ℕ
       numbers₁ = set numbers k q
 
       pub number-small : q ≤ s + count
-      number-small = found-small (joined schema s out₁) (joined schema s out₁ (s + count)) (s + count) q e
+      number-small = found-small (formulaRows schema s out₁) (formulaRows schema s out₁ (s + count)) (s + count) q e
 
       known : numbers₁ ≡ padded 0 (length numbers₁) (F .numbers ++ q ∷ [])
       known =
@@ -123,21 +123,21 @@ module _ (schema : List ℤ) (s : ℕ) (proof : List ℤ) (k count : ℕ) (out :
       unfolding foldedInto
       folds-away l =
           subst (λ (G : Folding). Folds schema s G count out₁ numbers₁ next heads)
-          (next-folding (was-found (joined schema s out₁) (joined schema s out₁ (s + count)) (s + count) q e l))
+          (next-folding (was-found (formulaRows schema s out₁) (formulaRows schema s out₁ (s + count)) (s + count) q e l))
           (record { counted = I .counted; held = front; known = known; small = small; linked = still-linked })
 
       -- a row that stays
-      pub folds-stays : s + count ≤ q → {next₁ heads₁ : List ℕ} → Linked (joined schema s out₁) next₁ heads₁ (s + count + 1) → Folds schema s (folding schema s proof (k + 1)) (count + 1) out₁ numbers₁ next₁ heads₁
+      pub folds-stays : s + count ≤ q → {next₁ heads₁ : List ℕ} → Linked (formulaRows schema s out₁) next₁ heads₁ (s + count + 1) → Folds schema s (folding schema s proof (k + 1)) (count + 1) out₁ numbers₁ next₁ heads₁
       unfolding foldedInto
       folds-stays l {next₁} {heads₁} c =
           subst (λ (G : Folding). Folds schema s G (count + 1) out₁ numbers₁ next₁ heads₁)
-          (next-folding (none-found (joined schema s out₁) (joined schema s out₁ (s + count)) (s + count) q e l))
+          (next-folding (none-found (formulaRows schema s out₁) (formulaRows schema s out₁ (s + count)) (s + count) q e l))
           (record {
             counted = omega (arith, I .counted);
             held = more;
             known = known ∙ ap (λ (x : ℕ). padded 0 (length numbers₁) (F .numbers ++ x ∷ [])) last;
             small = small;
-            linked = subst (Linked (joined schema s out₁) next₁ heads₁) after c;
+            linked = subst (Linked (formulaRows schema s out₁) next₁ heads₁) after c;
           })
         where
           last : q ≡ s + F .count
@@ -148,14 +148,14 @@ module _ (schema : List ℤ) (s : ℕ) (proof : List ℤ) (k count : ℕ) (out :
 
 -- ---- no row yet
 
-pub folds-none : (schema : List ℤ) (s : ℕ) (proof out : List ℤ) (numbers next heads : List ℕ) → numbers ≡ replicate (length numbers) 0 → Linked (joined schema s out) next heads s → Folds schema s (folding schema s proof 0) 0 out numbers next heads
+pub folds-none : (schema : List ℤ) (s : ℕ) (proof out : List ℤ) (numbers next heads : List ℕ) → numbers ≡ replicate (length numbers) 0 → Linked (formulaRows schema s out) next heads s → Folds schema s (folding schema s proof 0) 0 out numbers next heads
 unfolding folding
 folds-none schema s proof out numbers next heads z c = record {
   counted = refl;
   held = refl;
   known = z ∙ padded-empty 0 (length numbers);
   small = λ i. omega (arith, ap (λ (l : List ℕ). getD l i 0) z, getD-zeros (length numbers) i);
-  linked = subst (Linked (joined schema s out) next heads) after c;
+  linked = subst (Linked (formulaRows schema s out) next heads) after c;
 }
   where
     after : s ≡ s + 0

@@ -5,7 +5,7 @@ use mathlib.Core.List.{List}
 use mathlib.Core.Option.{Option, none, some}
 use lib.IntN.{ℤ}
 use lib.ListN.{length, getD, take}
-use Rattle.stab.specs.Formula.{joined}
+use Rattle.stab.specs.Formula.{formulaRows}
 use Rattle.stab.specs.Text.{padded}
 use Rattle.repeats.specs.Places.{Linked}
 use Rattle.tidied.specs.Tidied.{Folding}
@@ -25,4 +25,4 @@ pub record Folds (schema : List ℤ) (s : ℕ) (F : Folding) (count : ℕ) (out 
   pub held : take (4 * count) out ≡ F .table
   pub known : numbers ≡ padded 0 (length numbers) (F .numbers)
   pub small : AllSmall numbers
-  pub linked : Linked (joined schema s out) next heads (s + count)
+  pub linked : Linked (formulaRows schema s out) next heads (s + count)

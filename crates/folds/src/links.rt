@@ -6,7 +6,7 @@ use repeats::row::same;
 ghost use mathlib.Core.Path.{_≡_};
 ghost use Prim.Native.Nat.{ℕ, _<_, _≤_};
 ghost use lib.ListN.{length, getD};
-ghost use Rattle.stab.specs.Formula.{joined};
+ghost use Rattle.stab.specs.Formula.{formulaRows};
 ghost use Rattle.repeats.specs.Places.{placeOf, Linked};
 ghost use Rattle.tidied.specs.Tidied.{earliest};
 ghost use Rattle.folds.specs.Folds.{rowOr};
@@ -23,9 +23,9 @@ pub fn first(
     heads: &[u16],
 ) -> usize
     requires { ⌜ r < 2049 ⌝ }
-    requires { ⌜ Linked (joined (now schema) s (now table)) (now next) (now heads) r ⌝ }
-    requires { ⌜ h ≡ placeOf (joined (now schema) s (now table) r) ⌝ }
-    ensures { λ v. ⌜ v ≡ rowOr r (earliest (joined (now (schema .entry)) s (now (table .entry))) r (joined (now (schema .entry)) s (now (table .entry)) r)) ⌝ }
+    requires { ⌜ Linked (formulaRows (now schema) s (now table)) (now next) (now heads) r ⌝ }
+    requires { ⌜ h ≡ placeOf (formulaRows (now schema) s (now table) r) ⌝ }
+    ensures { λ v. ⌜ v ≡ rowOr r (earliest (formulaRows (now (schema .entry)) s (now (table .entry))) r (formulaRows (now (schema .entry)) s (now (table .entry)) r)) ⌝ }
 {
     let mut best = r;
     let mut rest = number_at(heads, h);
@@ -43,7 +43,7 @@ pub fn first(
 pub fn schema_rows(schema: &[i32], s: usize, table: &[i32], next: &mut [u16], heads: &mut [u16])
     requires { ⌜ (s ≤ 2049) × (s ≤ length (now next)) × (4096 ≤ length (now heads)) ⌝ }
     requires { ⌜ ((h : ℕ) → h < 4096 → getD (now heads) h 0 ≡ 0) ⌝ }
-    ensures { λ _. ⌜ Linked (joined (now (schema .entry)) s (now (table .entry))) (now (next .exit)) (now (heads .exit)) s ⌝ }
+    ensures { λ _. ⌜ Linked (formulaRows (now (schema .entry)) s (now (table .entry))) (now (next .exit)) (now (heads .exit)) s ⌝ }
 {
     let mut r: usize = 0;
     while r < s {

@@ -1,7 +1,7 @@
 // The columns of a row, read once.
 ghost use mathlib.Core.Path.{_≡_};
 ghost use Prim.Native.Nat.{_<_, _^_};
-ghost use Rattle.stab.specs.Formula.{rowAt, joined};
+ghost use Rattle.stab.specs.Formula.{rowAt, formulaRows};
 ghost use Rattle.formula.specs.Cells.{rowOf};
 
 pub struct Cells {
@@ -36,7 +36,7 @@ fn in_table(t: &[i32], p: usize) -> Cells
 // Those of row r, schema rows first.
 pub fn of_row(schema: &[i32], s: usize, proof: &[i32], r: usize) -> Cells
     requires { ⌜ r < 2 ^ 32 ⌝ }
-    ensures { λ v. ⌜ rowOf v ≡ joined (now (schema .entry)) s (now (proof .entry)) r ⌝ }
+    ensures { λ v. ⌜ rowOf v ≡ formulaRows (now (schema .entry)) s (now (proof .entry)) r ⌝ }
 {
     if r < s {
         in_table(schema, r)

@@ -7,7 +7,7 @@ ghost use Prim.Native.Nat.{_+_, _*_, _<_, _≤_, max};
 ghost use lib.ListN.{length};
 ghost use lib.IntN.{pos};
 ghost use Rattle.stab.specs.Basic.{nat, below, scan};
-ghost use Rattle.stab.specs.Formula.{joined, offset, kindOf, baseOf, onIndex, tree};
+ghost use Rattle.stab.specs.Formula.{formulaRows, offset, kindOf, baseOf, onIndex, tree};
 ghost use Rattle.stab.specs.Check.{rowRefusal, rootFits, formulasRefusal, finding};
 ghost use Rattle.formula.specs.Cells.{rowOf};
 ghost use Rattle.formula.specs.Facts.{bit};
@@ -240,8 +240,8 @@ pub fn iteration(w: Cells, r: usize, facts: &[u32]) -> Judged
 // Row r, judged by its kind.
 fn row(schema: &[i32], s: usize, proof: &[i32], r: usize, facts: &[u32]) -> Judged
     requires { ⌜ r < 1024 ⌝ }
-    requires { ⌜ Passed (joined (now schema) s (now proof)) (now facts) r ⌝ }
-    ensures { λ v. ⌜ v ≡ judged (joined (now (schema .entry)) s (now (proof .entry))) r ⌝ }
+    requires { ⌜ Passed (formulaRows (now schema) s (now proof)) (now facts) r ⌝ }
+    ensures { λ v. ⌜ v ≡ judged (formulaRows (now (schema .entry)) s (now (proof .entry))) r ⌝ }
 {
     let w = cells::of_row(schema, s, proof, r);
     let k = kind_of(w.kind);
@@ -293,10 +293,10 @@ pub fn sized(row: Judged, r: usize, facts: &mut [u32]) -> Finding
 // What is found at row r; its numbers are kept where that is nothing.
 fn step(schema: &[i32], s: usize, proof: &[i32], r: usize, facts: &mut [u32]) -> Finding
     requires { ⌜ (r < 1024) × (4 * r + 3 < length (now facts)) ⌝ }
-    requires { ⌜ Passed (joined (now schema) s (now proof)) (now facts) r ⌝ }
-    ensures { λ v. ⌜ finding v ≡ rowRefusal (joined (now (schema .entry)) s (now (proof .entry))) r ⌝ }
-    ensures { λ v. ⌜ (rowRefusal (joined (now (schema .entry)) s (now (proof .entry))) r ≡ none → Passed (joined (now (schema .entry)) s (now (proof .entry))) (now (facts .exit)) (r + 1)) ⌝ }
-    ensures { λ v. ⌜ now (facts .exit) ≡ keptIf (rowRefusal (joined (now (schema .entry)) s (now (proof .entry))) r) (now (facts .entry)) r (factsOf (tree (joined (now (schema .entry)) s (now (proof .entry))) r)) ⌝ }
+    requires { ⌜ Passed (formulaRows (now schema) s (now proof)) (now facts) r ⌝ }
+    ensures { λ v. ⌜ finding v ≡ rowRefusal (formulaRows (now (schema .entry)) s (now (proof .entry))) r ⌝ }
+    ensures { λ v. ⌜ (rowRefusal (formulaRows (now (schema .entry)) s (now (proof .entry))) r ≡ none → Passed (formulaRows (now (schema .entry)) s (now (proof .entry))) (now (facts .exit)) (r + 1)) ⌝ }
+    ensures { λ v. ⌜ now (facts .exit) ≡ keptIf (rowRefusal (formulaRows (now (schema .entry)) s (now (proof .entry))) r) (now (facts .entry)) r (factsOf (tree (formulaRows (now (schema .entry)) s (now (proof .entry))) r)) ⌝ }
 {
     let found = row(schema, s, proof, r, facts);
     sized(found, r, facts)
@@ -305,9 +305,9 @@ fn step(schema: &[i32], s: usize, proof: &[i32], r: usize, facts: &mut [u32]) ->
 // What is found first among n rows. The table holds the numbers of each before it.
 fn each(schema: &[i32], s: usize, proof: &[i32], n: usize, facts: &mut [u32]) -> Finding
     requires { ⌜ (n ≤ 1024) × (4 * n ≤ length (now facts)) ⌝ }
-    ensures { λ v. ⌜ finding v ≡ scan (rowRefusal (joined (now (schema .entry)) s (now (proof .entry)))) n ⌝ }
-    ensures { λ v. ⌜ (scan (rowRefusal (joined (now (schema .entry)) s (now (proof .entry)))) n ≡ none → Passed (joined (now (schema .entry)) s (now (proof .entry))) (now (facts .exit)) n) ⌝ }
-    ensures { λ v. ⌜ now (facts .exit) ≡ factsTable (joined (now (schema .entry)) s (now (proof .entry))) (now (facts .entry)) n ⌝ }
+    ensures { λ v. ⌜ finding v ≡ scan (rowRefusal (formulaRows (now (schema .entry)) s (now (proof .entry)))) n ⌝ }
+    ensures { λ v. ⌜ (scan (rowRefusal (formulaRows (now (schema .entry)) s (now (proof .entry)))) n ≡ none → Passed (formulaRows (now (schema .entry)) s (now (proof .entry))) (now (facts .exit)) n) ⌝ }
+    ensures { λ v. ⌜ now (facts .exit) ≡ factsTable (formulaRows (now (schema .entry)) s (now (proof .entry))) (now (facts .entry)) n ⌝ }
 {
     let mut r = 0;
     while r < n {
@@ -344,9 +344,9 @@ pub fn formulas(
     facts: &mut [u32],
 ) -> Finding
     requires { ⌜ (s ≤ n) × (n ≤ 1024) × (4 * n ≤ length (now facts)) ⌝ }
-    ensures { λ v. ⌜ finding v ≡ formulasRefusal (joined (now (schema .entry)) s (now (proof .entry))) n s root least ⌝ }
-    ensures { λ v. ⌜ (formulasRefusal (joined (now (schema .entry)) s (now (proof .entry))) n s root least ≡ none → Passed (joined (now (schema .entry)) s (now (proof .entry))) (now (facts .exit)) n) ⌝ }
-    ensures { λ v. ⌜ now (facts .exit) ≡ formulasTable (joined (now (schema .entry)) s (now (proof .entry))) (now (facts .entry)) n s root least ⌝ }
+    ensures { λ v. ⌜ finding v ≡ formulasRefusal (formulaRows (now (schema .entry)) s (now (proof .entry))) n s root least ⌝ }
+    ensures { λ v. ⌜ (formulasRefusal (formulaRows (now (schema .entry)) s (now (proof .entry))) n s root least ≡ none → Passed (formulaRows (now (schema .entry)) s (now (proof .entry))) (now (facts .exit)) n) ⌝ }
+    ensures { λ v. ⌜ now (facts .exit) ≡ formulasTable (formulaRows (now (schema .entry)) s (now (proof .entry))) (now (facts .entry)) n s root least ⌝ }
 {
     if !root_fits(s, root, least) {
         return Finding::Found {

@@ -10,7 +10,7 @@ use lib.IntN.{ℤ, pos}
 use lib.ListN.{length, take}
 use borrow.Author.Tests.{leb-true}
 use Rattle.stab.specs.Basic.{eqZ, _and_, _or_, nat, count}
-use Rattle.stab.specs.Formula.{Row, rowAt, joined, disj, Formula, join, tree, size, depth, smallEnough}
+use Rattle.stab.specs.Formula.{Row, rowAt, formulaRows, disj, Formula, join, tree, size, depth, smallEnough}
 use Rattle.stab.specs.Meaning.{Assignment, op, value, truth}
 use Rattle.stab.specs.Node.{Tableau, Node, rows, rowCount, formula, nodeAt, node}
 use Rattle.stab.specs.Rule.{ofRule}
@@ -27,7 +27,7 @@ use Rattle.stab.proofs.Scans.{count-false}
 use Rattle.stab.proofs.Exactness.{accepts-exactly}
 use Rattle.tidied.specs.Tidied.{tidied, newOf}
 use Rattle.tidied.specs.Tidy.{inTables}
-use Rattle.tidied.proofs.Foldings.{joined-below, rowAt-front}
+use Rattle.tidied.proofs.Foldings.{formula-rows-below, rowAt-front}
 use Rattle.tidied.proofs.Agreeing.{count-same}
 use Rattle.tidied.proofs.Tables as Tidy
 use Rattle.tidied.proofs.Tidying.{KeepsRules, rules-of, rules-kept, tidied-fresh, fold, same-links}
@@ -70,7 +70,7 @@ module _ (A B : Tableau) where
   unfolding joint rows tidied untidied orRow
   or-tidied =
       tree-agrees _ _ (A .schemaRows + B .schemaRows)
-      (λ r h. joined-below (jointSchema A B) (schemaCount A B) _ r (omega (arith, first-count A B)) ∙ sym (joined-below (jointSchema A B) (schemaCount A B) (jointProof A B) r (omega (arith, first-count A B))))
+      (λ r h. formula-rows-below (jointSchema A B) (schemaCount A B) _ r (omega (arith, first-count A B)) ∙ sym (formula-rows-below (jointSchema A B) (schemaCount A B) (jointProof A B) r (omega (arith, first-count A B))))
 
   module _ (KA : Keeps A) (KB : Keeps B) (least : A .least ≡ B .least) (fits : jointFits (joint A B) ≡ true) where
     RA : KeepsRules A
@@ -147,13 +147,13 @@ module _ (A B : Tableau) where
     unfolding formula rows
     root-alone T K =
         let l : nat (T .root) < T .schemaRows = below-nat (T .schemaRows) (T .root) (below-tests (T .schemaRows) (T .root) .1 (K .formulas .rootRow)) in
-        tree-agrees _ _ (nat (T .root)) (λ r h. joined-below (T .schema) (T .schemaRows) (T .proof) r (omega arith))
+        tree-agrees _ _ (nat (T .root)) (λ r h. formula-rows-below (T .schema) (T .schemaRows) (T .proof) r (omega arith))
 
     joint-root : tree (rowAt (joint A B .schema)) (nat (joint A B .root)) ≡ join disj (tree (rowAt (A .schema)) (nat (A .root))) (tree (rowAt (B .schema)) (nat (B .root)))
     unfolding joint tidied untidied rows orRow nat
     joint-root =
-        tree-agrees (rowAt (jointSchema A B)) (joined (jointSchema A B) (schemaCount A B) (jointProof A B)) (A .schemaRows + B .schemaRows)
-        (λ r h. sym (joined-below (jointSchema A B) (schemaCount A B) (jointProof A B) r (omega (arith, first-count A B))))
+        tree-agrees (rowAt (jointSchema A B)) (formulaRows (jointSchema A B) (schemaCount A B) (jointProof A B)) (A .schemaRows + B .schemaRows)
+        (λ r h. sym (formula-rows-below (jointSchema A B) (schemaCount A B) (jointProof A B) r (omega (arith, first-count A B))))
         ∙ or-tree A B RA RB (KA .older .hasNode) (KB .older .hasNode) heldA heldB least
         ∙ ap₂ (join disj) (root-alone A RA) (root-alone B RB)
 

@@ -10,12 +10,12 @@ use lib.IntN.{ℤ, pos}
 use lib.ListN.{length, length-append}
 use borrow.Author.Tests.{lt-ltb, ltb-true}
 use Rattle.stab.specs.Basic.{if_then_else_, nat}
-use Rattle.stab.specs.Formula.{Row, rowAt, joined}
+use Rattle.stab.specs.Formula.{Row, rowAt, formulaRows}
 use Rattle.stab.specs.Node.{Tableau, rows, rowCount}
 use Rattle.stab.proofs.Bools.{decide, if-true, if-false}
 use Rattle.tidied.specs.Tidied.{through, renumbered, columns}
 use Rattle.tidied.proofs.Moves.{Moves}
-use Rattle.tidied.proofs.Foldings.{joined-below, joined-above, rowAt-front, rowAt-next, columns-length, schema-or-proof}
+use Rattle.tidied.proofs.Foldings.{formula-rows-below, formula-rows-above, rowAt-front, rowAt-next, columns-length, schema-or-proof}
 use Rattle.joint.specs.Joint.{schemaCount, orRow, ofFirst, ofSecond, movedRows, theOr, jointSchema, jointProof, untidied}
 use Rattle.joint.proofs.Lists.{rowAt-after, moved-length, moved-row}
 
@@ -117,7 +117,7 @@ module _ (A B : Tableau) where
   pub or-is : rows (untidied A B) (orRow A B) ≡ theOr A B
   unfolding rows untidied orRow schemaCount jointSchema X Y
   or-is =
-      joined-below (jointSchema A B) (schemaCount A B) (jointProof A B) (A .schemaRows + B .schemaRows) (omega arith)
+      formula-rows-below (jointSchema A B) (schemaCount A B) (jointProof A B) (A .schemaRows + B .schemaRows) (omega arith)
       ∙ rowAt-next (X ++ Y) (A .schemaRows + B .schemaRows) (theOr A B) both-length
 
   -- ---- the first's rows, and the second's
@@ -127,18 +127,18 @@ module _ (A B : Tableau) where
   first-row r h =
       ⊎-elim
       (λ l.
-      ap (joined (jointSchema A B) (schemaCount A B) (jointProof A B)) (first-schema r l)
-      ∙ joined-below (jointSchema A B) (schemaCount A B) (jointProof A B) r (omega (arith, first-count))
+      ap (formulaRows (jointSchema A B) (schemaCount A B) (jointProof A B)) (first-schema r l)
+      ∙ formula-rows-below (jointSchema A B) (schemaCount A B) (jointProof A B) r (omega (arith, first-count))
       ∙ schema-first r l
-      ∙ ap (renumbered (ofFirst A B)) (sym (joined-below (A .schema) (A .schemaRows) (A .proof) r l)))
+      ∙ ap (renumbered (ofFirst A B)) (sym (formula-rows-below (A .schema) (A .schemaRows) (A .proof) r l)))
       (λ m.
       let l : m .0 < A .proofRows = omega (arith, m .1) in
       rw (m .1)
-      (ap (joined (jointSchema A B) (schemaCount A B) (jointProof A B)) (first-proof (m .0))
-      ∙ joined-above (jointSchema A B) (schemaCount A B) (jointProof A B) (m .0)
+      (ap (formulaRows (jointSchema A B) (schemaCount A B) (jointProof A B)) (first-proof (m .0))
+      ∙ formula-rows-above (jointSchema A B) (schemaCount A B) (jointProof A B) (m .0)
       ∙ rowAt-front (movedRows (ofFirst A B) (A .proof) (A .proofRows)) _ (m .0) (omega (arith, moved-length (ofFirst A B) (A .proof) (A .proofRows)))
       ∙ moved-row (ofFirst A B) (A .proof) (A .proofRows) (m .0) l
-      ∙ ap (renumbered (ofFirst A B)) (sym (joined-above (A .schema) (A .schemaRows) (A .proof) (m .0)))))
+      ∙ ap (renumbered (ofFirst A B)) (sym (formula-rows-above (A .schema) (A .schemaRows) (A .proof) (m .0)))))
       (schema-or-proof (A .schemaRows) r)
 
   second-row : (r : ℕ) → r < rowCount B → rows (untidied A B) (ofSecond A B r) ≡ renumbered (ofSecond A B) (rows B r)
@@ -146,19 +146,19 @@ module _ (A B : Tableau) where
   second-row r h =
       ⊎-elim
       (λ l.
-      ap (joined (jointSchema A B) (schemaCount A B) (jointProof A B)) (second-schema r l)
-      ∙ joined-below (jointSchema A B) (schemaCount A B) (jointProof A B) (A .schemaRows + r) (omega (arith, first-count))
+      ap (formulaRows (jointSchema A B) (schemaCount A B) (jointProof A B)) (second-schema r l)
+      ∙ formula-rows-below (jointSchema A B) (schemaCount A B) (jointProof A B) (A .schemaRows + r) (omega (arith, first-count))
       ∙ schema-second r l
-      ∙ ap (renumbered (ofSecond A B)) (sym (joined-below (B .schema) (B .schemaRows) (B .proof) r l)))
+      ∙ ap (renumbered (ofSecond A B)) (sym (formula-rows-below (B .schema) (B .schemaRows) (B .proof) r l)))
       (λ m.
       let l : m .0 < B .proofRows = omega (arith, m .1) in
       let e : schemaCount A B + A .proofRows + m .0 ≡ schemaCount A B + (A .proofRows + m .0) = omega arith in
       rw (m .1)
-      (ap (joined (jointSchema A B) (schemaCount A B) (jointProof A B)) (second-proof (m .0) ∙ e)
-      ∙ joined-above (jointSchema A B) (schemaCount A B) (jointProof A B) (A .proofRows + m .0)
+      (ap (formulaRows (jointSchema A B) (schemaCount A B) (jointProof A B)) (second-proof (m .0) ∙ e)
+      ∙ formula-rows-above (jointSchema A B) (schemaCount A B) (jointProof A B) (A .proofRows + m .0)
       ∙ rowAt-after (movedRows (ofFirst A B) (A .proof) (A .proofRows)) (movedRows (ofSecond A B) (B .proof) (B .proofRows)) (A .proofRows) (m .0) (moved-length (ofFirst A B) (A .proof) (A .proofRows))
       ∙ moved-row (ofSecond A B) (B .proof) (B .proofRows) (m .0) l
-      ∙ ap (renumbered (ofSecond A B)) (sym (joined-above (B .schema) (B .schemaRows) (B .proof) (m .0)))))
+      ∙ ap (renumbered (ofSecond A B)) (sym (formula-rows-above (B .schema) (B .schemaRows) (B .proof) (m .0)))))
       (schema-or-proof (B .schemaRows) r)
 
   pub first-moves : Moves (rows A) (rows (untidied A B)) (rowCount A) (ofFirst A B)

@@ -6,7 +6,7 @@ use mathlib.Core.List.{List, [], _∷_, _++_}
 use lib.IntN.{ℤ, pos, negsuc}
 use lib.ListN.{take}
 use Rattle.stab.specs.Basic.{if_then_else_, _and_, eqZ, nat, _otherwise_, scan}
-use Rattle.stab.specs.Formula.{rowAt, joined, kindOf}
+use Rattle.stab.specs.Formula.{rowAt, formulaRows, kindOf}
 use Rattle.stab.specs.Node.{Tableau, nodeAt, node, setOf, set}
 use Rattle.tidied.specs.Tidied.{through, renumberedAs, renumbered, columns}
 use Rattle.joint.specs.Joint.{schemaCount, orRow, ofFirst, ofSecond, movedRows, theOr, jointSchema, jointProof, further, parentOf, movedNode, movedNodes, firstNode, jointNodes, movedMembers, jointMembers, untidied}

@@ -7,7 +7,7 @@ use mathlib.Core.Option.{Option, none}
 use lib.Dec.{leb, ltb}
 use borrow.Author.Tests.{ltb-true}
 use Rattle.stab.specs.Basic.{_and_, nat, eqZ}
-use Rattle.stab.specs.Formula.{Formula, size, depth, joined, tree, smallEnough}
+use Rattle.stab.specs.Formula.{Formula, size, depth, formulaRows, tree, smallEnough}
 use Rattle.stab.specs.Node.{Tableau, rows, rowCount, formula}
 use Rattle.stab.specs.Check.{wholeUnless, check, formulasRefusal}
 use Rattle.stab.specs.Keeps.{KeepsOlder, Keeps}
@@ -40,16 +40,16 @@ unfolding rowCount
 few-rows A K = K .tables .rowLimit
 
 -- the schema rows pass by themselves
-pub schema-passes : (A : Tableau) → KeepsOlder A → formulasRefusal (joined (A .schema) (A .schemaRows) (A .proof)) (A .schemaRows) (A .schemaRows) (A .root) (A .least) ≡ none
+pub schema-passes : (A : Tableau) → KeepsOlder A → formulasRefusal (formulaRows (A .schema) (A .schemaRows) (A .proof)) (A .schemaRows) (A .schemaRows) (A .root) (A .least) ≡ none
 unfolding rows rowCount
 schema-passes A K =
-    formulas-clears (joined (A .schema) (A .schemaRows) (A .proof)) (A .schemaRows) (A .schemaRows) (A .root) (A .least) .1
+    formulas-clears (formulaRows (A .schema) (A .schemaRows) (A .proof)) (A .schemaRows) (A .schemaRows) (A .root) (A .least) .1
     (record { rootRow = K .formulas .rootRow; leastRange = K .formulas .leastRange; each = λ r h. K .formulas .each r (omega arith); rootOuter = K .formulas .rootOuter })
 
 -- ---- both
 
 -- how large the or is
-pub or-is : (A B : Tableau) → Keeps A → Keeps B → A .least ≡ B .least → smallEnough (rows (joint A B)) (orRow A B) ≡ orSmall (tree (joined (A .schema) (A .schemaRows) (A .proof)) (nat (A .root))) (tree (joined (B .schema) (B .schemaRows) (B .proof)) (nat (B .root)))
+pub or-is : (A B : Tableau) → Keeps A → Keeps B → A .least ≡ B .least → smallEnough (rows (joint A B)) (orRow A B) ≡ orSmall (tree (formulaRows (A .schema) (A .schemaRows) (A .proof)) (nat (A .root))) (tree (formulaRows (B .schema) (B .schemaRows) (B .proof)) (nat (B .root)))
 unfolding smallEnough orSmall formula rows
 or-is A B KA KB e =
     ap (λ (f : Formula). leb (size f) 4096 and leb (depth f) 64)

@@ -7,7 +7,7 @@ ghost use Prim.Native.Nat.{_+_, _≤_, max};
 ghost use lib.Dec.{ltb};
 ghost use Rattle.stab.specs.Basic.{_and_, nat};
 ghost use Rattle.stab.specs.Formula as F;
-ghost use Rattle.stab.specs.Formula.{joined, tree};
+ghost use Rattle.stab.specs.Formula.{formulaRows, tree};
 ghost use Rattle.stab.specs.Check.{formulasRefusal};
 ghost use Rattle.jointrefusal.specs.Before.{orSmall};
 
@@ -19,8 +19,8 @@ fn larger(a: u32, b: u32) -> u32
 
 // The numbers of the root, where the schema rows are well formed and small.
 fn root_facts(schema: &[i32], s: usize, proof: &[i32], root: i32, least: i32) -> Facts
-    requires { ⌜ (s ≤ 1024) × (formulasRefusal (joined (now schema) s (now proof)) s s root least ≡ none) ⌝ }
-    ensures { λ v. ⌜ (v .size ≡ F.size (tree (joined (now (schema .entry)) s (now (proof .entry))) (nat root))) × (v .depth ≡ F.depth (tree (joined (now (schema .entry)) s (now (proof .entry))) (nat root))) ⌝ }
+    requires { ⌜ (s ≤ 1024) × (formulasRefusal (formulaRows (now schema) s (now proof)) s s root least ≡ none) ⌝ }
+    ensures { λ v. ⌜ (v .size ≡ F.size (tree (formulaRows (now (schema .entry)) s (now (proof .entry))) (nat root))) × (v .depth ≡ F.depth (tree (formulaRows (now (schema .entry)) s (now (proof .entry))) (nat root))) ⌝ }
     ensures { λ v. ⌜ (v .size ≤ 4096) × (v .depth ≤ 64) ⌝ }
 {
     let mut facts = [0u32; 4096];
@@ -41,9 +41,9 @@ fn or_fits(
     second_root: i32,
     second_least: i32,
 ) -> bool
-    requires { ⌜ («first_rows» ≤ 1024) × (formulasRefusal (joined (now «first_schema») «first_rows» (now «first_proof»)) «first_rows» «first_rows» «first_root» «first_least» ≡ none) ⌝ }
-    requires { ⌜ («second_rows» ≤ 1024) × (formulasRefusal (joined (now «second_schema») «second_rows» (now «second_proof»)) «second_rows» «second_rows» «second_root» «second_least» ≡ none) ⌝ }
-    ensures { λ v. ⌜ v ≡ orSmall (tree (joined (now («first_schema» .entry)) «first_rows» (now («first_proof» .entry))) (nat «first_root»)) (tree (joined (now («second_schema» .entry)) «second_rows» (now («second_proof» .entry))) (nat «second_root»)) ⌝ }
+    requires { ⌜ («first_rows» ≤ 1024) × (formulasRefusal (formulaRows (now «first_schema») «first_rows» (now «first_proof»)) «first_rows» «first_rows» «first_root» «first_least» ≡ none) ⌝ }
+    requires { ⌜ («second_rows» ≤ 1024) × (formulasRefusal (formulaRows (now «second_schema») «second_rows» (now «second_proof»)) «second_rows» «second_rows» «second_root» «second_least» ≡ none) ⌝ }
+    ensures { λ v. ⌜ v ≡ orSmall (tree (formulaRows (now («first_schema» .entry)) «first_rows» (now («first_proof» .entry))) (nat «first_root»)) (tree (formulaRows (now («second_schema» .entry)) «second_rows» (now («second_proof» .entry))) (nat «second_root»)) ⌝ }
 {
     let f = root_facts(
         first_schema,
@@ -80,9 +80,9 @@ pub fn both_fit(
     second_least: i32,
     second_nodes: usize,
 ) -> bool
-    requires { ⌜ («first_rows» ≤ 1024) × («first_nodes» ≤ 1024) × (formulasRefusal (joined (now «first_schema») «first_rows» (now «first_proof»)) «first_rows» «first_rows» «first_root» «first_least» ≡ none) ⌝ }
-    requires { ⌜ («second_rows» ≤ 1024) × («second_nodes» ≤ 1024) × (formulasRefusal (joined (now «second_schema») «second_rows» (now «second_proof»)) «second_rows» «second_rows» «second_root» «second_least» ≡ none) ⌝ }
-    ensures { λ v. ⌜ v ≡ (ltb («first_rows» + «second_rows») 1024 and ltb («first_nodes» + «second_nodes») 1024 and orSmall (tree (joined (now («first_schema» .entry)) «first_rows» (now («first_proof» .entry))) (nat «first_root»)) (tree (joined (now («second_schema» .entry)) «second_rows» (now («second_proof» .entry))) (nat «second_root»))) ⌝ }
+    requires { ⌜ («first_rows» ≤ 1024) × («first_nodes» ≤ 1024) × (formulasRefusal (formulaRows (now «first_schema») «first_rows» (now «first_proof»)) «first_rows» «first_rows» «first_root» «first_least» ≡ none) ⌝ }
+    requires { ⌜ («second_rows» ≤ 1024) × («second_nodes» ≤ 1024) × (formulasRefusal (formulaRows (now «second_schema») «second_rows» (now «second_proof»)) «second_rows» «second_rows» «second_root» «second_least» ≡ none) ⌝ }
+    ensures { λ v. ⌜ v ≡ (ltb («first_rows» + «second_rows») 1024 and ltb («first_nodes» + «second_nodes») 1024 and orSmall (tree (formulaRows (now («first_schema» .entry)) «first_rows» (now («first_proof» .entry))) (nat «first_root»)) (tree (formulaRows (now («second_schema» .entry)) «second_rows» (now («second_proof» .entry))) (nat «second_root»))) ⌝ }
 {
     if 1024 <= first_rows + second_rows {
         return false;

@@ -7,7 +7,7 @@ use lib.Dec.{ltb}
 use lib.IntN.{ℤ, pos}
 use lib.ListN.{getD}
 use Rattle.stab.specs.Basic.{if_then_else_, nat}
-use Rattle.stab.specs.Formula.{Row, rowAt, joined}
+use Rattle.stab.specs.Formula.{Row, rowAt, formulaRows}
 use Rattle.stab.specs.Node.{Tableau}
 use Rattle.stab.specs.Text.{padded}
 use Rattle.stab.proofs.Trees.{below-nat}
@@ -15,7 +15,7 @@ use Rattle.formula.specs.Facts.{AllFormed}
 use Rattle.tidied.specs.Tidied.{through, renumbered, columns, Folding, newNumber, folding, foldingOf, newOf}
 use Rattle.tidied.proofs.Moves.{through-below}
 use Rattle.tidied.proofs.Foldings as Folds
-use Rattle.tidied.proofs.Foldings.{joined-below, joined-above, new-schema, new-proof, renumbered-agrees, folding-agrees}
+use Rattle.tidied.proofs.Foldings.{formula-rows-below, formula-rows-above, new-schema, new-proof, renumbered-agrees, folding-agrees}
 use Rattle.folds.proofs.Numbers.{new-padded}
 use Rattle.joint.specs.Joint.{schemaCount, ofFirst, ofSecond, movedRows, theOr, jointSchema, jointProof, untidied}
 use Rattle.joint.proofs.Rows.{schema-length}
@@ -83,14 +83,14 @@ module _ (A : Tableau) (J : Joinable A) (N : List ℕ) (f : ℕ → ℕ) (g : Gi
 
   schema-agree : movedRows (newNumber 0 N) (A .schema) (A .schemaRows) ≡ movedRows f (A .schema) (A .schemaRows)
   schema-agree =
-      moved-agree (joined (A .schema) (A .schemaRows) (A .proof)) (A .schema) 0 (newNumber 0 N) f agree (A .schemaRows) (omega (arith, J .few))
-      (λ k h. let e : k ≡ 0 + k = omega arith in sym (joined-below (A .schema) (A .schemaRows) (A .proof) k h) ∙ ap (joined (A .schema) (A .schemaRows) (A .proof)) e)
+      moved-agree (formulaRows (A .schema) (A .schemaRows) (A .proof)) (A .schema) 0 (newNumber 0 N) f agree (A .schemaRows) (omega (arith, J .few))
+      (λ k h. let e : k ≡ 0 + k = omega arith in sym (formula-rows-below (A .schema) (A .schemaRows) (A .proof) k h) ∙ ap (formulaRows (A .schema) (A .schemaRows) (A .proof)) e)
       (λ r h. J .formed r (omega arith))
 
   proof-agree : movedRows (newNumber 0 N) (A .proof) (A .proofRows) ≡ movedRows f (A .proof) (A .proofRows)
   proof-agree =
-      moved-agree (joined (A .schema) (A .schemaRows) (A .proof)) (A .proof) (A .schemaRows) (newNumber 0 N) f agree (A .proofRows) (J .few)
-      (λ k h. sym (joined-above (A .schema) (A .schemaRows) (A .proof) k))
+      moved-agree (formulaRows (A .schema) (A .schemaRows) (A .proof)) (A .proof) (A .schemaRows) (newNumber 0 N) f agree (A .proofRows) (J .few)
+      (λ k h. sym (formula-rows-above (A .schema) (A .schemaRows) (A .proof) k))
       (J .formed)
 
   root-agree : through (newNumber 0 N) (A .root) ≡ through f (A .root)

@@ -9,13 +9,13 @@ use mathlib.Core.Option.{Option, none, some}
 use lib.IntN.{ℤ, pos}
 use lib.ListN.{length, take, length-append}
 use lib.Seq.{sets, length-sets, take-at}
-use Rattle.stab.specs.Formula.{Row, rowAt, joined}
+use Rattle.stab.specs.Formula.{Row, rowAt, formulaRows}
 use Rattle.stab.specs.Text.{padded}
 use Rattle.signed.specs.Numbers.{cleared}
 use Rattle.signed.proofs.Tables.{cleared-padded}
 use Rattle.tidied.specs.Tidied.{renumbered, columns, Folding, foldedInto, foldRow, foldNext, folding}
-use Rattle.tidied.proofs.Foldings.{joined-above, columns-length}
-use Rattle.folds.proofs.Fronts.{sets-more, put-more, joined-front}
+use Rattle.tidied.proofs.Foldings.{formula-rows-above, columns-length}
+use Rattle.folds.proofs.Fronts.{sets-more, put-more, formula-rows-front}
 use Rattle.joint.specs.Joint.{movedRows}
 
 -- ---- n rows from row `at` on
@@ -54,10 +54,10 @@ row-last t₂ t₃ t₄ Z row n k a b l h g c =
 pub rowAt-front : (t front : List ℤ) (n : ℕ) → take (4 * n) t ≡ front → (k : ℕ) → k < n → rowAt t k ≡ rowAt front k
 rowAt-front t front n held k h =
     let e : k ≡ 0 + k = omega arith in
-    sym (ap (joined [] 0 t) e ∙ joined-above [] 0 t k)
-    ∙ joined-front [] 0 t front n held k (omega arith)
-    ∙ ap (joined [] 0 front) e
-    ∙ joined-above [] 0 front k
+    sym (ap (formulaRows [] 0 t) e ∙ formula-rows-above [] 0 t k)
+    ∙ formula-rows-front [] 0 t front n held k (omega arith)
+    ∙ ap (formulaRows [] 0 front) e
+    ∙ formula-rows-above [] 0 front k
 
 -- ---- no more rows stay than there are
 

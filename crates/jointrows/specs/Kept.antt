@@ -7,7 +7,7 @@ use lib.Dec.{leb, ltb}
 use lib.IntN.{ℤ, pos}
 use lib.ListN.{length}
 use Rattle.stab.specs.Basic.{if_then_else_, below}
-use Rattle.stab.specs.Formula.{Row, joined}
+use Rattle.stab.specs.Formula.{Row, formulaRows}
 use Rattle.stab.specs.Node.{Tableau}
 use Rattle.stab.specs.Text.{padded}
 use Rattle.formula.specs.Facts.{AllFormed}
@@ -48,7 +48,7 @@ bothProofs f s n g t m = movedRows f s n ++ movedRows g t m
 -- a record's rows can be joined: they are few and well formed, and its root is one of the schema's
 pub record Joinable (A : Tableau) : Type 0 where
   pub few : A .schemaRows + A .proofRows ≤ 1024
-  pub formed : AllFormed (joined (A .schema) (A .schemaRows) (A .proof)) (A .schemaRows + A .proofRows)
+  pub formed : AllFormed (formulaRows (A .schema) (A .schemaRows) (A .proof)) (A .schemaRows + A .proofRows)
   pub root : below (A .schemaRows) (A .root) ≡ true
 
 -- how many proof rows stay, the new numbers of the rows of both records, and the two tables, which were schema₀ and proof₀; proof rows that

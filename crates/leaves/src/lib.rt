@@ -4,13 +4,13 @@ ghost use Prim.Native.Nat.{_<_, _^_};
 ghost use lib.IntN.{pos};
 ghost use lib.ListN.{getD};
 ghost use Rattle.stab.specs.Basic.{eqZ};
-ghost use Rattle.stab.specs.Formula.{joined};
+ghost use Rattle.stab.specs.Formula.{formulaRows};
 ghost use Rattle.formula.specs.Column.{column};
 
 // Column l of row q is what stands at i in t.
 fn same_as(schema: &[i32], s: usize, proof: &[i32], q: usize, l: usize, t: &[i32], i: usize) -> bool
     requires { ⌜ (q < 2 ^ 32) × (l < 4) ⌝ }
-    ensures { λ v. ⌜ v ≡ eqZ (getD (now (t .entry)) i (pos 0)) (column (joined (now (schema .entry)) s (now (proof .entry)) q) l) ⌝ }
+    ensures { λ v. ⌜ v ≡ eqZ (getD (now (t .entry)) i (pos 0)) (column (formulaRows (now (schema .entry)) s (now (proof .entry)) q) l) ⌝ }
 {
     if q < s {
         signed::same_at(t, i, schema, 4 * q + l)
@@ -31,7 +31,7 @@ pub fn same_in(
 ) -> bool
     requires { ⌜ (r < 2 ^ 32) × (k < 4) ⌝ }
     requires { ⌜ (q < 2 ^ 32) × (l < 4) ⌝ }
-    ensures { λ v. ⌜ v ≡ eqZ (column (joined (now (schema .entry)) s (now (proof .entry)) r) k) (column (joined (now (schema .entry)) s (now (proof .entry)) q) l) ⌝ }
+    ensures { λ v. ⌜ v ≡ eqZ (column (formulaRows (now (schema .entry)) s (now (proof .entry)) r) k) (column (formulaRows (now (schema .entry)) s (now (proof .entry)) q) l) ⌝ }
 {
     if r < s {
         same_as(schema, s, proof, q, l, schema, 4 * r + k)

@@ -12,7 +12,7 @@ ghost use Prim.Native.Nat.{_+_, _*_, _<_, _≤_, _^_};
 ghost use lib.IntN.{pos, _+ℤ_};
 ghost use lib.Signed.{leZ};
 ghost use Rattle.stab.specs.Basic.{_and_, eqZ, nat};
-ghost use Rattle.stab.specs.Formula.{joined, baseOf, offset};
+ghost use Rattle.stab.specs.Formula.{formulaRows, baseOf, offset};
 ghost use Rattle.stab.specs.Meaning.{base};
 ghost use Rattle.stab.specs.Node.{nodeAt, isExact, splitAt};
 ghost use Rattle.stab.specs.Rule.{ofRule, splitFits, indexAt, clashFits, voidFits, upperFits, loopFits, boundFits};
@@ -38,9 +38,9 @@ fn split_fits(nodes: &[i32], j: usize, l: usize, h: usize) -> bool
 // L is at least b + c of row r.
 fn reaches(schema: &[i32], s: usize, proof: &[i32], r: usize, l: usize) -> bool
     requires { ⌜ (r < 2 ^ 32) × (l < 2 ^ 32) ⌝ }
-    requires { ⌜ offset (joined (now schema) s (now proof) r .b) ≡ true ⌝ }
-    requires { ⌜ offset (joined (now schema) s (now proof) r .c) ≡ true ⌝ }
-    ensures { λ v. ⌜ v ≡ leZ (joined (now (schema .entry)) s (now (proof .entry)) r .b +ℤ joined (now (schema .entry)) s (now (proof .entry)) r .c) (pos l) ⌝ }
+    requires { ⌜ offset (formulaRows (now schema) s (now proof) r .b) ≡ true ⌝ }
+    requires { ⌜ offset (formulaRows (now schema) s (now proof) r .c) ≡ true ⌝ }
+    ensures { λ v. ⌜ v ≡ leZ (formulaRows (now (schema .entry)) s (now (proof .entry)) r .b +ℤ formulaRows (now (schema .entry)) s (now (proof .entry)) r .c) (pos l) ⌝ }
 {
     let over = formula::natural_in(schema, s, proof, r, formula::B)
         + formula::natural_in(schema, s, proof, r, formula::C);
@@ -52,9 +52,9 @@ fn reaches(schema: &[i32], s: usize, proof: &[i32], r: usize, l: usize) -> bool
 // Rule 7: an upper bound, below b + c.
 fn void_fits(schema: &[i32], s: usize, proof: &[i32], r: usize, h: usize) -> bool
     requires { ⌜ (r < 2 ^ 32) × (h < 2 ^ 32) ⌝ }
-    requires { ⌜ offset (joined (now schema) s (now proof) r .b) ≡ true ⌝ }
-    requires { ⌜ offset (joined (now schema) s (now proof) r .c) ≡ true ⌝ }
-    ensures { λ v. ⌜ v ≡ voidFits (upper h) (joined (now (schema .entry)) s (now (proof .entry)) r) ⌝ }
+    requires { ⌜ offset (formulaRows (now schema) s (now proof) r .b) ≡ true ⌝ }
+    requires { ⌜ offset (formulaRows (now schema) s (now proof) r .c) ≡ true ⌝ }
+    ensures { λ v. ⌜ v ≡ voidFits (upper h) (formulaRows (now (schema .entry)) s (now (proof .entry)) r) ⌝ }
 {
     if h == 0 {
         return false;
@@ -65,7 +65,7 @@ fn void_fits(schema: &[i32], s: usize, proof: &[i32], r: usize, h: usize) -> boo
 // What c of the literal in row r is added to, at n = l.
 fn base_at(schema: &[i32], s: usize, proof: &[i32], r: usize, l: usize) -> usize
     requires { ⌜ (r < 2 ^ 32) × (l < 2 ^ 32) ⌝ }
-    ensures { λ v. ⌜ (pos v ≡ base l (pos 0) (baseOf (joined (now (schema .entry)) s (now (proof .entry)) r .b))) × (v < 2 ^ 32) ⌝ }
+    ensures { λ v. ⌜ (pos v ≡ base l (pos 0) (baseOf (formulaRows (now (schema .entry)) s (now (proof .entry)) r .b))) × (v < 2 ^ 32) ⌝ }
 {
     if formula::is_in(schema, s, proof, r, formula::B, 1) {
         return l;
@@ -76,9 +76,9 @@ fn base_at(schema: &[i32], s: usize, proof: &[i32], r: usize, l: usize) -> usize
 // Two literals name the same index at n = l.
 fn same_index(schema: &[i32], s: usize, proof: &[i32], on: usize, with: usize, l: usize) -> bool
     requires { ⌜ (on < 2 ^ 32) × (with < 2 ^ 32) × (l < 2 ^ 32) ⌝ }
-    requires { ⌜ offset (joined (now schema) s (now proof) on .c) ≡ true ⌝ }
-    requires { ⌜ offset (joined (now schema) s (now proof) with .c) ≡ true ⌝ }
-    ensures { λ v. ⌜ v ≡ eqZ (indexAt l (joined (now (schema .entry)) s (now (proof .entry)) on)) (indexAt l (joined (now (schema .entry)) s (now (proof .entry)) with)) ⌝ }
+    requires { ⌜ offset (formulaRows (now schema) s (now proof) on .c) ≡ true ⌝ }
+    requires { ⌜ offset (formulaRows (now schema) s (now proof) with .c) ≡ true ⌝ }
+    ensures { λ v. ⌜ v ≡ eqZ (indexAt l (formulaRows (now (schema .entry)) s (now (proof .entry)) on)) (indexAt l (formulaRows (now (schema .entry)) s (now (proof .entry)) with)) ⌝ }
 {
     let left = base_at(schema, s, proof, on, l)
         + formula::natural_in(schema, s, proof, on, formula::C);
@@ -91,7 +91,7 @@ fn same_index(schema: &[i32], s: usize, proof: &[i32], on: usize, with: usize, l
 // Columns b and c of two rows are equal.
 fn same_place(schema: &[i32], s: usize, proof: &[i32], on: usize, with: usize) -> bool
     requires { ⌜ (on < 2 ^ 32) × (with < 2 ^ 32) ⌝ }
-    ensures { λ v. ⌜ v ≡ (eqZ (joined (now (schema .entry)) s (now (proof .entry)) on .b) (joined (now (schema .entry)) s (now (proof .entry)) with .b) and eqZ (joined (now (schema .entry)) s (now (proof .entry)) on .c) (joined (now (schema .entry)) s (now (proof .entry)) with .c)) ⌝ }
+    ensures { λ v. ⌜ v ≡ (eqZ (formulaRows (now (schema .entry)) s (now (proof .entry)) on .b) (formulaRows (now (schema .entry)) s (now (proof .entry)) with .b) and eqZ (formulaRows (now (schema .entry)) s (now (proof .entry)) on .c) (formulaRows (now (schema .entry)) s (now (proof .entry)) with .c)) ⌝ }
 {
     if !leaves::same_in(schema, s, proof, on, formula::B, with, formula::B) {
         return false;
@@ -110,9 +110,9 @@ fn clash_fits(
     l: usize,
 ) -> bool
     requires { ⌜ (on < 2 ^ 32) × (with < 2 ^ 32) × (l < 2 ^ 32) ⌝ }
-    requires { ⌜ offset (joined (now schema) s (now proof) on .c) ≡ true ⌝ }
-    requires { ⌜ offset (joined (now schema) s (now proof) with .c) ≡ true ⌝ }
-    ensures { λ v. ⌜ v ≡ clashFits exact l (joined (now (schema .entry)) s (now (proof .entry)) on) (joined (now (schema .entry)) s (now (proof .entry)) with) ⌝ }
+    requires { ⌜ offset (formulaRows (now schema) s (now proof) on .c) ≡ true ⌝ }
+    requires { ⌜ offset (formulaRows (now schema) s (now proof) with .c) ≡ true ⌝ }
+    ensures { λ v. ⌜ v ≡ clashFits exact l (formulaRows (now (schema .entry)) s (now (proof .entry)) on) (formulaRows (now (schema .entry)) s (now (proof .entry)) with) ⌝ }
 {
     if same_place(schema, s, proof, on, with) {
         return true;
@@ -169,7 +169,7 @@ pub fn bound_fits(
 ) -> bool
     requires { ⌜ (j < t .nodes) × (t .nodes ≤ 1024) × (t .schema + t .proof ≤ 1024) ⌝ }
     requires { ⌜ FieldsKnown (lent (now schema) (now proof) (now nodes) [] t) j ⌝ }
-    requires { ⌜ AllFormed (joined (now schema) (t .schema) (now proof)) (t .schema + t .proof) ⌝ }
+    requires { ⌜ AllFormed (formulaRows (now schema) (t .schema) (now proof)) (t .schema + t .proof) ⌝ }
     requires { ⌜ AllWorked (now nodes) (t .least) (t .nodes) (now work) (t .nodes) ⌝ }
     requires { ⌜ (ofRule 8 (nodeAt (now nodes) j) ≡ true → nat (nodeAt (now nodes) j .to) < j) ⌝ }
     ensures { λ r. ⌜ r ≡ boundFits (lent (now (schema .entry)) (now (proof .entry)) (now (nodes .entry)) [] t) j ⌝ }

@@ -26,7 +26,7 @@ use Rattle.stab.proofs.Bools.{and-left, and-right, same-test, none-unless, unle
 use Rattle.stab.proofs.Findings.{otherwise-assoc}
 use Rattle.stab.proofs.Trees.{below-nat}
 use Rattle.stab.proofs.Whole.{atom, le-of, of-le, plus-nat, minus-nat}
-pub use Rattle.formula.proofs.Columns.{joined-part}
+pub use Rattle.formula.proofs.Columns.{formula-rows-part}
 use Rattle.model.specs.Passes.{tablesRefusal, truthRefusal}
 use Rattle.pairs.proofs.Parts.{high-is}
 

@@ -16,7 +16,7 @@ use Rattle.stab.proofs.Bools.{and-second-false, or-right, same-test}
 use Rattle.stab.proofs.Scans.{below-suc}
 use Rattle.pairs.specs.Index.{unbiased}
 use Rattle.pairs.specs.Reading.{opOf}
-use Rattle.pairs.specs.Word.{word, wordAt, joinedWord, wholeWord}
+use Rattle.pairs.specs.Word.{word, wordAt, combinedWord, wholeWord}
 use Rattle.pairs.proofs.Parts.{unbiased-more}
 
 -- ---- what the machine shifts
@@ -145,10 +145,10 @@ module _ (p q : ℕ → Bool) where
       ∙ ap₂ (λ (x y : ℕ). x * 2 ^ w + y) (bit-or (p w) (q w)) (or-word w)
       ∙ sym (word-more (λ j. p j or q j) w)
 
-  pub joined-word : (any : Bool) (w : ℕ) → joinedWord any (word p w) (word q w) ≡ word (λ j. op (opOf any) (p j) (q j)) w
-  unfolding joinedWord op opOf
-  joined-word true w = or-word w
-  joined-word false w = and-word w
+  pub combined-word : (any : Bool) (w : ℕ) → combinedWord any (word p w) (word q w) ≡ word (λ j. op (opOf any) (p j) (q j)) w
+  unfolding combinedWord op opOf
+  combined-word true w = or-word w
+  combined-word false w = and-word w
 
 op-any : (any v : Bool) → op (opOf any) any v ≡ any
 unfolding op opOf _and_ _or_
@@ -160,9 +160,9 @@ pub settled-word : (any : Bool) (p q : ℕ → Bool) (w : ℕ) → word p w ≡ 
 settled-word any p q w e =
     e
     ∙ word-same (λ j. any) (λ j. op (opOf any) any (q j)) w (λ j l. sym (op-any any (q j)))
-    ∙ sym (joined-word (λ j. any) q any w)
-    ∙ ap (λ (m : ℕ). joinedWord any m (word q w)) (sym e)
-    ∙ joined-word p q any w
+    ∙ sym (combined-word (λ j. any) q any w)
+    ∙ ap (λ (m : ℕ). combinedWord any m (word q w)) (sym e)
+    ∙ combined-word p q any w
 
 -- ---- the digits of one word, joined
 

@@ -17,9 +17,9 @@ unfoldable pub wordAt : (ℤ → Bool) → ℕ → ℕ → ℕ
 wordAt p x w = word (λ j. p (unbiased (x + j))) w
 
 -- two words, digit by digit: by or where `any`, else by and
-unfoldable pub joinedWord : Bool → ℕ → ℕ → ℕ
-joinedWord true v w = bitOr v w
-joinedWord false v w = bitAnd v w
+unfoldable pub combinedWord : Bool → ℕ → ℕ → ℕ
+combinedWord true v w = bitOr v w
+combinedWord false v w = bitAnd v w
 
 -- the digits of a word of n digits: one of them is set where `any`, else all
 unfoldable pub wholeWord : Bool → ℕ → ℕ → Bool

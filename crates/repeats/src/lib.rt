@@ -11,7 +11,7 @@ ghost use Prim.Native.Nat.{ℕ, _+_, _<_, _≤_};
 ghost use mathlib.Core.Bool.{false};
 ghost use lib.ListN.{length, getD};
 ghost use Rattle.stab.specs.Basic.{scan};
-ghost use Rattle.stab.specs.Formula.{joined};
+ghost use Rattle.stab.specs.Formula.{formulaRows};
 ghost use Rattle.stab.specs.Check.{finding, repeatRefusal};
 ghost use Rattle.repeats.specs.Places.{Linked};
 ghost use Rattle.repeats.specs.Repeated.{repeated};
@@ -27,9 +27,9 @@ fn step(
     heads: &mut [u16],
 ) -> bool
     requires { ⌜ (r < 1024) × (r < length (now next)) × (4096 ≤ length (now heads)) ⌝ }
-    requires { ⌜ Linked (joined (now schema) s (now proof)) (now next) (now heads) r ⌝ }
-    ensures { λ v. ⌜ v ≡ repeated (joined (now (schema .entry)) s (now (proof .entry))) from r ⌝ }
-    ensures { λ v. ⌜ (v ≡ false → Linked (joined (now (schema .entry)) s (now (proof .entry))) (now (next .exit)) (now (heads .exit)) (r + 1)) ⌝ }
+    requires { ⌜ Linked (formulaRows (now schema) s (now proof)) (now next) (now heads) r ⌝ }
+    ensures { λ v. ⌜ v ≡ repeated (formulaRows (now (schema .entry)) s (now (proof .entry))) from r ⌝ }
+    ensures { λ v. ⌜ (v ≡ false → Linked (formulaRows (now (schema .entry)) s (now (proof .entry))) (now (next .exit)) (now (heads .exit)) (r + 1)) ⌝ }
 {
     let h = places::place(cells::of_row(schema, s, proof, r));
     if from <= r {
@@ -53,7 +53,7 @@ fn first_repeat(
 ) -> Finding
     requires { ⌜ (n ≤ 1024) × (n ≤ length (now next)) × (4096 ≤ length (now heads)) ⌝ }
     requires { ⌜ ((h : ℕ) → h < 4096 → getD (now heads) h 0 ≡ 0) ⌝ }
-    ensures { λ r. ⌜ finding r ≡ scan (repeatRefusal (joined (now (schema .entry)) s (now (proof .entry))) from) n ⌝ }
+    ensures { λ r. ⌜ finding r ≡ scan (repeatRefusal (formulaRows (now (schema .entry)) s (now (proof .entry))) from) n ⌝ }
 {
     let mut r: usize = 0;
     while r < n {
@@ -71,7 +71,7 @@ fn first_repeat(
 // The first of n rows, from `from` on, whose columns are those of an earlier row.
 pub fn repeats(schema: &[i32], s: usize, proof: &[i32], from: usize, n: usize) -> Finding
     requires { ⌜ n ≤ 1024 ⌝ }
-    ensures { λ r. ⌜ finding r ≡ scan (repeatRefusal (joined (now (schema .entry)) s (now (proof .entry))) from) n ⌝ }
+    ensures { λ r. ⌜ finding r ≡ scan (repeatRefusal (formulaRows (now (schema .entry)) s (now (proof .entry))) from) n ⌝ }
 {
     if n <= from {
         return Finding::Nothing;

@@ -7,7 +7,7 @@ use signed::rank;
 ghost use mathlib.Core.Path.{_≡_};
 ghost use Prim.Native.Nat.{_+_, _<_};
 ghost use lib.ListN.{length, getD, set};
-ghost use Rattle.stab.specs.Formula.{joined};
+ghost use Rattle.stab.specs.Formula.{formulaRows};
 ghost use Rattle.stab.specs.Check.{standsBefore};
 ghost use Rattle.formula.specs.Cells.{rowOf};
 ghost use Rattle.repeats.specs.Places.{placeOf, Linked};
@@ -30,9 +30,9 @@ pub fn stands(
     heads: &[u16],
 ) -> bool
     requires { ⌜ r < 1024 ⌝ }
-    requires { ⌜ Linked (joined (now schema) s (now proof)) (now next) (now heads) r ⌝ }
-    requires { ⌜ h ≡ placeOf (joined (now schema) s (now proof) r) ⌝ }
-    ensures { λ v. ⌜ v ≡ standsBefore (joined (now (schema .entry)) s (now (proof .entry))) r (joined (now (schema .entry)) s (now (proof .entry)) r) ⌝ }
+    requires { ⌜ Linked (formulaRows (now schema) s (now proof)) (now next) (now heads) r ⌝ }
+    requires { ⌜ h ≡ placeOf (formulaRows (now schema) s (now proof) r) ⌝ }
+    ensures { λ v. ⌜ v ≡ standsBefore (formulaRows (now (schema .entry)) s (now (proof .entry))) r (formulaRows (now (schema .entry)) s (now (proof .entry)) r) ⌝ }
 {
     let mut rest = number_at(heads, h);
     while 0 < rest {

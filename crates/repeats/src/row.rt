@@ -2,7 +2,7 @@
 use signed::same_at;
 ghost use mathlib.Core.Path.{_≡_};
 ghost use Prim.Native.Nat.{_<_, _^_};
-ghost use Rattle.stab.specs.Formula.{rowAt, joined};
+ghost use Rattle.stab.specs.Formula.{rowAt, formulaRows};
 ghost use Rattle.stab.specs.Check.{sameRow};
 
 // Row p of one table has the columns of row q of another.
@@ -27,7 +27,7 @@ fn same_rows(t: &[i32], p: usize, u: &[i32], q: usize) -> bool
 // Row q, schema rows first, has the columns of row p of a table.
 fn same_as(schema: &[i32], s: usize, proof: &[i32], q: usize, t: &[i32], p: usize) -> bool
     requires { ⌜ (q < 2 ^ 32) × (p < 2 ^ 32) ⌝ }
-    ensures { λ v. ⌜ v ≡ sameRow (joined (now (schema .entry)) s (now (proof .entry)) q) (rowAt (now (t .entry)) p) ⌝ }
+    ensures { λ v. ⌜ v ≡ sameRow (formulaRows (now (schema .entry)) s (now (proof .entry)) q) (rowAt (now (t .entry)) p) ⌝ }
 {
     if q < s {
         same_rows(schema, q, t, p)
@@ -39,7 +39,7 @@ fn same_as(schema: &[i32], s: usize, proof: &[i32], q: usize, t: &[i32], p: usiz
 // Row q has the columns of row r.
 pub fn same(schema: &[i32], s: usize, proof: &[i32], q: usize, r: usize) -> bool
     requires { ⌜ (q < 2 ^ 32) × (r < 2 ^ 32) ⌝ }
-    ensures { λ v. ⌜ v ≡ sameRow (joined (now (schema .entry)) s (now (proof .entry)) q) (joined (now (schema .entry)) s (now (proof .entry)) r) ⌝ }
+    ensures { λ v. ⌜ v ≡ sameRow (formulaRows (now (schema .entry)) s (now (proof .entry)) q) (formulaRows (now (schema .entry)) s (now (proof .entry)) r) ⌝ }
 {
     if r < s {
         same_as(schema, s, proof, q, schema, r)

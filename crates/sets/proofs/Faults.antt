@@ -6,7 +6,7 @@ use mathlib.Core.List.{List}
 use mathlib.Core.Option.{Option}
 use lib.IntN.{ℤ}
 use Rattle.stab.specs.Basic.{_otherwise_, scan}
-use Rattle.stab.specs.Formula.{joined}
+use Rattle.stab.specs.Formula.{formulaRows}
 use Rattle.stab.specs.Check.{atUnless, setRefusal, parentRefusal}
 use Rattle.stab.proofs.Bools.{decide, none-unless, some-unless}
 use Rattle.formula.specs.Facts.{AllKnown}
@@ -23,7 +23,7 @@ scan-same f g h (suc n) = ap₂ _otherwise_ (scan-same f g h n) (h n)
 
 module _ (schema : List ℤ) (s : ℕ) (proof : List ℤ) (p : ℕ) (root least : ℤ) (nodes : List ℤ) (k : ℕ) (members : List ℤ) (m : ℕ) where
   -- where the facts are those of the rows
-  pub sets-refusal : (facts : List ℕ) → AllKnown (joined schema s proof) facts (s + p) → (i : ℕ)
+  pub sets-refusal : (facts : List ℕ) → AllKnown (formulaRows schema s proof) facts (s + p) → (i : ℕ)
       → scan (setFault facts (s + p) nodes k members m) i ≡ scan (setRefusal (tableau schema s proof p root least nodes k members m)) i
   unfolding setFault
   sets-refusal facts known = scan-same _ _ (λ j. sym (set-refusal schema s proof p facts (s + p) refl known root least nodes k members m j))

@@ -11,7 +11,7 @@ use lib.IntN.{ℤ, pos, _+ℤ_}
 use lib.Signed.{leZ}
 use lib.ListN.{length}
 use Rattle.stab.specs.Basic.{_and_, _implies_, eqZ, nat, below, allOf, ascending, scan}
-use Rattle.stab.specs.Formula.{joined, tree, loose, isOuter}
+use Rattle.stab.specs.Formula.{formulaRows, tree, loose, isOuter}
 use Rattle.stab.specs.Node.{Tableau, rows, rowCount, isRow, formula, isOuterRow, node, nodeAt, set, setOf, setEnd, setStart, setFollows, setFits}
 use Rattle.stab.specs.Check.{setRefusal, atUnless}
 use Rattle.stab.specs.declared.Refusal.the-variants.{Set}
@@ -38,7 +38,7 @@ unfolding allOf
 all-same p q h [] = refl
 all-same p q h (x ∷ xs) = ap₂ _and_ (h x) (all-same p q h xs)
 
-module _ (schema : List ℤ) (s : ℕ) (proof : List ℤ) (p : ℕ) (facts : List ℕ) (n : ℕ) (rows-are : s + p ≡ n) (known : AllKnown (joined schema s proof) facts n) where
+module _ (schema : List ℤ) (s : ℕ) (proof : List ℤ) (p : ℕ) (facts : List ℕ) (n : ℕ) (rows-are : s + p ≡ n) (known : AllKnown (formulaRows schema s proof) facts n) where
   -- a row is outer exactly if its third fact is 0
   pub outer-same :
       (root least : ℤ) (nodes : List ℤ) (k : ℕ) (members : List ℤ) (m : ℕ) (z : ℤ)
@@ -47,10 +47,10 @@ module _ (schema : List ℤ) (s : ℕ) (proof : List ℤ) (p : ℕ) (facts : Lis
   outer-same root least nodes k members m z =
       ⊎-elim
       (λ h.
-      ap (λ (b : Bool). below n z and b) (ap (λ (x : ℕ). eqb x 0) (known (nat z) (below-nat n z h) .loose) ∙ bit-zero (loose (tree (joined schema s proof) (nat z)))))
+      ap (λ (b : Bool). below n z and b) (ap (λ (x : ℕ). eqb x 0) (known (nat z) (below-nat n z h) .loose) ∙ bit-zero (loose (tree (formulaRows schema s proof) (nat z)))))
       (λ h. and-first-false _ _ h ∙ sym (and-first-false _ _ h))
       (decide (below n z))
-      ∙ ap (λ (c : ℕ). below c z and not (loose (tree (joined schema s proof) (nat z)))) (sym rows-are)
+      ∙ ap (λ (c : ℕ). below c z and not (loose (tree (formulaRows schema s proof) (nat z)))) (sym rows-are)
 
   module _ (root least : ℤ) (nodes : List ℤ) (k : ℕ) (members : List ℤ) (m : ℕ) (j : ℕ) where
     same-fits :

@@ -10,7 +10,7 @@ use lib.IntN.{ℤ, pos}
 use lib.Signed.{leZ, _≤ℤ_}
 use borrow.Author.Tests.{lt-ltb}
 use Rattle.stab.specs.Basic.{_and_, nat, below}
-use Rattle.stab.specs.Formula.{rowAt, joined, tree}
+use Rattle.stab.specs.Formula.{rowAt, formulaRows, tree}
 use Rattle.stab.specs.Meaning.{Assignment, truth}
 use Rattle.stab.specs.Node.{Tableau, Bound, rows, formula, node, bound, firstBound, AtMost, Satisfies}
 use Rattle.stab.specs.Check.{check, checkOlder}
@@ -57,7 +57,7 @@ module _ (T : Tableau) (K : KeepsOlder T) (σ : Assignment) where
 
 -- the root's formula is made of schema rows
 schema-tree : (T : Tableau) (schema : List ℤ) → ((r : ℕ) → r < T .schemaRows → rowAt (T .schema) r ≡ rowAt schema r) → nat (T .root) < T .schemaRows → tree (rows T) (nat (T .root)) ≡ tree (rowAt schema) (nat (T .root))
-unfolding rows joined
+unfolding rows formulaRows
 schema-tree T schema same p =
     tree-agrees (rows T) (rowAt schema) (nat (T .root))
     (λ a l. if-true (ltb a (T .schemaRows)) _ _ (lt-ltb a (T .schemaRows) (omega arith)) ∙ same a (omega arith))

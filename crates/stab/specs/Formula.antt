@@ -21,8 +21,8 @@ unfoldable pub rowAt : List ℤ → ℕ → Row
 rowAt t r = record { kind = getD t (4 * r) (pos 0); a = getD t (4 * r + 1) (pos 0); b = getD t (4 * r + 2) (pos 0); c = getD t (4 * r + 3) (pos 0) }
 
 -- "Schema rows count from 0; proof rows continue the count": row r of a schema table with s rows and a proof table
-unfoldable pub joined : List ℤ → ℕ → List ℤ → ℕ → Row
-joined schema s proof r = if ltb r s then rowAt schema r else rowAt proof (r - s)
+unfoldable pub formulaRows : List ℤ → ℕ → List ℤ → ℕ → Row
+formulaRows schema s proof r = if ltb r s then rowAt schema r else rowAt proof (r - s)
 
 -- The kinds come in pairs: true and false, literal and negated literal, and and or, big and and big or.
 pub data Op : Type 0 where

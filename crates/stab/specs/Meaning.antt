@@ -29,7 +29,7 @@ unfoldable pub empty : Op → Bool
 empty conj = true
 empty disj = false
 
--- p at b, b + 1, .. b + (k - 1), joined
+-- p at b, b + 1, .. b + (k - 1), combined
 unfoldable pub over : Op → (ℤ → Bool) → ℤ → ℕ → Bool
 over o p b zero = empty o
 over o p b (suc k) = op o (over o p b k) (p (b +ℤ pos k))

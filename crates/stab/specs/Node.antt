@@ -8,7 +8,7 @@ use lib.IntN.{ℤ, pos, negℤ, _+ℤ_}
 use lib.Signed.{leZ}
 use lib.ListN.{getD, take, drop}
 use Rattle.stab.specs.Basic.{if_then_else_, _and_, eqZ, nat, below, allOf, ascending, sameList, count}
-use Rattle.stab.specs.Formula.{Row, joined, Formula, tree, isOuter}
+use Rattle.stab.specs.Formula.{Row, formulaRows, Formula, tree, isOuter}
 
 -- What the check is lent: tables of numbers, with how many rows or members each is said to hold.
 pub record Tableau : Type 0 where
@@ -25,7 +25,7 @@ pub record Tableau : Type 0 where
 
 -- the formula rows, schema rows first
 unfoldable pub rows : Tableau → ℕ → Row
-rows T = joined (T .schema) (T .schemaRows) (T .proof)
+rows T = formulaRows (T .schema) (T .schemaRows) (T .proof)
 
 unfoldable pub rowCount : Tableau → ℕ
 rowCount T = T .schemaRows + T .proofRows

@@ -9,7 +9,7 @@ ghost use Prim.Native.Nat.{_+_, _<_, _≤_, _^_};
 ghost use lib.IntN.{pos, _+ℤ_};
 ghost use lib.ListN.{length};
 ghost use Rattle.stab.specs.Basic.{_or_, eqZ};
-ghost use Rattle.stab.specs.Formula.{joined, offset};
+ghost use Rattle.stab.specs.Formula.{formulaRows, offset};
 ghost use Rattle.stab.specs.Node.{nodeAt};
 ghost use Rattle.stab.specs.Rule.{ofRule, shortened, partnersFit};
 ghost use Rattle.formula.specs.Facts.{AllKnown};
@@ -31,9 +31,9 @@ fn unfolds(nodes: &[i32], j: usize) -> bool
 // Column c of row `with` is one more than that of row `on`.
 fn is_next(schema: &[i32], s: usize, proof: &[i32], on: usize, with: usize) -> bool
     requires { ⌜ (on < 2 ^ 32) × (with < 2 ^ 32) ⌝ }
-    requires { ⌜ offset (joined (now schema) s (now proof) on .c) ≡ true ⌝ }
-    requires { ⌜ offset (joined (now schema) s (now proof) with .c) ≡ true ⌝ }
-    ensures { λ v. ⌜ v ≡ eqZ (joined (now (schema .entry)) s (now (proof .entry)) with .c) (joined (now (schema .entry)) s (now (proof .entry)) on .c +ℤ pos 1) ⌝ }
+    requires { ⌜ offset (formulaRows (now schema) s (now proof) on .c) ≡ true ⌝ }
+    requires { ⌜ offset (formulaRows (now schema) s (now proof) with .c) ≡ true ⌝ }
+    ensures { λ v. ⌜ v ≡ eqZ (formulaRows (now (schema .entry)) s (now (proof .entry)) with .c) (formulaRows (now (schema .entry)) s (now (proof .entry)) on .c +ℤ pos 1) ⌝ }
 {
     formula::natural_in(schema, s, proof, with, formula::C)
         + formula::under_in(schema, s, proof, on, formula::C)
@@ -45,9 +45,9 @@ fn is_next(schema: &[i32], s: usize, proof: &[i32], on: usize, with: usize) -> b
 // Row `with` has the body number and b of row `on`, and c + 1.
 fn is_shortened(schema: &[i32], s: usize, proof: &[i32], on: usize, with: usize) -> bool
     requires { ⌜ (on < 2 ^ 32) × (with < 2 ^ 32) ⌝ }
-    requires { ⌜ offset (joined (now schema) s (now proof) on .c) ≡ true ⌝ }
-    requires { ⌜ offset (joined (now schema) s (now proof) with .c) ≡ true ⌝ }
-    ensures { λ v. ⌜ v ≡ shortened (joined (now (schema .entry)) s (now (proof .entry)) on) (joined (now (schema .entry)) s (now (proof .entry)) with) ⌝ }
+    requires { ⌜ offset (formulaRows (now schema) s (now proof) on .c) ≡ true ⌝ }
+    requires { ⌜ offset (formulaRows (now schema) s (now proof) with .c) ≡ true ⌝ }
+    ensures { λ v. ⌜ v ≡ shortened (formulaRows (now (schema .entry)) s (now (proof .entry)) on) (formulaRows (now (schema .entry)) s (now (proof .entry)) with) ⌝ }
 {
     if !leaves::same_in(schema, s, proof, with, formula::A, on, formula::A) {
         return false;
@@ -71,11 +71,11 @@ pub fn partners_fit(
 ) -> bool
     requires { ⌜ j < 2 ^ 32 ⌝ }
     requires { ⌜ FieldsKnown (lent (now schema) (now proof) (now nodes) [] t) j ⌝ }
-    requires { ⌜ AllKnown (joined (now schema) (t .schema) (now proof)) (now facts) (t .schema + t .proof) ⌝ }
-    requires { ⌜ Ready (joined (now schema) (t .schema) (now proof)) (now forms) (t .schema + t .proof) ⌝ }
-    requires { ⌜ Remembers (joined (now schema) (t .schema) (now proof)) (now agreed) × (t .schema + t .proof ≤ length (now agreed)) ⌝ }
+    requires { ⌜ AllKnown (formulaRows (now schema) (t .schema) (now proof)) (now facts) (t .schema + t .proof) ⌝ }
+    requires { ⌜ Ready (formulaRows (now schema) (t .schema) (now proof)) (now forms) (t .schema + t .proof) ⌝ }
+    requires { ⌜ Remembers (formulaRows (now schema) (t .schema) (now proof)) (now agreed) × (t .schema + t .proof ≤ length (now agreed)) ⌝ }
     ensures { λ r. ⌜ r ≡ partnersFit (lent (now (schema .entry)) (now (proof .entry)) (now (nodes .entry)) [] t) j ⌝ }
-    ensures { λ _. ⌜ Remembers (joined (now (schema .entry)) (t .schema) (now (proof .entry))) (now (agreed .exit)) ⌝ }
+    ensures { λ _. ⌜ Remembers (formulaRows (now (schema .entry)) (t .schema) (now (proof .entry))) (now (agreed .exit)) ⌝ }
 {
     if !unfolds(nodes, j) {
         return true;

@@ -15,7 +15,7 @@ ghost use Prim.Native.Nat.{_+_, _*_, _<_, _≤_, _^_};
 ghost use lib.Dec.{eqb, leb};
 ghost use lib.ListN.{length, getD};
 ghost use Rattle.stab.specs.Basic.{if_then_else_, _implies_, nat, below, scan};
-ghost use Rattle.stab.specs.Formula.{joined};
+ghost use Rattle.stab.specs.Formula.{formulaRows};
 ghost use Rattle.stab.specs.Node.{nodeAt};
 ghost use Rattle.stab.specs.Rule.{ruleOf, ofRule, drawn, loweredFits};
 ghost use Rattle.stab.specs.Check.{finding, stepRefusal};
@@ -68,12 +68,12 @@ fn lowered_fits(
     agreed: &mut [u32],
 ) -> bool
     requires { ⌜ j < 2 ^ 32 ⌝ }
-    requires { ⌜ Compared (joined (now schema) (t .schema) (now proof)) (now forms) (t .schema + t .proof) ⌝ }
-    requires { ⌜ SetOfRows (joined (now schema) (t .schema) (now proof)) (now nodes) (now members) (t .schema + t .proof) j ⌝ }
-    requires { ⌜ (ofRule 8 (nodeAt (now nodes) j) ≡ true → (nat (nodeAt (now nodes) j .to) < 2 ^ 32) × SetOfRows (joined (now schema) (t .schema) (now proof)) (now nodes) (now members) (t .schema + t .proof) (nat (nodeAt (now nodes) j .to))) ⌝ }
-    requires { ⌜ Remembers (joined (now schema) (t .schema) (now proof)) (now agreed) × (t .schema + t .proof ≤ length (now agreed)) ⌝ }
+    requires { ⌜ Compared (formulaRows (now schema) (t .schema) (now proof)) (now forms) (t .schema + t .proof) ⌝ }
+    requires { ⌜ SetOfRows (formulaRows (now schema) (t .schema) (now proof)) (now nodes) (now members) (t .schema + t .proof) j ⌝ }
+    requires { ⌜ (ofRule 8 (nodeAt (now nodes) j) ≡ true → (nat (nodeAt (now nodes) j .to) < 2 ^ 32) × SetOfRows (formulaRows (now schema) (t .schema) (now proof)) (now nodes) (now members) (t .schema + t .proof) (nat (nodeAt (now nodes) j .to))) ⌝ }
+    requires { ⌜ Remembers (formulaRows (now schema) (t .schema) (now proof)) (now agreed) × (t .schema + t .proof ≤ length (now agreed)) ⌝ }
     ensures { λ r. ⌜ r ≡ loweredFits (lent (now (schema .entry)) (now (proof .entry)) (now (nodes .entry)) (now (members .entry)) t) j ⌝ }
-    ensures { λ _. ⌜ Remembers (joined (now (schema .entry)) (t .schema) (now (proof .entry))) (now (agreed .exit)) ⌝ }
+    ensures { λ _. ⌜ Remembers (formulaRows (now (schema .entry)) (t .schema) (now (proof .entry))) (now (agreed .exit)) ⌝ }
 {
     if !node::is_of(nodes, j, node::RULE, 8) {
         return true;
@@ -112,9 +112,9 @@ fn step(
 ) -> Finding
     requires { ⌜ j < t .nodes ⌝ }
     requires { ⌜ Ready (lent (now schema) (now proof) (now nodes) (now members) t) (now facts) (now forms) (now work) ⌝ }
-    requires { ⌜ Remembers (joined (now schema) (t .schema) (now proof)) (now agreed) × (t .schema + t .proof ≤ length (now agreed)) ⌝ }
+    requires { ⌜ Remembers (formulaRows (now schema) (t .schema) (now proof)) (now agreed) × (t .schema + t .proof ≤ length (now agreed)) ⌝ }
     ensures { λ r. ⌜ finding r ≡ stepRefusal (lent (now (schema .entry)) (now (proof .entry)) (now (nodes .entry)) (now (members .entry)) t) j ⌝ }
-    ensures { λ _. ⌜ Remembers (joined (now (schema .entry)) (t .schema) (now (proof .entry))) (now (agreed .exit)) ⌝ }
+    ensures { λ _. ⌜ Remembers (formulaRows (now (schema .entry)) (t .schema) (now (proof .entry))) (now (agreed .exit)) ⌝ }
 {
     if !drawn_fits(schema, proof, nodes, members, work, t, j) {
         return Finding::Found {
@@ -171,9 +171,9 @@ fn judge(
 ) -> Finding
     requires { ⌜ j < t .nodes ⌝ }
     requires { ⌜ Ready (lent (now schema) (now proof) (now nodes) (now members) t) (now facts) (now forms) (now work) ⌝ }
-    requires { ⌜ Remembers (joined (now schema) (t .schema) (now proof)) (now agreed) × (t .schema + t .proof ≤ length (now agreed)) ⌝ }
+    requires { ⌜ Remembers (formulaRows (now schema) (t .schema) (now proof)) (now agreed) × (t .schema + t .proof ≤ length (now agreed)) ⌝ }
     ensures { λ r. ⌜ finding r ≡ nodeRefusalAs whole (lent (now (schema .entry)) (now (proof .entry)) (now (nodes .entry)) (now (members .entry)) t) j ⌝ }
-    ensures { λ _. ⌜ Remembers (joined (now (schema .entry)) (t .schema) (now (proof .entry))) (now (agreed .exit)) ⌝ }
+    ensures { λ _. ⌜ Remembers (formulaRows (now (schema .entry)) (t .schema) (now (proof .entry))) (now (agreed .exit)) ⌝ }
 {
     let found = step(
         schema,
@@ -213,9 +213,9 @@ pub fn each_node(
     agreed: &mut [u32],
 ) -> Finding
     requires { ⌜ Ready (lent (now schema) (now proof) (now nodes) (now members) t) (now facts) (now forms) (now work) ⌝ }
-    requires { ⌜ Remembers (joined (now schema) (t .schema) (now proof)) (now agreed) × (t .schema + t .proof ≤ length (now agreed)) ⌝ }
+    requires { ⌜ Remembers (formulaRows (now schema) (t .schema) (now proof)) (now agreed) × (t .schema + t .proof ≤ length (now agreed)) ⌝ }
     ensures { λ r. ⌜ finding r ≡ scan (nodeRefusalAs whole (lent (now (schema .entry)) (now (proof .entry)) (now (nodes .entry)) (now (members .entry)) t)) (t .nodes) ⌝ }
-    ensures { λ _. ⌜ Remembers (joined (now (schema .entry)) (t .schema) (now (proof .entry))) (now (agreed .exit)) ⌝ }
+    ensures { λ _. ⌜ Remembers (formulaRows (now (schema .entry)) (t .schema) (now (proof .entry))) (now (agreed .exit)) ⌝ }
 {
     let mut j: usize = 0;
     while j < t.nodes {

@@ -10,7 +10,7 @@ ghost use mathlib.Core.Option.{none};
 ghost use lib.Dec.{leb, ltb};
 ghost use lib.ListN.{length};
 ghost use Rattle.stab.specs.Basic.{if_then_else_, _and_, _implies_, count, _otherwise_, scan};
-ghost use Rattle.stab.specs.Formula.{joined};
+ghost use Rattle.stab.specs.Formula.{formulaRows};
 ghost use Rattle.stab.specs.Check.{finding, holds, repeatRefusal, rootFits, olderFormulas, isLink, verdict, checkOlder, checkAs};
 ghost use Rattle.stab.specs.Check.{check as checked};
 ghost use Rattle.stab.specs.Refuted.{Refuted};
@@ -88,7 +88,7 @@ fn nodes_pass(
     m: usize,
 ) -> Finding
     requires { ⌜ (s + p ≤ 1024) × (4 * (s + p) ≤ length (now facts)) × (k ≤ 1024) × (m ≤ length (now members)) ⌝ }
-    requires { ⌜ AllKnown (joined (now schema) s (now proof)) (now facts) (s + p) ⌝ }
+    requires { ⌜ AllKnown (formulaRows (now schema) s (now proof)) (now facts) (s + p) ⌝ }
     ensures { λ r. ⌜ finding r ≡ nodesRefusal whole (tableau (now (schema .entry)) s (now (proof .entry)) p root least (now (nodes .entry)) k (now (members .entry)) m) ⌝ }
 {
     let found = sets::sets(facts, s + p, nodes, k, members, m);
@@ -107,8 +107,8 @@ fn nodes_pass(
 // What two of n well-formed rows are compared by is kept; the rest of what it is worked out with is not needed again.
 fn classify(schema: &[i32], s: usize, proof: &[i32], n: usize, forms: &mut [u32], sides: &mut [u32])
     requires { ⌜ (n ≤ 1024) × (4 * n ≤ length (now forms)) × (2 * n ≤ length (now sides)) ⌝ }
-    requires { ⌜ AllFormed (joined (now schema) s (now proof)) n ⌝ }
-    ensures { λ _. ⌜ AllClassed (joined (now (schema .entry)) s (now (proof .entry))) (now (forms .exit)) n ⌝ }
+    requires { ⌜ AllFormed (formulaRows (now schema) s (now proof)) n ⌝ }
+    ensures { λ _. ⌜ AllClassed (formulaRows (now (schema .entry)) s (now (proof .entry))) (now (forms .exit)) n ⌝ }
 {
     let mut heads = [0u16; 2048];
     classes::work_out(schema, s, proof, n, forms, sides, &mut heads);
@@ -131,7 +131,7 @@ fn passes(
 ) -> Finding
     requires { ⌜ (s + p ≤ 1024) × (4 * (s + p) ≤ length (now facts)) × (k ≤ 1024) × (m ≤ length (now members)) ⌝ }
     ensures { λ r. ⌜ finding r ≡ (rowsRefusal (tableau (now (schema .entry)) s (now (proof .entry)) p root least (now (nodes .entry)) k (now (members .entry)) m) otherwise nodesRefusal whole (tableau (now (schema .entry)) s (now (proof .entry)) p root least (now (nodes .entry)) k (now (members .entry)) m)) ⌝ }
-    ensures { λ r. ⌜ (finding r ≡ none → AllKnown (joined (now (schema .entry)) s (now (proof .entry))) (now (facts .exit)) (s + p) × AllFormed (joined (now (schema .entry)) s (now (proof .entry))) (s + p)) ⌝ }
+    ensures { λ r. ⌜ (finding r ≡ none → AllKnown (formulaRows (now (schema .entry)) s (now (proof .entry))) (now (facts .exit)) (s + p) × AllFormed (formulaRows (now (schema .entry)) s (now (proof .entry))) (s + p)) ⌝ }
 {
     let found = formula::rows::formulas(schema, s, proof, s + p, root, least, facts);
     let Finding::Nothing = found else {
@@ -173,9 +173,9 @@ fn single_steps(
     agreed: &mut [u32],
 ) -> Finding
     requires { ⌜ (s + p ≤ 1024) × (4 * (s + p) ≤ length (now forms)) × (2 * (s + p) ≤ length (now sides)) × (k ≤ 1024) × (m ≤ 8192) × (9 * k ≤ length (now nodes)) × (m ≤ length (now members)) × (4 * k ≤ length (now work)) ⌝ }
-    requires { ⌜ AllKnown (joined (now schema) s (now proof)) (now facts) (s + p) × AllFormed (joined (now schema) s (now proof)) (s + p) ⌝ }
+    requires { ⌜ AllKnown (formulaRows (now schema) s (now proof)) (now facts) (s + p) × AllFormed (formulaRows (now schema) s (now proof)) (s + p) ⌝ }
     requires { ⌜ (rowsRefusal (tableau (now schema) s (now proof) p root least (now nodes) k (now members) m) otherwise nodesRefusal whole (tableau (now schema) s (now proof) p root least (now nodes) k (now members) m)) ≡ none ⌝ }
-    requires { ⌜ Remembers (joined (now schema) s (now proof)) (now agreed) × (s + p ≤ length (now agreed)) ⌝ }
+    requires { ⌜ Remembers (formulaRows (now schema) s (now proof)) (now agreed) × (s + p ≤ length (now agreed)) ⌝ }
     ensures { λ r. ⌜ finding r ≡ scan (nodeRefusalAs whole (tableau (now (schema .entry)) s (now (proof .entry)) p root least (now (nodes .entry)) k (now (members .entry)) m)) k ⌝ }
 {
     bounds::work_out(nodes, k, least, work);
@@ -437,7 +437,7 @@ fn fresh(
     root: i32,
     least: i32,
 ) -> Finding
-    ensures { λ r. ⌜ finding r ≡ (scan (repeatRefusal (joined (now (schema .entry)) s (now (proof .entry))) s) (reached (finding found) (rootFits s root least) (countIn s p)) otherwise finding found) ⌝ }
+    ensures { λ r. ⌜ finding r ≡ (scan (repeatRefusal (formulaRows (now (schema .entry)) s (now (proof .entry))) s) (reached (finding found) (rootFits s root least) (countIn s p)) otherwise finding found) ⌝ }
 {
     let fits = formula::rows::root_fits(s, root, least);
     let n = rows_reached(found, fits, count_in(s, p));

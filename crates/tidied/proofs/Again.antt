@@ -10,7 +10,7 @@ use lib.IntN.{ℤ, pos}
 use lib.ListN.{length, getD, take, length-append}
 use lib.Seq.{take-suc, take-all}
 use Rattle.stab.specs.Basic.{if_then_else_, eqZ, nat, scan}
-use Rattle.stab.specs.Formula.{Row, rowAt, joined, wellFormed}
+use Rattle.stab.specs.Formula.{Row, rowAt, formulaRows, wellFormed}
 use Rattle.stab.specs.Node.{Tableau, Node, rows, rowCount, node, set}
 use Rattle.stab.specs.Rule.{unused, rule}
 use Rattle.stab.specs.Check.{sameRow, checkOlder}
@@ -25,7 +25,7 @@ use Rattle.stab.proofs.Formed.{formed-tests}
 use Rattle.stab.proofs.Exactness.{older-accepts-exactly}
 use Rattle.tidied.specs.Tidied.{through, renumbered, columns, Folding, newNumber, earliest, foldedInto, foldRow, foldNext, folding, foldingOf, newOf, tidySet, tidyMembers, tidyNode, tidyNodes, tidied}
 use Rattle.tidied.proofs.Moves.{through-below}
-use Rattle.tidied.proofs.Foldings.{joined-below, joined-above, rowAt-take, schema-or-proof, new-schema, new-more, new-last, renumbered-agrees, renumbered-itself}
+use Rattle.tidied.proofs.Foldings.{formula-rows-below, formula-rows-above, rowAt-take, schema-or-proof, new-schema, new-more, new-last, renumbered-agrees, renumbered-itself}
 use Rattle.tidied.proofs.Sets.{tidy-same}
 use Rattle.tidied.proofs.Tables.{tidyOf}
 use Rattle.tidied.proofs.Carried.{through-unused}
@@ -77,8 +77,8 @@ take-row t k h =
     ∙ simp append-assoc)
 
 module _ (schema : List ℤ) (s : ℕ) (proof : List ℤ) where
-  module _ (n : ℕ) (held : 4 * n ≤ length proof) (formed : (r : ℕ) → r < s + n → wellFormed (joined schema s proof) r ≡ true)
-      (fresh : (r q : ℕ) → s ≤ r → r < s + n → q < r → joined schema s proof q ≢ joined schema s proof r) where
+  module _ (n : ℕ) (held : 4 * n ≤ length proof) (formed : (r : ℕ) → r < s + n → wellFormed (formulaRows schema s proof) r ≡ true)
+      (fresh : (r q : ℕ) → s ≤ r → r < s + n → q < r → formulaRows schema s proof q ≢ formulaRows schema s proof r) where
     -- rows of which none repeats stay as they are
     pub folding-same : (k : ℕ) → k ≤ n → folding schema s proof k ≡ record { table = take (4 * k) proof; count = k; numbers = counting s k }
     unfolding folding foldNext foldRow foldedInto counting
@@ -86,26 +86,26 @@ module _ (schema : List ℤ) (s : ℕ) (proof : List ℤ) where
     folding-same (suc k) h =
         ap (foldNext schema s (rowAt proof k)) (folding-same k (omega arith))
         ∙ ap (λ (w : Row). foldRow schema s w (record { table = take (4 * k) proof; count = k; numbers = counting s k })) same
-        ∙ ap (foldedInto s (record { table = take (4 * k) proof; count = k; numbers = counting s k }) (rowAt proof k)) (none-earliest (joined schema s (take (4 * k) proof)) (rowAt proof k) (s + k) differs)
+        ∙ ap (foldedInto s (record { table = take (4 * k) proof; count = k; numbers = counting s k }) (rowAt proof k)) (none-earliest (formulaRows schema s (take (4 * k) proof)) (rowAt proof k) (s + k) differs)
         ∙ ap (λ (t : List ℤ). record { table = t; count = suc k; numbers = counting s k ++ (s + k) ∷ [] }) (take-row proof k (omega arith))
       where
         same : renumbered (newNumber s (counting s k)) (rowAt proof k) ≡ rowAt proof k
         same =
-            ap (renumbered (newNumber s (counting s k))) (sym (joined-above schema s proof k))
-            ∙ renumbered-agrees (joined schema s proof) (newNumber s (counting s k)) (λ x. x) (s + k) (formed (s + k) (omega arith)) (λ x m. counting-same s k x m)
-            ∙ renumbered-itself (joined schema s proof (s + k))
-            ∙ joined-above schema s proof k
+            ap (renumbered (newNumber s (counting s k))) (sym (formula-rows-above schema s proof k))
+            ∙ renumbered-agrees (formulaRows schema s proof) (newNumber s (counting s k)) (λ x. x) (s + k) (formed (s + k) (omega arith)) (λ x m. counting-same s k x m)
+            ∙ renumbered-itself (formulaRows schema s proof (s + k))
+            ∙ formula-rows-above schema s proof k
 
         -- the rows before it are those of the whole table
-        whole : (q : ℕ) → q < s + k → joined schema s (take (4 * k) proof) q ≡ joined schema s proof q
+        whole : (q : ℕ) → q < s + k → formulaRows schema s (take (4 * k) proof) q ≡ formulaRows schema s proof q
         whole q l =
             ⊎-elim
-            (λ m. joined-below schema s (take (4 * k) proof) q m ∙ sym (joined-below schema s proof q m))
-            (λ m. rw (m .1) (joined-above schema s (take (4 * k) proof) (m .0) ∙ rowAt-take proof (4 * k) (m .0) (omega (arith, m .1)) ∙ sym (joined-above schema s proof (m .0))))
+            (λ m. formula-rows-below schema s (take (4 * k) proof) q m ∙ sym (formula-rows-below schema s proof q m))
+            (λ m. rw (m .1) (formula-rows-above schema s (take (4 * k) proof) (m .0) ∙ rowAt-take proof (4 * k) (m .0) (omega (arith, m .1)) ∙ sym (formula-rows-above schema s proof (m .0))))
             (schema-or-proof s q)
 
-        differs : (q : ℕ) → q < s + k → joined schema s (take (4 * k) proof) q ≢ rowAt proof k
-        differs q l e = fresh (s + k) q (omega arith) (omega arith) l (sym (whole q l) ∙ e ∙ sym (joined-above schema s proof k))
+        differs : (q : ℕ) → q < s + k → formulaRows schema s (take (4 * k) proof) q ≢ rowAt proof k
+        differs q l e = fresh (s + k) q (omega arith) (omega arith) l (sym (whole q l) ∙ e ∙ sym (formula-rows-above schema s proof k))
 
 -- ---- a record of which no proof row repeats, in tables of just its rows
 

@@ -12,7 +12,7 @@ use lib.ListN.{length, getD, take, length-append, List·getD-append}
 use lib.Seq.{getD-append-add, getD-at, getD-take}
 use borrow.Author.Tests.{lt-ltb, ltb-true, ltb-false}
 use Rattle.stab.specs.Basic.{if_then_else_, nat, below, _otherwise_, scan}
-use Rattle.stab.specs.Formula.{Row, rowAt, joined, Op, Kind, constant, literal, junction, iteration, unknown, kindOf, wellFormedAs, wellFormed}
+use Rattle.stab.specs.Formula.{Row, rowAt, formulaRows, Op, Kind, constant, literal, junction, iteration, unknown, kindOf, wellFormedAs, wellFormed}
 use Rattle.stab.specs.Check.{sameRow}
 use Rattle.stab.proofs.Bools.{decide, and-left, and-right, if-true, if-false}
 use Rattle.stab.proofs.Trees.{below-nat}
@@ -48,13 +48,13 @@ module _ (rows : ℕ → Row) (w : Row) where
 
 -- ---- rows of a table that grows
 
-pub joined-below : (schema : List ℤ) (s : ℕ) (t : List ℤ) (r : ℕ) → r < s → joined schema s t r ≡ rowAt schema r
-unfolding joined
-joined-below schema s t r h = if-true (ltb r s) _ _ (lt-ltb r s h)
+pub formula-rows-below : (schema : List ℤ) (s : ℕ) (t : List ℤ) (r : ℕ) → r < s → formulaRows schema s t r ≡ rowAt schema r
+unfolding formulaRows
+formula-rows-below schema s t r h = if-true (ltb r s) _ _ (lt-ltb r s h)
 
-pub joined-above : (schema : List ℤ) (s : ℕ) (t : List ℤ) (r : ℕ) → joined schema s t (s + r) ≡ rowAt t r
-unfolding joined
-joined-above schema s t r =
+pub formula-rows-above : (schema : List ℤ) (s : ℕ) (t : List ℤ) (r : ℕ) → formulaRows schema s t (s + r) ≡ rowAt t r
+unfolding formulaRows
+formula-rows-above schema s t r =
     if-false (ltb (s + r) s) _ _ (go (decide (ltb (s + r) s))) ∙ ap (rowAt t) (omega arith)
   where
     go : (ltb (s + r) s ≡ true) ⊎ (ltb (s + r) s ≡ false) → ltb (s + r) s ≡ false
@@ -167,7 +167,7 @@ renumbered-itself w = go (kindOf (w .kind))
 module _ (schema : List ℤ) (s : ℕ) (proof : List ℤ) where
   -- the rows as they were
   abbrev before : ℕ → Row
-  before = joined schema s proof
+  before = formulaRows schema s proof
 
   pub record Folded (k : ℕ) (F : Folding) : Type 0 where
     pub counted : length (F .numbers) ≡ k
@@ -176,11 +176,11 @@ module _ (schema : List ℤ) (s : ℕ) (proof : List ℤ) where
     -- each row has the number of a row that stays
     pub fits : (r : ℕ) → r < s + k → newNumber s (F .numbers) r < s + F .count
     -- under which it stands with its parts put through
-    pub same : (r : ℕ) → r < s + k → joined schema s (F .table) (newNumber s (F .numbers) r) ≡ renumbered (newNumber s (F .numbers)) (joined schema s proof r)
+    pub same : (r : ℕ) → r < s + k → formulaRows schema s (F .table) (newNumber s (F .numbers) r) ≡ renumbered (newNumber s (F .numbers)) (formulaRows schema s proof r)
     -- each row that stays is the first under its number
     pub source : (q : ℕ) → q < s + F .count → (r : ℕ) × (r < s + k) × (newNumber s (F .numbers) r ≡ q) × ((x : ℕ) → x < r → newNumber s (F .numbers) x < q)
     -- and equals none before it, unless it is a schema row
-    pub fresh : (r q : ℕ) → s ≤ r → r < s + F .count → q < r → joined schema s (F .table) q ≢ joined schema s (F .table) r
+    pub fresh : (r q : ℕ) → s ≤ r → r < s + F .count → q < r → formulaRows schema s (F .table) q ≢ formulaRows schema s (F .table) r
 
   module _ (formed : (r : ℕ) → r < s → wellFormed before r ≡ true) where
     folded-zero : Folded 0 (record { table = []; count = 0; numbers = [] })
@@ -195,17 +195,17 @@ module _ (schema : List ℤ) (s : ℕ) (proof : List ℤ) where
     }
       where
         -- a schema row keeps its number, and so do its parts
-        at : (r : ℕ) → r < s → joined schema s [] (newNumber s [] r) ≡ renumbered (newNumber s []) (joined schema s proof r)
+        at : (r : ℕ) → r < s → formulaRows schema s [] (newNumber s [] r) ≡ renumbered (newNumber s []) (formulaRows schema s proof r)
         at r l =
-            ap (joined schema s []) (new-schema s [] r l)
-            ∙ joined-below schema s [] r l
-            ∙ sym (joined-below schema s proof r l)
-            ∙ sym (renumbered-agrees before (newNumber s []) (λ x. x) r (formed r l) (λ x m. new-schema s [] x (omega arith)) ∙ renumbered-itself (joined schema s proof r))
+            ap (formulaRows schema s []) (new-schema s [] r l)
+            ∙ formula-rows-below schema s [] r l
+            ∙ sym (formula-rows-below schema s proof r l)
+            ∙ sym (renumbered-agrees before (newNumber s []) (λ x. x) r (formed r l) (λ x m. new-schema s [] x (omega arith)) ∙ renumbered-itself (formulaRows schema s proof r))
 
   module _ (k : ℕ) (F : Folding) (I : Folded k F) (formed : (r : ℕ) → r ≤ s + k → wellFormed before r ≡ true) where
     -- the row with its parts put through
     w : Row
-    w = renumbered (newNumber s (F .numbers)) (joined schema s proof (s + k))
+    w = renumbered (newNumber s (F .numbers)) (formulaRows schema s proof (s + k))
 
     module _ (x : ℕ) where
       agrees : (r : ℕ) → r < s + k → newNumber s (F .numbers ++ x ∷ []) r ≡ newNumber s (F .numbers) r
@@ -215,7 +215,7 @@ module _ (schema : List ℤ) (s : ℕ) (proof : List ℤ) where
       is-last = new-last s (F .numbers) x k (I .counted)
 
       -- what a row that was gone through has become does not change
-      renumbers : (r : ℕ) → r ≤ s + k → renumbered (newNumber s (F .numbers)) (joined schema s proof r) ≡ renumbered (newNumber s (F .numbers ++ x ∷ [])) (joined schema s proof r)
+      renumbers : (r : ℕ) → r ≤ s + k → renumbered (newNumber s (F .numbers)) (formulaRows schema s proof r) ≡ renumbered (newNumber s (F .numbers ++ x ∷ [])) (formulaRows schema s proof r)
       renumbers r h =
           renumbered-agrees before (newNumber s (F .numbers)) (newNumber s (F .numbers ++ x ∷ [])) r (formed r h) (λ y m. sym (agrees y (omega arith)))
 
@@ -223,31 +223,31 @@ module _ (schema : List ℤ) (s : ℕ) (proof : List ℤ) where
       last-or r h = below-suc r (s + k) (omega arith)
 
     -- a row that has an equal
-    folded-away : (q : ℕ) → q < s + F .count → joined schema s (F .table) q ≡ w → Folded (suc k) (record { table = F .table; count = F .count; numbers = F .numbers ++ q ∷ [] })
+    folded-away : (q : ℕ) → q < s + F .count → formulaRows schema s (F .table) q ≡ w → Folded (suc k) (record { table = F .table; count = F .count; numbers = F .numbers ++ q ∷ [] })
     unfolding w
     folded-away q l e = record {
       counted = simp length-append (omega (arith, I .counted));
       held = I .held;
       few = omega (arith, I .few);
       fits = λ r h. ⊎-elim (λ m. omega (arith, agrees q r m, I .fits r m)) (λ m. rw m (omega (arith, is-last q))) (last-or q r h);
-      same = λ r h. ⊎-elim (λ m. ap (joined schema s (F .table)) (agrees q r m) ∙ I .same r m ∙ renumbers q r (omega arith)) (λ m. rw m (ap (joined schema s (F .table)) (is-last q) ∙ e ∙ renumbers q (s + k) (omega arith))) (last-or q r h);
+      same = λ r h. ⊎-elim (λ m. ap (formulaRows schema s (F .table)) (agrees q r m) ∙ I .same r m ∙ renumbers q r (omega arith)) (λ m. rw m (ap (formulaRows schema s (F .table)) (is-last q) ∙ e ∙ renumbers q (s + k) (omega arith))) (last-or q r h);
       source = λ y h. let o = I .source y h in (o .0, omega (arith, o .1), agrees q (o .0) (o .1) ∙ o .2, λ v m. omega (arith, agrees q v (omega (arith, o .1)), o .3 v m));
       fresh = I .fresh;
     }
 
     -- a row that stays
-    grown : (r : ℕ) → r < s + F .count → joined schema s (F .table ++ columns w) r ≡ joined schema s (F .table) r
+    grown : (r : ℕ) → r < s + F .count → formulaRows schema s (F .table ++ columns w) r ≡ formulaRows schema s (F .table) r
     grown r h = go (schema-or-proof s r)
       where
-        go : (r < s) ⊎ ((m : ℕ) × (r ≡ s + m)) → joined schema s (F .table ++ columns w) r ≡ joined schema s (F .table) r
-        go (inl l) = joined-below schema s (F .table ++ columns w) r l ∙ sym (joined-below schema s (F .table) r l)
+        go : (r < s) ⊎ ((m : ℕ) × (r ≡ s + m)) → formulaRows schema s (F .table ++ columns w) r ≡ formulaRows schema s (F .table) r
+        go (inl l) = formula-rows-below schema s (F .table ++ columns w) r l ∙ sym (formula-rows-below schema s (F .table) r l)
         go (inr (m, e)) =
-            rw e (joined-above schema s (F .table ++ columns w) m ∙ rowAt-front (F .table) (columns w) m (omega (arith, I .held)) ∙ sym (joined-above schema s (F .table) m))
+            rw e (formula-rows-above schema s (F .table ++ columns w) m ∙ rowAt-front (F .table) (columns w) m (omega (arith, I .held)) ∙ sym (formula-rows-above schema s (F .table) m))
 
-    grown-last : joined schema s (F .table ++ columns w) (s + F .count) ≡ w
-    grown-last = joined-above schema s (F .table ++ columns w) (F .count) ∙ rowAt-next (F .table) (F .count) w (I .held)
+    grown-last : formulaRows schema s (F .table ++ columns w) (s + F .count) ≡ w
+    grown-last = formula-rows-above schema s (F .table ++ columns w) (F .count) ∙ rowAt-next (F .table) (F .count) w (I .held)
 
-    folded-stays : ((q : ℕ) → q < s + F .count → joined schema s (F .table) q ≢ w) → Folded (suc k) (record { table = F .table ++ columns w; count = suc (F .count); numbers = F .numbers ++ (s + F .count) ∷ [] })
+    folded-stays : ((q : ℕ) → q < s + F .count → formulaRows schema s (F .table) q ≢ w) → Folded (suc k) (record { table = F .table ++ columns w; count = suc (F .count); numbers = F .numbers ++ (s + F .count) ∷ [] })
     unfolding w
     folded-stays none-equal =
         let x : ℕ = s + F .count in
@@ -257,8 +257,8 @@ module _ (schema : List ℤ) (s : ℕ) (proof : List ℤ) where
           few = omega (arith, I .few);
           fits = λ r h. ⊎-elim (λ m. omega (arith, agrees x r m, I .fits r m)) (λ m. rw m (omega (arith, is-last x))) (last-or x r h);
           same = λ r h. ⊎-elim
-              (λ m. ap (joined schema s (F .table ++ columns w)) (agrees x r m) ∙ grown (newNumber s (F .numbers) r) (I .fits r m) ∙ I .same r m ∙ renumbers x r (omega arith))
-              (λ m. rw m (ap (joined schema s (F .table ++ columns w)) (is-last x) ∙ grown-last ∙ renumbers x (s + k) (omega arith)))
+              (λ m. ap (formulaRows schema s (F .table ++ columns w)) (agrees x r m) ∙ grown (newNumber s (F .numbers) r) (I .fits r m) ∙ I .same r m ∙ renumbers x r (omega arith))
+              (λ m. rw m (ap (formulaRows schema s (F .table ++ columns w)) (is-last x) ∙ grown-last ∙ renumbers x (s + k) (omega arith)))
               (last-or x r h);
           source = λ y h. ⊎-elim
               (λ m. let o = I .source y m in (o .0, omega (arith, o .1), agrees x (o .0) (o .1) ∙ o .2, λ v l. omega (arith, agrees x v (omega (arith, o .1)), o .3 v l)))
@@ -266,7 +266,7 @@ module _ (schema : List ℤ) (s : ℕ) (proof : List ℤ) where
               (below-suc y (s + F .count) (omega arith));
           fresh = λ r q a b c. ⊎-elim
               (λ m e. I .fresh r q a m c (sym (grown q (omega arith)) ∙ e ∙ grown r m))
-              (λ m e. none-equal q (omega arith) (sym (grown q (omega arith)) ∙ e ∙ ap (joined schema s (F .table ++ columns w)) m ∙ grown-last))
+              (λ m e. none-equal q (omega arith) (sym (grown q (omega arith)) ∙ e ∙ ap (formulaRows schema s (F .table ++ columns w)) m ∙ grown-last))
               (below-suc r (s + F .count) (omega arith));
         }
       where
@@ -281,12 +281,12 @@ module _ (schema : List ℤ) (s : ℕ) (proof : List ℤ) where
       let F : Folding = folding schema s proof k in
       let I : Folded k F = folded k (λ r h. formed r (omega arith)) in
       let v : Row = renumbered (newNumber s (F .numbers)) (rowAt proof k) in
-      go F I v (ap (renumbered (newNumber s (F .numbers))) (joined-above schema s proof k)) (earliest (joined schema s (F .table)) (s + F .count) v) refl
+      go F I v (ap (renumbered (newNumber s (F .numbers))) (formula-rows-above schema s proof k)) (earliest (formulaRows schema s (F .table)) (s + F .count) v) refl
     where
-      go : (F : Folding) (I : Folded k F) (v : Row) → renumbered (newNumber s (F .numbers)) (joined schema s proof (s + k)) ≡ v → (x : Option ℕ) → earliest (joined schema s (F .table)) (s + F .count) v ≡ x → Folded (suc k) (foldedInto s F v x)
-      go F I v e none h = rw (← e) (folded-stays k F I (λ r l. formed r (omega arith)) (λ q l. rw e (earliest-none (joined schema s (F .table)) v (s + F .count) h q l)))
+      go : (F : Folding) (I : Folded k F) (v : Row) → renumbered (newNumber s (F .numbers)) (formulaRows schema s proof (s + k)) ≡ v → (x : Option ℕ) → earliest (formulaRows schema s (F .table)) (s + F .count) v ≡ x → Folded (suc k) (foldedInto s F v x)
+      go F I v e none h = rw (← e) (folded-stays k F I (λ r l. formed r (omega arith)) (λ q l. rw e (earliest-none (formulaRows schema s (F .table)) v (s + F .count) h q l)))
       go F I v e (some q) h =
-          let found = earliest-some (joined schema s (F .table)) v (s + F .count) q h in
+          let found = earliest-some (formulaRows schema s (F .table)) v (s + F .count) q h in
           folded-away k F I (λ r l. formed r (omega arith)) q (found .0) (found .1 ∙ sym e)
 
   -- they stand under new numbers in the rows that stay
@@ -326,14 +326,14 @@ module _ (schema : List ℤ) (s : ℕ) (proof : List ℤ) where
             part (before r .a) (before o .a) q (ap (λ (v : Row). v .a) (alike (iteration c) i)) (and-left (below o (before o .a)) _ (formed-o (iteration c) i))
         by-kind unknown i q = absurd q
 
-    pub folded-moves : Moves (joined schema s proof) (joined schema s (folding schema s proof k .table)) (s + k) (newNumber s (folding schema s proof k .numbers))
+    pub folded-moves : Moves (formulaRows schema s proof) (formulaRows schema s (folding schema s proof k .table)) (s + k) (newNumber s (folding schema s proof k .numbers))
     unfolding new
     folded-moves = record {
       same = folded k formed .same;
       ordered = λ r q h p l.
           let I = folded k formed in
           let o = I .source (new r) (I .fits r h) in
-          let e = sym (I .same (o .0) (o .1)) ∙ ap (joined schema s (folding schema s proof k .table)) (o .2) ∙ I .same r h in
+          let e = sym (I .same (o .0) (o .1)) ∙ ap (formulaRows schema s (folding schema s proof k .table)) (o .2) ∙ I .same r h in
           let m = same-part r (o .0) q h (o .1) (sym e) p in
           omega (arith, o .3 (m .0) (m .1), m .2);
     }
@@ -341,17 +341,17 @@ module _ (schema : List ℤ) (s : ℕ) (proof : List ℤ) where
 -- ---- folding looks at the rows alone
 
 module _ (schema schema′ : List ℤ) (s : ℕ) (same : (r : ℕ) → r < s → rowAt schema r ≡ rowAt schema′ r) where
-  joined-same : (t : List ℤ) (q : ℕ) → joined schema s t q ≡ joined schema′ s t q
-  joined-same t q =
+  formula-rows-same : (t : List ℤ) (q : ℕ) → formulaRows schema s t q ≡ formulaRows schema′ s t q
+  formula-rows-same t q =
       ⊎-elim
-      (λ l. joined-below schema s t q l ∙ same q l ∙ sym (joined-below schema′ s t q l))
-      (λ m. ap (joined schema s t) (m .1) ∙ joined-above schema s t (m .0) ∙ sym (joined-above schema′ s t (m .0)) ∙ ap (joined schema′ s t) (sym (m .1)))
+      (λ l. formula-rows-below schema s t q l ∙ same q l ∙ sym (formula-rows-below schema′ s t q l))
+      (λ m. ap (formulaRows schema s t) (m .1) ∙ formula-rows-above schema s t (m .0) ∙ sym (formula-rows-above schema′ s t (m .0)) ∙ ap (formulaRows schema′ s t) (sym (m .1)))
       (schema-or-proof s q)
 
   row-same : (w : Row) (F : Folding) → foldRow schema s w F ≡ foldRow schema′ s w F
   unfolding foldRow earliest
   row-same w F =
-      ap (foldedInto s F w) (scan-same _ _ (s + F .count) (λ k l _. ap (λ (v : Row). if sameRow v w then some k else none) (joined-same (F .table) k)))
+      ap (foldedInto s F w) (scan-same _ _ (s + F .count) (λ k l _. ap (λ (v : Row). if sameRow v w then some k else none) (formula-rows-same (F .table) k)))
 
   pub folding-agrees : (proof proof′ : List ℤ) (n : ℕ) → ((k : ℕ) → k < n → rowAt proof k ≡ rowAt proof′ k) → folding schema s proof n ≡ folding schema′ s proof′ n
   unfolding folding foldNext

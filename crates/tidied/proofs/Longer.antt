@@ -10,7 +10,7 @@ use lib.IntN.{ℤ, pos, _+ℤ_}
 use lib.ListN.{length, take, drop}
 use lib.Seq.{take-append-le}
 use Rattle.stab.specs.Basic.{nat}
-use Rattle.stab.specs.Formula.{joined, tree, wellFormed}
+use Rattle.stab.specs.Formula.{formulaRows, tree, wellFormed}
 use Rattle.stab.specs.Node.{Tableau, Node, rows, rowCount, nodeAt, node, setOf, set, setStart, setEnd, childCount, rank, bound}
 use Rattle.stab.specs.Rule.{ofRule}
 use Rattle.stab.specs.Check.{check, isLink, linkCount}
@@ -24,7 +24,7 @@ use Rattle.stab.proofs.Exactness.{accepts-exactly}
 use Rattle.tidied.specs.Tidied.{through, Folding, newNumber, foldingOf, newOf, tidySet, tidyMembers, tidyNode, tidyNodes, tidied}
 use Rattle.tidied.specs.Tidy.{inTables}
 use Rattle.tidied.proofs.Moves.{Moves, through-itself, tree-moved, formed-moved}
-use Rattle.tidied.proofs.Foldings.{joined-below, joined-above, schema-or-proof, renumbered-itself, folding-agrees}
+use Rattle.tidied.proofs.Foldings.{formula-rows-below, formula-rows-above, schema-or-proof, renumbered-itself, folding-agrees}
 use Rattle.tidied.proofs.Tables.{set-within, same-rows, same-held, same-nodes, same-slice}
 use Rattle.tidied.proofs.Agreeing.{Agrees, count-same, children-same, rank-same, bound-same}
 use Rattle.tidied.proofs.Carried.{Carries, AllCarried, outer-carried, step-carried, drawn-carried}
@@ -46,16 +46,16 @@ module _ (T : Tableau) (schema proof nodes members : List ℤ)
   unfolding rows rowCount inTables
   rows-same r h = go (schema-or-proof (T .schemaRows) r)
     where
-      go : (r < T .schemaRows) ⊎ ((k : ℕ) × (r ≡ T .schemaRows + k)) → joined schema (T .schemaRows) proof r ≡ joined (T .schema) (T .schemaRows) (T .proof) r
+      go : (r < T .schemaRows) ⊎ ((k : ℕ) × (r ≡ T .schemaRows + k)) → formulaRows schema (T .schemaRows) proof r ≡ formulaRows (T .schema) (T .schemaRows) (T .proof) r
       go (inl l) =
-          joined-below schema (T .schemaRows) proof r l
+          formula-rows-below schema (T .schemaRows) proof r l
           ∙ same-rows (T .schema) schema (4 * T .schemaRows) sameSchema r (omega arith)
-          ∙ sym (joined-below (T .schema) (T .schemaRows) (T .proof) r l)
+          ∙ sym (formula-rows-below (T .schema) (T .schemaRows) (T .proof) r l)
       go (inr (k, e)) =
           rw e
-          (joined-above schema (T .schemaRows) proof k
+          (formula-rows-above schema (T .schemaRows) proof k
           ∙ same-rows (T .proof) proof (4 * T .proofRows) sameProof k (omega arith)
-          ∙ sym (joined-above (T .schema) (T .schemaRows) (T .proof) k))
+          ∙ sym (formula-rows-above (T .schema) (T .schemaRows) (T .proof) k))
 
   module _ (K : Keeps T) where
     formed : (r : ℕ) → r < rowCount T → wellFormed (rows T) r ≡ true

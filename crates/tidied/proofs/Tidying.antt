@@ -9,7 +9,7 @@ use lib.IntN.{ℤ, pos, _+ℤ_}
 use lib.Signed.{leZ}
 use lib.ListN.{length, take, drop, length-append, length-take}
 use Rattle.stab.specs.Basic.{eqZ, nat, below, count}
-use Rattle.stab.specs.Formula.{Row, joined, tree, wellFormed, Formula, size, depth}
+use Rattle.stab.specs.Formula.{Row, formulaRows, tree, wellFormed, Formula, size, depth}
 use Rattle.stab.specs.Node.{Tableau, Node, rows, rowCount, row, formula, nodeAt, node, setOf, set, setStart, setEnd, childCount, rank, bound}
 use Rattle.stab.specs.Rule.{unused, ofRule, given}
 use Rattle.stab.specs.Check.{check, checkOlder, isLink, linkCount}

@@ -13,7 +13,7 @@ ghost use Rattle.stab.specs.Meaning.{base, rangeSize, over, value};
 ghost use Rattle.stab.specs.Model.{listed};
 ghost use Rattle.pairs.specs.Index.{unbiased, Reached, ReachedRange, ReachedWord};
 ghost use Rattle.pairs.specs.Reading.{Readable, IsLiteral, Iterates, opOf, symbolValue};
-ghost use Rattle.pairs.specs.Word.{word, wordAt, joinedWord, wholeWord};
+ghost use Rattle.pairs.specs.Word.{word, wordAt, combinedWord, wholeWord};
 
 // All of `width` digits.
 fn ones(width: usize) -> u64
@@ -31,7 +31,7 @@ fn same(held: bool, width: usize) -> u64
     if held { ones(width) } else { 0 }
 }
 
-// A word that stays as it is, whatever it is joined to: by or where `any`, else by and.
+// A word that stays as it is, whatever it is combined with: by or where `any`, else by and.
 fn settled(any: bool, w: u64, width: usize) -> bool
     requires { ⌜ width ≤ 63 ⌝ }
     ensures { λ r. ⌜ r ≡ eqb w (word (λ j. any) width) ⌝ }
@@ -39,14 +39,14 @@ fn settled(any: bool, w: u64, width: usize) -> bool
     w == same(any, width)
 }
 
-// Two words, joined: by or where `any`, else by and.
-pub fn joined(any: bool, v: u64, w: u64) -> u64
-    ensures { λ r. ⌜ r ≡ joinedWord any v w ⌝ }
+// Two words, combined: by or where `any`, else by and.
+pub fn combined(any: bool, v: u64, w: u64) -> u64
+    ensures { λ r. ⌜ r ≡ combinedWord any v w ⌝ }
 {
     if any { v | w } else { v & w }
 }
 
-// The values of one word, joined.
+// The values of one word, combined.
 fn whole_word(any: bool, w: u64, width: usize) -> bool
     requires { ⌜ width ≤ 63 ⌝ }
     ensures { λ r. ⌜ r ≡ wholeWord any w width ⌝ }
@@ -155,10 +155,10 @@ pub fn formula_value(
         return v;
     }
     let b = signed::natural_at(schema, 4 * f + B);
-    joined(any, v, formula_value(schema, b, n, i, width, pairs, count))
+    combined(any, v, formula_value(schema, b, n, i, width, pairs, count))
 }
 
-// The values of the body at `first` and the `left - 1` numbers after it, joined: by or where `any`, else by and. A long
+// The values of the body at `first` and the `left - 1` numbers after it, combined: by or where `any`, else by and. A long
 // range is halved at each call, so that few calls are open at once however long it is.
 fn range_value(
     schema: &[i32],

@@ -9,7 +9,7 @@ use lib.Dec.{ltb}
 use lib.IntN.{ℤ, pos}
 use borrow.Author.Tests.{lt-ltb, ltb-true, ltb-false}
 use Rattle.stab.specs.Basic.{if_then_else_, nat, below, within, _otherwise_, scan, unless}
-use Rattle.stab.specs.Formula.{Row, rowAt, joined, tree, isOuter}
+use Rattle.stab.specs.Formula.{Row, rowAt, formulaRows, tree, isOuter}
 use Rattle.stab.specs.Node.{Tableau, rows, rowCount}
 use Rattle.stab.specs.Check.{wholeUnless, atUnless, rowRefusal, repeatRefusal, freshRowRefusal, rootFits, formulasBy, formulasRefusal, setRefusal, parentRefusal, stepRefusal, nodeRefusal, refusalWith, olderFormulas, presentFormulas, verdict, checkWith, check, checkOlder, checkAs}
 use Rattle.stab.specs.Model.{Model, schemaRow, pairRefusal, modelRefusal, checkModel}
@@ -130,7 +130,7 @@ module _ (W : WideSchema) (converts : convertRefusal W ≡ none) (plains : ℕ �
 module _ (W : WideSchema) (converts : convertRefusal W ≡ none) where
   module _ (T : Tableau) (same : SameSchema T (convertedTable W) (plainCount W) (pos (plainRoot W)) (W .least)) where
     has : HasPlainRows W (rows T)
-    unfolding rows joined
+    unfolding rows formulaRows
     has p l =
         if-true (ltb p (T .schemaRows)) _ _ (lt-ltb p (T .schemaRows) (omega (arith, same .count)))
         ∙ same .rows p l

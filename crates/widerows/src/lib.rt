@@ -6,7 +6,7 @@ ghost use Prim.Native.Nat.{_+_, _*_, _<_, _≤_};
 ghost use lib.ListN.{length};
 ghost use lib.IntN.{pos};
 ghost use Rattle.stab.specs.Basic.{scan};
-ghost use Rattle.stab.specs.Formula.{rowAt, joined};
+ghost use Rattle.stab.specs.Formula.{rowAt, formulaRows};
 ghost use Rattle.stab.specs.Check.{finding};
 ghost use Rattle.wide.specs.WideFormula.{wideKindOf, wideTree};
 ghost use Rattle.wide.specs.Convert.{wideRowRefusal, wideRefusal};
@@ -67,8 +67,8 @@ fn negation(w: Cells, r: usize, facts: &[u32]) -> Judged
 
 // Row r, judged by its kind: 9, 10 and 11 have two parts, as 4 and 5 have.
 fn row(schema: &[i32], s: usize, proof: &[i32], r: usize, facts: &[u32]) -> Judged
-    requires { ⌜ (r < 1024) × WidePassed (joined (now schema) s (now proof)) (now facts) r ⌝ }
-    ensures { λ v. ⌜ v ≡ wideJudged (joined (now (schema .entry)) s (now (proof .entry))) r ⌝ }
+    requires { ⌜ (r < 1024) × WidePassed (formulaRows (now schema) s (now proof)) (now facts) r ⌝ }
+    ensures { λ v. ⌜ v ≡ wideJudged (formulaRows (now (schema .entry)) s (now (proof .entry))) r ⌝ }
 {
     let w = cells::of_row(schema, s, proof, r);
     let k = kind_of(w.kind);
@@ -97,9 +97,9 @@ fn row(schema: &[i32], s: usize, proof: &[i32], r: usize, facts: &[u32]) -> Judg
 
 // What is found at row r; its numbers are kept where that is nothing.
 fn step(schema: &[i32], s: usize, proof: &[i32], r: usize, facts: &mut [u32]) -> Finding
-    requires { ⌜ (r < 1024) × (4 * r + 3 < length (now facts)) × WidePassed (joined (now schema) s (now proof)) (now facts) r ⌝ }
-    ensures { λ v. ⌜ finding v ≡ wideRowRefusal (joined (now (schema .entry)) s (now (proof .entry))) r ⌝ }
-    ensures { λ v. ⌜ now (facts .exit) ≡ keptIf (wideRowRefusal (joined (now (schema .entry)) s (now (proof .entry))) r) (now (facts .entry)) r (wideFactsOf (wideTree (joined (now (schema .entry)) s (now (proof .entry))) r)) ⌝ }
+    requires { ⌜ (r < 1024) × (4 * r + 3 < length (now facts)) × WidePassed (formulaRows (now schema) s (now proof)) (now facts) r ⌝ }
+    ensures { λ v. ⌜ finding v ≡ wideRowRefusal (formulaRows (now (schema .entry)) s (now (proof .entry))) r ⌝ }
+    ensures { λ v. ⌜ now (facts .exit) ≡ keptIf (wideRowRefusal (formulaRows (now (schema .entry)) s (now (proof .entry))) r) (now (facts .entry)) r (wideFactsOf (wideTree (formulaRows (now (schema .entry)) s (now (proof .entry))) r)) ⌝ }
 {
     let found = row(schema, s, proof, r, facts);
     sized(found, r, facts)
@@ -108,9 +108,9 @@ fn step(schema: &[i32], s: usize, proof: &[i32], r: usize, facts: &mut [u32]) ->
 // What is found first among n rows. The table holds the numbers of each before it.
 fn each(schema: &[i32], s: usize, proof: &[i32], n: usize, facts: &mut [u32]) -> Finding
     requires { ⌜ (n ≤ 1024) × (4 * n ≤ length (now facts)) ⌝ }
-    ensures { λ v. ⌜ finding v ≡ scan (wideRowRefusal (joined (now (schema .entry)) s (now (proof .entry)))) n ⌝ }
-    ensures { λ v. ⌜ (scan (wideRowRefusal (joined (now (schema .entry)) s (now (proof .entry)))) n ≡ none → WidePassed (joined (now (schema .entry)) s (now (proof .entry))) (now (facts .exit)) n) ⌝ }
-    ensures { λ v. ⌜ now (facts .exit) ≡ wideTable (joined (now (schema .entry)) s (now (proof .entry))) (now (facts .entry)) n ⌝ }
+    ensures { λ v. ⌜ finding v ≡ scan (wideRowRefusal (formulaRows (now (schema .entry)) s (now (proof .entry)))) n ⌝ }
+    ensures { λ v. ⌜ (scan (wideRowRefusal (formulaRows (now (schema .entry)) s (now (proof .entry)))) n ≡ none → WidePassed (formulaRows (now (schema .entry)) s (now (proof .entry))) (now (facts .exit)) n) ⌝ }
+    ensures { λ v. ⌜ now (facts .exit) ≡ wideTable (formulaRows (now (schema .entry)) s (now (proof .entry))) (now (facts .entry)) n ⌝ }
 {
     let mut r = 0;
     while r < n {

@@ -20,9 +20,9 @@ use Rattle.pairs.specs.Index.{unbiased, ReachedRange}
 use Rattle.pairs.specs.Reading.{opOf}
 use Rattle.pairs.proofs.Parts.{within-under, within-nat}
 use Rattle.value.proofs.Values.{value-constant, junction-left, junction-right, value-junction, iteration-body, iteration-start, iteration-end, value-iteration, over-none, over-parts, first-is, range-reached}
-use Rattle.assigned.specs.Words.{words, joinedWords}
+use Rattle.assigned.specs.Words.{words, combinedWords}
 use Rattle.assigned.specs.Assignments.{keyed, valuesFrom, lookedAt, Evaluable}
-use Rattle.assigned.proofs.Blocks.{words-length, words-same, joined-words, settled-words}
+use Rattle.assigned.proofs.Blocks.{words-length, words-same, combined-words, settled-words}
 use Rattle.assigned.proofs.Ranges.{over-next, looked-few, looked-enough, evaluable-below, known-below}
 use Rattle.assigned.proofs.formula_values.Reads as formula-values
 use Rattle.assigned.proofs.formula_values.Kinds as formula-values-kinds
@@ -31,7 +31,7 @@ use Rattle.assigned.proofs.range_values.Reads as range-values
 use Rattle.assigned.proofs.range_values.Kinds as range-values-kinds
 use Rattle.assigned.proofs.+formula_values+range_values.Lts-range_values as range-values-lts
 use Rattle.assigned.proofs.fill.Reads as fill
-use Rattle.assigned.proofs.join.Reads as join
+use Rattle.assigned.proofs.combine.Reads as combine
 use Rattle.assigned.proofs.literal_values.Reads as literal-values
 use Rattle.assigned.proofs.looked_at.Reads as looked-at
 use Rattle.assigned.proofs.settled.Reads as settled
@@ -75,8 +75,8 @@ formula-calls t = (
   formula-values.Post,
   settled.Asked,
   settled.Learnt,
-  join.Asked,
-  join.Learnt,
+  combine.Asked,
+  combine.Learnt,
 )
 
 abbrev range-calls : ℕ → range-values-lts.Claims
@@ -93,8 +93,8 @@ range-calls t = (
   fill.Learnt,
   formula-values-below t,
   formula-values.Post,
-  join.Asked,
-  join.Learnt,
+  combine.Asked,
+  combine.Learnt,
   settled.Asked,
   settled.Learnt,
 )
@@ -268,17 +268,17 @@ module _ {t : ℕ} (c : Right t) where
   right-long : length (c .formula-values2 .last .1 .1 .1 .1 .1 .1 .1 .1 .0) ≡ 64
   right-long = ap length right-is ∙ words-length (right at-left) 64
 
-join-requires : (t : ℕ) → formula-values-lts.Need-join-requires (formula-calls t) (formula-values-at t) formula-values.Post
-join-requires t c κs = (left-long (c .before .before .before .before .before .before .before .before), right-long (c .before .before))
+combine-requires : (t : ℕ) → formula-values-lts.Need-combine-requires (formula-calls t) (formula-values-at t) formula-values.Post
+combine-requires t c κs = (left-long (c .before .before .before .before .before .before .before .before), right-long (c .before .before))
 
 right-returns : (t : ℕ) → formula-values-lts.Need-returns-5 (formula-calls t) (formula-values-at t) formula-values.Post
 unfolding valuesFrom
 right-returns t c =
     let there = c .before .before .before in
     let at = at-left there in
-    c .join .ensures
-    ∙ ap₂ (joinedWords (any at)) (left-is at) (right-is there)
-    ∙ joined-words (any at) (left at) (right at) 64
+    c .combine .ensures
+    ∙ ap₂ (combinedWords (any at)) (left-is at) (right-is there)
+    ∙ combined-words (any at) (left at) (right at) 64
     ∙ whole-is at
 
 -- ---- the values of an iteration
@@ -429,23 +429,23 @@ module _ {t : ℕ} (c : Next t) where
   next-long : length (c .formula-values .last .1 .1 .1 .1 .1 .1 .1 .1 .0) ≡ 64
   next-long = ap length next-is ∙ words-length _ 64
 
-next-join-requires : (t : ℕ) → range-values-lts.Need-join-requires (range-calls t) (range-values-at t) range-values.Post Inv-loop μ-loop
-next-join-requires t c κs = (ap length (c .before .before .before .before .before .loop .inv .2) ∙ words-length _ 64, next-long (c .before .before))
+next-combine-requires : (t : ℕ) → range-values-lts.Need-combine-requires (range-calls t) (range-values-at t) range-values.Post Inv-loop μ-loop
+next-combine-requires t c κs = (ap length (c .before .before .before .before .before .loop .inv .2) ∙ words-length _ 64, next-long (c .before .before))
 
--- joined to those before
-joined-is : {t : ℕ} (c : range-values-lts.After-join (range-calls t) (range-values-at t) range-values.Post Inv-loop μ-loop) →
+-- combined with those before
+combined-is : {t : ℕ} (c : range-values-lts.After-combine (range-calls t) (range-values-at t) range-values.Post Inv-loop μ-loop) →
     let n = c .before .before .before in
-    c .join .last .1 .0 ≡ words (over-at (looked n) (k n + 1)) 64
-joined-is c =
+    c .combine .last .1 .0 ≡ words (over-at (looked n) (k n + 1)) 64
+combined-is c =
     let n = c .before .before .before in
     let l = looked n in
-    c .join .ensures
-    ∙ ap₂ (joinedWords (either l)) (n .before .before .before .loop .inv .2) (next-is n)
-    ∙ joined-words (either l) (over-at l (k n)) (λ j. body-at l j (unbiased (first l + k n))) 64
+    c .combine .ensures
+    ∙ ap₂ (combinedWords (either l)) (n .before .before .before .loop .inv .2) (next-is n)
+    ∙ combined-words (either l) (over-at l (k n)) (λ j. body-at l j (unbiased (first l + k n))) 64
     ∙ words-same _ _ 64 (λ j. sym (over-next (opOf (either l)) (body-at l j) (first l) (k n)))
 
 stop-requires : (t : ℕ) → range-values-lts.Need-settled-requires (range-calls t) (range-values-at t) range-values.Post Inv-loop μ-loop
-stop-requires t c κs = ap length (joined-is (c .before)) ∙ words-length _ 64
+stop-requires t c κs = ap length (combined-is (c .before)) ∙ words-length _ 64
 
 stop-returns : (t : ℕ) → range-values-lts.Need-returns (range-calls t) (range-values-at t) range-values.Post Inv-loop μ-loop
 unfolding valuesFrom
@@ -453,9 +453,9 @@ stop-returns t c =
     let at = c .before .before .before in
     let n = at .before .before .before in
     let l = looked n in
-    joined-is at
+    combined-is at
     ∙ settled-words (either l) (over-at l (k n + 1)) (λ j. over (opOf (either l)) (body-at l j) (unbiased (first l + (k n + 1))) (l .looked-at .result - (k n + 1))) 64
-    (ap (allOf _) (sym (joined-is at)) ∙ sym (c .before .settled .ensures) ∙ c .if1 .taken)
+    (ap (allOf _) (sym (combined-is at)) ∙ sym (c .before .settled .ensures) ∙ c .if1 .taken)
     ∙ words-same _ _ 64 (λ j. sym (over-parts (opOf (either l)) (body-at l j) (first l) (k n + 1) (l .looked-at .result) (omega (arith, n .before .before .loop-test .taken))) ∙ iteration-is l j)
 
 add-k : (t : ℕ) → range-values-lts.Need-add-k (range-calls t) (range-values-at t) range-values.Post Inv-loop μ-loop
@@ -472,7 +472,7 @@ loop-again : (t : ℕ) → range-values-lts.Need-loop-again (range-calls t) (ran
 loop-again t c =
     let at = c .before .before .before in
     let n = at .before .before .before in
-    (omega (arith, n .before .before .loop-test .taken), next-long n, joined-is at)
+    (omega (arith, n .before .before .loop-test .taken), next-long n, combined-is at)
 
 end-returns : (t : ℕ) → range-values-lts.Need-returns-2 (range-calls t) (range-values-at t) range-values.Post Inv-loop μ-loop
 unfolding valuesFrom
@@ -510,7 +510,7 @@ pub +formula-values+range-values-spec : {M : Type 1} → statement M
     (add-natural-at-2 t)
     (natural-at-requires-3 t)
     (right-requires t)
-    (join-requires t)
+    (combine-requires t)
     (right-returns t))
     (λ t.
     range-values-lts.spec
@@ -533,7 +533,7 @@ pub +formula-values+range-values-spec : {M : Type 1} → statement M
     (loop-holds t)
     (next-add t)
     (next-requires t)
-    (next-join-requires t)
+    (next-combine-requires t)
     (stop-requires t)
     (stop-returns t)
     (add-k t)

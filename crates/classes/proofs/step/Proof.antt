@@ -4,7 +4,7 @@ use mathlib.Core.Path.{_≡_, sym, _∙_, ap, ap₂}
 use borrow.Author.Needs.{needs}
 use lib.ListN.{getD, set}
 use Rattle.stab.specs.Basic.{nat}
-use Rattle.stab.specs.Formula.{Row, joined}
+use Rattle.stab.specs.Formula.{Row, formulaRows}
 use Rattle.signed.proofs.Signs.{read-back}
 use Rattle.formula.specs.Cells.{rowOf}
 use Rattle.classes.specs.Class.{classOf}
@@ -22,7 +22,7 @@ abbrev begin : tie.After-natural → tie.Start
 begin k = k .before .before .before .before .before .before
 
 abbrev rowsFrom : tie.Start → ℕ → Row
-rowsFrom b = let a = b .args in joined (a .schema .now) (a .s) (a .proof .now)
+rowsFrom b = let a = b .args in formulaRows (a .schema .now) (a .s) (a .proof .now)
 
 columns-are : (k : tie.After-natural) → rowOf (k .before .before .of-row .result) ≡ rowsFrom (begin k) (begin k .args .r)
 columns-are k = k .before .before .of-row .ensures

@@ -2,7 +2,7 @@ use native.Mathlib.Omega.{arith}
 use Prim.Native.Nat.{_-_, _≤_}
 use mathlib.Core.Path.{_≡_, refl, _∙_, ap}
 use lib.ListN.{length}
-use Rattle.stab.specs.Formula.{joined}
+use Rattle.stab.specs.Formula.{formulaRows}
 use Rattle.classes.specs.Key.{Done, formsAfter, sidesAfter, headsAfter}
 use Rattle.classes.proofs.GoingBack.{done-none, forms-more, sides-more, heads-more}
 use Rattle.classes.proofs.work_out.Statement.{statement}
@@ -14,10 +14,10 @@ Inv-loop schema s proof n forms₀ sides₀ heads₀ r₀ forms sides heads r =
     × (length forms ≡ length forms₀)
     × (length sides ≡ length sides₀)
     × (length heads ≡ length heads₀)
-    × Done (joined schema s proof) forms sides heads r
-    × (forms ≡ formsAfter (joined schema s proof) forms₀ r)
-    × (sides ≡ sidesAfter (joined schema s proof) sides₀ r)
-    × (heads ≡ headsAfter (joined schema s proof) heads₀ r)
+    × Done (formulaRows schema s proof) forms sides heads r
+    × (forms ≡ formsAfter (formulaRows schema s proof) forms₀ r)
+    × (sides ≡ sidesAfter (formulaRows schema s proof) sides₀ r)
+    × (heads ≡ headsAfter (formulaRows schema s proof) heads₀ r)
 
 abbrev μ-loop : tie.MeasureT-loop
 μ-loop schema s proof n forms₀ sides₀ heads₀ r₀ forms sides heads r = n - r
@@ -61,7 +61,7 @@ returns : tie.Need-returns Inv-loop μ-loop
 returns c =
     let b = c .before .before .before .before .before in
     let l = c .before .loop in
-    let rows = joined (b .args .schema .now) (b .args .s) (b .args .proof .now) in
+    let rows = formulaRows (b .args .schema .now) (b .args .s) (b .args .proof .now) in
     let e : l .r ≡ b .args .n = omega arith in (
       l .inv .5 ∙ ap (formsAfter rows _) e,
       (l .inv .6 ∙ ap (sidesAfter rows _) e, (l .inv .7 ∙ ap (headsAfter rows _) e, λ q k. l .inv .4 .worked q (omega arith))),

@@ -6,7 +6,7 @@ use mir.Syntax.{w32}
 use borrow.Author.Needs.{needs}
 use Rattle.stab.specs.Check.{formulasRefusal}
 use Rattle.stab.specs.Formula.{Row, rowAt}
-use Rattle.formula.proofs.Columns.{joined-part}
+use Rattle.formula.proofs.Columns.{formula-rows-part}
 use Rattle.convert.proofs.plain_pass.Statement.{statement}
 use Rattle.convert.proofs.plain_pass.Tie as tie
 
@@ -36,7 +36,7 @@ returns c =
     let start = c .before .before .before .before in
     let a = start .args in
     c .before .formulas .ensures .0
-    ∙ ap (λ (rows : ℕ → Row). formulasRefusal rows (a .n) (a .n) (toZ w32 (ofZ w32 (a .root))) (toZ w32 (ofZ w32 (a .least)))) (joined-part (a .plain .now) (a .n))
+    ∙ ap (λ (rows : ℕ → Row). formulasRefusal rows (a .n) (a .n) (toZ w32 (ofZ w32 (a .root))) (toZ w32 (ofZ w32 (a .least)))) (formula-rows-part (a .plain .now) (a .n))
     ∙ ap₂ (formulasRefusal (rowAt (a .plain .now)) (a .n) (a .n)) (toZ-ofZ (start .fits .root)) (toZ-ofZ (start .fits .least))
 
 pub plain-pass-spec : {M : Type 1} → statement M

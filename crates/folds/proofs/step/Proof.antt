@@ -5,7 +5,7 @@ use mathlib.Core.Path.{_≡_, _∙_, ap}
 use mathlib.Core.List.{List}
 use lib.IntN.{ℤ}
 use lib.ListN.{length}
-use Rattle.stab.specs.Formula.{Row, joined}
+use Rattle.stab.specs.Formula.{Row, formulaRows}
 use Rattle.repeats.specs.Places.{placeOf, Linked}
 use Rattle.repeats.proofs.Links.{place-small, linked-more}
 use Rattle.folds.proofs.Steps.{still-linked, number-small, folds-away, folds-stays}
@@ -29,7 +29,7 @@ abbrev table : tie.After-put → List ℤ
 table c = c .put .last .1 .1 .1 .1 .0
 
 abbrev rows : tie.After-put → ℕ → Row
-rows c = let a = start c .args in joined (a .schema .now) (a .s) (table c)
+rows c = let a = start c .args in formulaRows (a .schema .now) (a .s) (table c)
 
 room : (c : tie.After-put) → let a = start c .args in 4 * a .count + 3 < length (a .out .now)
 room c = let p = start c .pre .0 in omega (arith, p .1, p .2)

@@ -7,7 +7,7 @@ use lib.Dec.{ltb}
 use lib.IntN.{ℤ}
 use mir.Facts.{toZ-ofZ}
 use Rattle.stab.specs.Basic.{_and_, nat, eqZ}
-use Rattle.stab.specs.Formula.{joined, tree}
+use Rattle.stab.specs.Formula.{formulaRows, tree}
 use Rattle.stab.specs.Node.{Tableau}
 use Rattle.stab.specs.Check.{finding, wholeUnless, check, formulasRefusal}
 use Rattle.stab.specs.Keeps.{Keeps}
@@ -86,7 +86,7 @@ both-fit-is c =
     let b = start q in
     let a = b .args in
     c .both-fit .ensures
-    ∙ ap₂ (λ (x y : ℤ). ltb (a .first-schema-rows + a .second-schema-rows) 1024 and ltb (a .first-node-rows + a .second-node-rows) 1024 and orSmall (tree (joined (a .first-schema .now) (a .first-schema-rows) (a .first-proof .now)) (nat x)) (tree (joined (a .second-schema .now) (a .second-schema-rows) (a .second-proof .now)) (nat y))) (toZ-ofZ (b .fits .first-root)) (toZ-ofZ (b .fits .second-root))
+    ∙ ap₂ (λ (x y : ℤ). ltb (a .first-schema-rows + a .second-schema-rows) 1024 and ltb (a .first-node-rows + a .second-node-rows) 1024 and orSmall (tree (formulaRows (a .first-schema .now) (a .first-schema-rows) (a .first-proof .now)) (nat x)) (tree (formulaRows (a .second-schema .now) (a .second-schema-rows) (a .second-proof .now)) (nat y))) (toZ-ofZ (b .fits .first-root)) (toZ-ofZ (b .fits .second-root))
     ∙ ap (λ (o : Bool). ltb (a .first-schema-rows + a .second-schema-rows) 1024 and ltb (a .first-node-rows + a .second-node-rows) 1024 and o) (sym (or-is (TA b) (TB b) (first-keeps q) (second-keeps q) (eqZ-true _ _ (leasts (c .before)))))
 
 fault-requires : tie.Need-fault-requires
@@ -134,8 +134,8 @@ both-fit-requires c κs =
     let a = b .args in
     let K = first-keeps q .older in
     let L = second-keeps q .older in (
-      (omega (arith, few-rows (TA b) K), K .tables .nodeLimit, ap₂ (formulasRefusal (joined (a .first-schema .now) (a .first-schema-rows) (a .first-proof .now)) (a .first-schema-rows) (a .first-schema-rows)) (toZ-ofZ (b .fits .first-root)) (toZ-ofZ (b .fits .first-least)) ∙ schema-passes (TA b) K),
-      (omega (arith, few-rows (TB b) L), L .tables .nodeLimit, ap₂ (formulasRefusal (joined (a .second-schema .now) (a .second-schema-rows) (a .second-proof .now)) (a .second-schema-rows) (a .second-schema-rows)) (toZ-ofZ (b .fits .second-root)) (toZ-ofZ (b .fits .second-least)) ∙ schema-passes (TB b) L),
+      (omega (arith, few-rows (TA b) K), K .tables .nodeLimit, ap₂ (formulasRefusal (formulaRows (a .first-schema .now) (a .first-schema-rows) (a .first-proof .now)) (a .first-schema-rows) (a .first-schema-rows)) (toZ-ofZ (b .fits .first-root)) (toZ-ofZ (b .fits .first-least)) ∙ schema-passes (TA b) K),
+      (omega (arith, few-rows (TB b) L), L .tables .nodeLimit, ap₂ (formulasRefusal (formulaRows (a .second-schema .now) (a .second-schema-rows) (a .second-proof .now)) (a .second-schema-rows) (a .second-schema-rows)) (toZ-ofZ (b .fits .second-root)) (toZ-ofZ (b .fits .second-least)) ∙ schema-passes (TB b) L),
     )
 
 returns-4 : tie.Need-returns-4

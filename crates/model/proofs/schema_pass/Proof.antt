@@ -8,7 +8,7 @@ use borrow.Author.Needs.{needs}
 use Rattle.stab.specs.Formula.{Row, rowAt}
 use Rattle.stab.specs.Check.{formulasRefusal}
 use Rattle.formula.specs.Rows.{formulasTable, Passed}
-use Rattle.model.proofs.Passes.{joined-part}
+use Rattle.model.proofs.Passes.{formula-rows-part}
 use Rattle.model.proofs.schema_pass.Statement.{statement}
 use Rattle.model.proofs.schema_pass.Tie as tie
 
@@ -39,7 +39,7 @@ returns c =
     let called = c .before .before .formulas .ensures in
     let t = now (start .args .schema) in
     let s = start .args .schema-rows in
-    let rows = joined-part t s in
+    let rows = formula-rows-part t s in
     let root = toZ-ofZ (start .fits .root) in
     let least = toZ-ofZ (start .fits .least) in
     let e = ap (λ (r : ℕ → Row). formulasRefusal r s s (toZ w32 (ofZ w32 (start .args .root))) (toZ w32 (ofZ w32 (start .args .least)))) rows

@@ -24,11 +24,11 @@ L s = s .args .out .now
 some : (s : tie.Start) → 1 ≤ length (R s ++ Set s)
 some s = omega (arith, length-append (R s) (Set s), s .pre .0 .some)
 
-joined : (s : tie.Start) → spread (R s) ++ spread (Set s) ≡ spread (R s ++ Set s)
-joined s = sym (spread-append (R s) (Set s))
+together : (s : tie.Start) → spread (R s) ++ spread (Set s) ≡ spread (R s ++ Set s)
+together s = sym (spread-append (R s) (Set s))
 
 fits : (s : tie.Start) → length (spread (R s) ++ spread (Set s)) ≤ length (L s)
-fits s = omega (arith, ap length (joined s), row-length (R s ++ Set s) (some s), s .pre .2)
+fits s = omega (arith, ap length (together s), row-length (R s ++ Set s) (some s), s .pre .2)
 
 put-numbers-requires : tie.Need-put-numbers-requires
 put-numbers-requires c κs =
@@ -67,10 +67,10 @@ Out c =
     putMid (p .result) (length (p .last .0) - p .result) (p .last .0) (c .before .before .put-numbers2 .last .0)
 
 counted : (c : tie.After-slice-known3) → N c ≡ length (spread (R (S (B c)) ++ Set (S (B c))))
-counted c = lent-count (room (B c)) (c .before .before .put-numbers2 .ensures .0) ∙ ap length (joined (S (B c)))
+counted c = lent-count (room (B c)) (c .before .before .put-numbers2 .ensures .0) ∙ ap length (together (S (B c)))
 
 wrote : (c : tie.After-slice-known3) → Out c ≡ over (spread (R (S (B c)) ++ Set (S (B c)))) (L (S (B c)))
-wrote c = lent-over (room (B c)) (c .before .before .put-numbers2 .ensures .1) ∙ ap (λ (x : List ℕ). over x (L (S (B c)))) (joined (S (B c)))
+wrote c = lent-over (room (B c)) (c .before .before .put-numbers2 .ensures .1) ∙ ap (λ (x : List ℕ). over x (L (S (B c)))) (together (S (B c)))
 
 same : (c : tie.After-slice-known3) → length (Out c) ≡ length (L (S (B c)))
 same c = lent-length (room (B c)) (c .before .before .put-numbers2 .ensures .1)
@@ -84,7 +84,7 @@ sub-out c = let s = S (B c) in omega (arith, counted c, row-some (R s ++ Set s) 
 slice-write-out : tie.Need-slice-write-out
 slice-write-out c =
     let s = S (B c) in
-    omega (arith, counted c, sub-out c, same c, ap length (joined s), fits s)
+    omega (arith, counted c, sub-out c, same c, ap length (together s), fits s)
 
 same-length : tie.Need-same-length
 same-length c = length-set (Out c) (N c - 1) 10 ∙ same c

@@ -4,7 +4,7 @@ use mathlib.Core.Path.{_≡_, refl, sym, _∙_, ap}
 use mathlib.Core.Option.{none}
 use lib.ListN.{length}
 use Rattle.stab.specs.Basic.{scan}
-use Rattle.stab.specs.Formula.{joined}
+use Rattle.stab.specs.Formula.{formulaRows}
 use Rattle.stab.specs.Check.{finding, repeatRefusal}
 use Rattle.stab.proofs.Scans.{scan-more, scan-found}
 use Rattle.repeats.specs.Places.{Linked}
@@ -18,8 +18,8 @@ Inv-loop schema s proof from n next₀ heads₀ r₀ next heads r =
     (r ≤ n)
     × (length next ≡ length next₀)
     × (length heads ≡ length heads₀)
-    × Linked (joined schema s proof) next heads r
-    × (scan (repeatRefusal (joined schema s proof) from) r ≡ none)
+    × Linked (formulaRows schema s proof) next heads r
+    × (scan (repeatRefusal (formulaRows schema s proof) from) r ≡ none)
 
 abbrev μ-loop : tie.MeasureT-loop
 μ-loop schema s proof from n next₀ heads₀ r₀ next heads r = n - r

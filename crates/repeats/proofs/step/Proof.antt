@@ -6,7 +6,7 @@ use mathlib.Core.Bool.{true≢false}
 use lib.ListN.{length}
 use borrow.Author.Needs.{needs}
 use borrow.Author.Tests.{le-leb, lt-leb}
-use Rattle.stab.specs.Formula.{Row, joined}
+use Rattle.stab.specs.Formula.{Row, formulaRows}
 use Rattle.stab.proofs.Bools.{and-both, and-first-false, and-second-false}
 use Rattle.repeats.specs.Places.{placeOf}
 use Rattle.repeats.specs.Repeated.{repeated}
@@ -19,7 +19,7 @@ abbrev start : tie.After-place → tie.Start
 start c = c .before .before .before .before
 
 abbrev rows : tie.Start → ℕ → Row
-rows b = let a = b .args in joined (a .schema .now) (a .s) (a .proof .now)
+rows b = let a = b .args in formulaRows (a .schema .now) (a .s) (a .proof .now)
 
 is-place : (c : tie.After-place) → c .place .result ≡ placeOf (rows (start c) (start c .args .r))
 is-place c = c .place .ensures ∙ ap placeOf (c .before .of-row .ensures)

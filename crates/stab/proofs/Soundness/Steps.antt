@@ -257,7 +257,7 @@ module _ (T : Tableau) (K : KeepsOlder T) (σ : Assignment) where
     unfolding formula row
     body-of o z e b = D.body-is (rows T) (nat z) o e (formed (nat z) (row-below z b))
 
-    -- on is true exactly if with and other are, joined by the operation
+    -- on is true exactly if with and other are, combined by the operation
     unfold-value : (o : Op) → kindOf (row T on .kind) ≡ iteration o → kindOf (row T with .kind) ≡ iteration o → Below (rowCount T) on → Below (rowCount T) with → Unfolds T j → truth σ n (formula T on) ≡ op o (truth σ n (formula T with)) (truth σ n (formula T (node T j .other)))
     unfolding truth
     unfold-value o ko kw bo bw u =

@@ -17,10 +17,10 @@ use Rattle.stab.specs.Model.{listed}
 use Rattle.stab.proofs.Trees.{below-nat}
 use Rattle.pairs.specs.Index.{unbiased}
 use Rattle.pairs.specs.Reading.{opOf}
-use Rattle.pairs.specs.Word.{word, wordAt, joinedWord, wholeWord}
+use Rattle.pairs.specs.Word.{word, wordAt, combinedWord, wholeWord}
 use Rattle.pairs.proofs.Parts.{within-under, within-nat}
 use Rattle.value.proofs.Values.{value-constant, junction-left, junction-right, value-junction, iteration-body, iteration-start, iteration-end, value-iteration, op-decided, op-open, over-none, over-parts, first-is, range-reached, readable-below}
-use Rattle.pairs.proofs.Words.{word-same, joined-word, settled-word, over-word}
+use Rattle.pairs.proofs.Words.{word-same, combined-word, settled-word, over-word}
 use Rattle.value.proofs.formula_value.Reads as formula-value
 use Rattle.value.proofs.formula_value.Kinds as formula-value-kinds
 use Rattle.value.proofs.+formula_value+range_value.Lts-formula_value as formula-value-lts
@@ -32,7 +32,7 @@ use Rattle.pairs.proofs.moved.Reads as moved
 use Rattle.value.proofs.range_size.Reads as range-size
 use Rattle.value.proofs.same.Reads as same
 use Rattle.value.proofs.settled.Reads as settled
-use Rattle.value.proofs.joined.Reads as joined
+use Rattle.value.proofs.combined.Reads as combined
 use Rattle.value.proofs.whole_word.Reads as whole-word
 use Rattle.signed.proofs.natural_at.Reads as natural-at
 use Rattle.value.proofs.+formula_value+range_value.{statement}
@@ -76,8 +76,8 @@ formula-calls t = (
   formula-value.Post,
   settled.Asked,
   settled.Learnt,
-  joined.Asked,
-  joined.Learnt,
+  combined.Asked,
+  combined.Learnt,
 )
 
 abbrev range-calls : ℕ → range-value-lts.Claims
@@ -270,17 +270,17 @@ right-requires t c κs =
       (readable-below _ _ _ _ _ _ (start .pre .1 .0) (omega (arith, right, c .natural-at3 .ensures .0)), start .pre .1 .1),
     )
 
-joined-requires : (t : ℕ) → formula-value-lts.Need-joined-requires (formula-calls t) (formula-value-at t) formula-value.Post
-joined-requires t c κs = search needs
+combined-requires : (t : ℕ) → formula-value-lts.Need-combined-requires (formula-calls t) (formula-value-at t) formula-value.Post
+combined-requires t c κs = search needs
 
 right-returns : (t : ℕ) → formula-value-lts.Need-returns-5 (formula-calls t) (formula-value-at t) formula-value.Post
 unfolding rowAt wordAt
 right-returns t c =
     let at = c .before .before .before .before .before in
     let start = at .before .before .before .before .before .before in
-    c .joined .ensures
-    ∙ ap₂ (joinedWord _) (left-is at) (c .before .formula-value2 .ensures ∙ ap (λ (g : ℕ). word (row-at start g) (start .args .width)) (c .before .before .natural-at3 .ensures .0))
-    ∙ joined-word (row-at start (nat (row start .a))) (row-at start (nat (row start .b))) _ (start .args .width)
+    c .combined .ensures
+    ∙ ap₂ (combinedWord _) (left-is at) (c .before .formula-value2 .ensures ∙ ap (λ (g : ℕ). word (row-at start g) (start .args .width)) (c .before .before .natural-at3 .ensures .0))
+    ∙ combined-word (row-at start (nat (row start .a))) (row-at start (nat (row start .b))) _ (start .args .width)
     ∙ whole-is at
 
 -- ---- the value of a range
@@ -379,7 +379,7 @@ pub +formula-value+range-value-spec : {M : Type 1} → statement M
     (add-natural-at-2 t)
     (natural-at-requires-3 t)
     (right-requires t)
-    (joined-requires t)
+    (combined-requires t)
     (right-returns t))
     (λ t.
     range-value-lts.spec

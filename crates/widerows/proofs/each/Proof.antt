@@ -7,7 +7,7 @@ use borrow.Author.Needs.{needs}
 use lib.ListN.{length}
 use Rattle.stab.specs.Basic.{scan}
 use Rattle.stab.specs.Check.{finding}
-use Rattle.stab.specs.Formula.{joined}
+use Rattle.stab.specs.Formula.{formulaRows}
 use Rattle.stab.proofs.Scans.{scan-none, scan-more, scan-found}
 use Rattle.wide.specs.Convert.{wideRowRefusal}
 use Rattle.formula.proofs.RowLaws.{never, none-kept, table-none, table-more, table-stays}
@@ -20,9 +20,9 @@ abbrev Inv-loop : tie.InvT-loop
 Inv-loop schema s proof n facts₀ r₀ facts r =
     (r ≤ n)
     × (length facts ≡ length facts₀)
-    × (scan (wideRowRefusal (joined schema s proof)) r ≡ none)
-    × WidePassed (joined schema s proof) facts r
-    × (facts ≡ wideTable (joined schema s proof) facts₀ r)
+    × (scan (wideRowRefusal (formulaRows schema s proof)) r ≡ none)
+    × WidePassed (formulaRows schema s proof) facts r
+    × (facts ≡ wideTable (formulaRows schema s proof) facts₀ r)
 
 abbrev μ-loop : tie.MeasureT-loop
 μ-loop schema s proof n facts₀ r₀ facts r = n - r
@@ -80,7 +80,7 @@ loop-again c =
       omega arith,
       s .step .kept .1 .1 .1 .1 .0 ∙ l .inv .1,
       more,
-      subst (λ (t : List ℕ). WidePassed (joined (a .schema .now) (a .s) (a .proof .now)) t (l .r + 1)) (sym (s .step .ensures .1)) (passed-more _ _ _ (l .inv .3) (omega arith) h),
+      subst (λ (t : List ℕ). WidePassed (formulaRows (a .schema .now) (a .s) (a .proof .now)) t (l .r + 1)) (sym (s .step .ensures .1)) (passed-more _ _ _ (l .inv .3) (omega arith) h),
       table-more _ _ _ _ more h (l .inv .4) (s .step .ensures .1),
     )
 
@@ -92,7 +92,7 @@ unfolding finding
 returns-2 c =
     let a = c .before .before .before .args in
     let i = c .before .loop .inv in
-    let rows = joined (a .schema .now) (a .s) (a .proof .now) in
+    let rows = formulaRows (a .schema .now) (a .s) (a .proof .now) in
     let e : c .before .loop .r ≡ a .n = omega arith in (
       sym (subst (λ (m : ℕ). scan (wideRowRefusal rows) m ≡ none) e (i .2)),
       (

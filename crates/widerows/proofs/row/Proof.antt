@@ -3,7 +3,7 @@ use Prim.Native.Nat.{ℕ, _<_}
 use mathlib.Core.Path.{_≡_, refl, sym, _∙_, ap, subst}
 use lib.IntN.{pos}
 use borrow.Author.Needs.{needs}
-use Rattle.stab.specs.Formula.{Row, joined, Kind, kindOf}
+use Rattle.stab.specs.Formula.{Row, formulaRows, Kind, kindOf}
 use Rattle.wide.specs.WideFormula.{plain, wideKindOf}
 use Rattle.signed.proofs.Signs.{read-back}
 use Rattle.formula.specs.Cells.{rowOf}
@@ -19,7 +19,7 @@ abbrev start : tie.After-kind-of → tie.Start
 start c = c .before .before .before .before
 
 abbrev columns : tie.After-kind-of → Row
-columns c = let a = start c .args in joined (a .schema .now) (a .s) (a .proof .now) (a .r)
+columns c = let a = start c .args in formulaRows (a .schema .now) (a .s) (a .proof .now) (a .r)
 
 known-kind : (c : tie.After-kind-of) → wideKindOf (pos (c .kind-of .result)) ≡ wideKindOf (columns c .kind)
 unfolding rowOf

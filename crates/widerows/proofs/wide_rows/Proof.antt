@@ -14,7 +14,7 @@ use Rattle.wide.specs.WideFormula.{wideTree, wideLoose, isWideOuter}
 use Rattle.wide.specs.Convert.{wideRowRefusal, wideRefusal}
 use Rattle.formula.specs.Rows.{factsAt}
 use Rattle.formula.specs.declared.rows.Facts.{Facts}
-use Rattle.formula.proofs.Columns.{joined-part}
+use Rattle.formula.proofs.Columns.{formula-rows-part}
 use Rattle.formula.proofs.RowLaws.{fails, passes, bit-zero, bit-one, formulas-root, formulas-row, formulas-loose, formulas-none}
 use Rattle.widerows.specs.WideRows.{wideFactsOf, wideTable, wideRowsTable, WidePassed}
 use Rattle.widerows.proofs.wide_rows.Statement.{statement}
@@ -79,14 +79,14 @@ fits c = let e = c .before .before .before in passes _ (said (e .before)) (e .if
 found : (c : tie.After-each) → finding (c .each .result) ≡ scan (wideRowRefusal (rows (start c))) (start c .args .n)
 found c =
     let a = start c .args in
-    c .each .ensures .0 ∙ ap (λ (w : ℕ → Row). scan (wideRowRefusal w) (a .n)) (joined-part (a .wide .now) (a .n))
+    c .each .ensures .0 ∙ ap (λ (w : ℕ → Row). scan (wideRowRefusal w) (a .n)) (formula-rows-part (a .wide .now) (a .n))
 
 table-is : (c : tie.After-each) → let a = start c .args in c .each .last .1 .1 .1 .1 .0 ≡ wideRowsTable (rows (start c)) (a .facts .now) (a .n) (a .root) (a .least)
 unfolding wideRowsTable
 table-is c =
     let a = start c .args in
     c .each .ensures .1 .1
-    ∙ ap (λ (w : ℕ → Row). wideTable w (a .facts .now) (a .n)) (joined-part (a .wide .now) (a .n))
+    ∙ ap (λ (w : ℕ → Row). wideTable w (a .facts .now) (a .n)) (formula-rows-part (a .wide .now) (a .n))
     ∙ sym (if-true _ _ _ (fits c))
 
 returns-2 : tie.Need-returns-2
@@ -112,7 +112,7 @@ unfolding finding
 rows-passed c =
     let e = passed c .each .ensures in
     let a = start (passed c) .args in
-    subst (λ (w : ℕ → Row). WidePassed w (passed c .each .last .1 .1 .1 .1 .0) (a .n)) (joined-part (a .wide .now) (a .n))
+    subst (λ (w : ℕ → Row). WidePassed w (passed c .each .last .1 .1 .1 .1 .0) (a .n)) (formula-rows-part (a .wide .now) (a .n))
     (e .1 .0 (sym (e .0) ∙ ap finding (c .before .before .enum-told .given .1)))
 
 root-is : (c : tie.After-natural) → c .natural .result ≡ nat (start (passed c) .args .root)

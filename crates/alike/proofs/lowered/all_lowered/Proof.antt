@@ -10,7 +10,7 @@ use mir.Syntax.{w32}
 use mir.Val.{toZ, ofZ}
 use mir.Facts.{toZ-ofZ}
 use Rattle.stab.specs.Basic.{nat, below}
-use Rattle.stab.specs.Formula.{joined, tree, loose}
+use Rattle.stab.specs.Formula.{formulaRows, tree, loose}
 use Rattle.stab.specs.Alike.{alike}
 use Rattle.stab.specs.Node.{Tableau, node, nodeAt, set, setOf, rows, formula}
 use Rattle.stab.specs.Rule.{hasLowered}
@@ -29,7 +29,7 @@ Inv-loop schema proof nodes members forms t j to k agreed₀ size width start fr
     (i ≤ nat (nodeAt nodes to .size))
     × ((a : ℕ) → a < i → hasLowered (lent schema proof nodes members t) (toZ w32 k) (setOf members (nodeAt nodes j)) (getD (setOf members (nodeAt nodes to)) a (pos 0)) ≡ true)
     × (from ≤ nat (nodeAt nodes j .size))
-    × Remembers (joined schema (t .schema) proof) agreed
+    × Remembers (formulaRows schema (t .schema) proof) agreed
     × (length agreed ≡ length agreed₀)
 
 abbrev μ-loop : tie.MeasureT-loop

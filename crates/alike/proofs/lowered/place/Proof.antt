@@ -10,7 +10,7 @@ use mir.Val.{toZ, ofZ}
 use mir.Facts.{toZ-ofZ}
 use borrow.Author.Count.{below-more}
 use Rattle.stab.specs.Basic.{nat}
-use Rattle.stab.specs.Formula.{joined, tree, loose}
+use Rattle.stab.specs.Formula.{formulaRows, tree, loose}
 use Rattle.stab.specs.Alike.{lower, alike}
 use Rattle.stab.specs.Node.{Tableau, nodeAt, setOf, formula, rows}
 use Rattle.stab.specs.Rule.{isLowered}
@@ -25,7 +25,7 @@ abbrev Inv-loop : tie.InvT-loop
 Inv-loop schema proof nodes members forms t j k z lo hi agreed₀ start i₀ agreed i =
     (i ≤ hi)
     × ((a : ℕ) → a < i → lo ≤ a → isLowered (lent schema proof nodes members t) (toZ w32 k) (pos z) (getD (setOf members (nodeAt nodes j)) a (pos 0)) ≡ false)
-    × Remembers (joined schema (t .schema) proof) agreed
+    × Remembers (formulaRows schema (t .schema) proof) agreed
     × (length agreed ≡ length agreed₀)
 
 abbrev μ-loop : tie.MeasureT-loop

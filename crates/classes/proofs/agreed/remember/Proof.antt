@@ -5,7 +5,7 @@ use mathlib.Core.Path.{_≡_, sym, _∙_, ap}
 use lib.ListN.{set}
 use borrow.Author.Tests.{lt-ltb, le-ltb}
 use Rattle.stab.proofs.Bools.{if-true, if-false}
-use Rattle.classes.specs.Agreed.{standIn, joinedIn}
+use Rattle.classes.specs.Agreed.{standIn, unitedIn}
 use Rattle.classes.proofs.agreed.remember.Statement.{statement}
 use Rattle.classes.proofs.agreed.remember.Tie as tie
 
@@ -35,7 +35,7 @@ same-length : tie.Need-same-length
 same-length c = search needs
 
 returns : tie.Need-returns
-unfolding joinedIn
+unfolding unitedIn
 returns c =
     let d = c .before in
     let a = begin d .args in
@@ -60,7 +60,7 @@ same-length-2 : tie.Need-same-length-2
 same-length-2 c = search needs
 
 returns-2 : tie.Need-returns-2
-unfolding joinedIn
+unfolding unitedIn
 returns-2 c =
     let d = c .before in
     let a = begin d .args in

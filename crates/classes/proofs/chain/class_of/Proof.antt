@@ -3,13 +3,13 @@ use Prim.Native.Nat.{ℕ, _-_, _<_}
 use mathlib.Core.Path.{_≡_, sym, _∙_}
 use borrow.Author.Needs.{needs}
 use Rattle.stab.specs.Basic.{nat}
-use Rattle.stab.specs.Formula.{Row, joined}
+use Rattle.stab.specs.Formula.{Row, formulaRows}
 use Rattle.classes.proofs.GoingBack.{Walk, hash-small, walk-start, walk-end, walk-row, walk-found, walk-falls, walk-next}
 use Rattle.classes.proofs.chain.class_of.Statement.{statement}
 use Rattle.classes.proofs.chain.class_of.Tie as tie
 
 abbrev Inv-loop : tie.InvT-loop
-Inv-loop schema s proof r kind f h forms sides heads next₀ next = Walk (joined schema s proof) r h next
+Inv-loop schema s proof r kind f h forms sides heads next₀ next = Walk (formulaRows schema s proof) r h next
 
 abbrev μ-loop : tie.MeasureT-loop
 μ-loop schema s proof r kind f h forms sides heads next₀ next = next
@@ -22,7 +22,7 @@ abbrev start : Turn → tie.Start Inv-loop μ-loop
 start c = c .before .before .before .before .before .before
 
 abbrev rows : Turn → ℕ → Row
-rows c = let a = start c .args in joined (a .schema .now) (a .s) (a .proof .now)
+rows c = let a = start c .args in formulaRows (a .schema .now) (a .s) (a .proof .now)
 
 kind-is : (c : Turn) → start c .args .kind ≡ nat (rows c (start c .args .r) .kind)
 kind-is c = start c .pre .0 .1
@@ -38,7 +38,7 @@ number-at-requires c κs = search needs
 loop-holds : tie.Need-loop-holds Inv-loop μ-loop
 loop-holds c =
     let b = c .before .before .before .before in
-    walk-start _ (b .args .r) (b .pre .0 .0) (b .pre .1 .0) (b .args .h) _ (c .number-at .ensures ∙ b .pre .1 .1 .0 .latest-of (b .args .h) (omega (arith, b .pre .1 .1 .1 .1, hash-small (joined (b .args .schema .now) (b .args .s) (b .args .proof .now)) (b .args .r))))
+    walk-start _ (b .args .r) (b .pre .0 .0) (b .pre .1 .0) (b .args .h) _ (c .number-at .ensures ∙ b .pre .1 .1 .0 .latest-of (b .args .h) (omega (arith, b .pre .1 .1 .1 .1, hash-small (formulaRows (b .args .schema .now) (b .args .s) (b .args .proof .now)) (b .args .r))))
 
 sub-q : tie.Need-sub-q Inv-loop μ-loop
 sub-q c = omega arith

@@ -4,7 +4,7 @@ use borrow.Author.Needs.{needs}
 use Prim.Native.Nat.{ℕ}
 use lib.Dec.{eqb}
 use Rattle.stab.specs.Basic.{nat}
-use Rattle.stab.specs.Formula.{joined}
+use Rattle.stab.specs.Formula.{formulaRows}
 use borrow.Author.Tests.{eq-eqb, ne-eqb}
 use Rattle.stab.proofs.Bools.{and-first-false, and-first-true}
 use Rattle.formula.specs.Column.{column}
@@ -12,7 +12,7 @@ use Rattle.classes.proofs.chain.has_key.Statement.{statement}
 use Rattle.classes.proofs.chain.has_key.Tie as tie
 
 abbrev kindIn : tie.Start → ℕ
-kindIn b = nat (joined (b .args .schema .now) (b .args .s) (b .args .proof .now) (b .args .q) .kind)
+kindIn b = nat (formulaRows (b .args .schema .now) (b .args .s) (b .args .proof .now) (b .args .q) .kind)
 
 -- past the first test the kinds are the same
 kinds-same : (c : tie.Else1) → let b = c .before .before .before in kindIn b ≡ b .args .kind

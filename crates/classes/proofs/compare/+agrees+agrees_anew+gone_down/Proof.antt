@@ -12,7 +12,7 @@ use borrow.Author.Tests.{eqb-true}
 use borrow.Fn.Kinds.{In}
 use borrow.Fn.PlainCycle.{Measures, is, falls, and as joint}
 use Rattle.stab.specs.Basic.{if_then_else_, _and_, eqZ, nat}
-use Rattle.stab.specs.Formula.{Row, joined, offset, tree}
+use Rattle.stab.specs.Formula.{Row, formulaRows, offset, tree}
 use Rattle.stab.specs.Alike.{lower, alike}
 use Rattle.stab.proofs.Bools.{asked-false, asked-true, and-left, and-right, and-first-true, and-first-false, and-second-false}
 use Rattle.signed.proofs.Signs.{read-back}
@@ -22,7 +22,7 @@ use Rattle.classes.specs.Class.{ground, leadOf, besides, otherOf, Ready}
 use Rattle.classes.specs.Key.{fitting}
 use Rattle.classes.specs.Agreed.{Remembers}
 use Rattle.classes.proofs.Meets.{kinds-differ, constants-met, known-met, met-akin, added-f, added-g, lead-f, lead-g, other-f, other-g, junctions-met, body-f, body-g, first-f, first-g, limit-f, limit-g, iterations-met}
-use Rattle.classes.proofs.Remembering.{known-akin, joined-agreed}
+use Rattle.classes.proofs.Remembering.{known-akin, united-agreed}
 use Rattle.classes.proofs.compare.agrees.Reads as agrees
 use Rattle.classes.proofs.compare.agrees.Kinds as agrees-kinds
 use Rattle.classes.proofs.compare.+agrees+agrees_anew+gone_down.Lts-agrees as agrees-lts
@@ -124,8 +124,8 @@ module _ (t : ℕ) where
       let n = b .pre .1 .1 .0 in
       let h = sym (k .is-known .ensures) ∙ c .if1 .taken in (
         sym
-            (known-met (joined (a .schema .now) (a .s) (a .proof .now)) _ _ (n .3) (pos (a .up) -ℤ pos (a .down)) _ _ (n .1) (n .2) _ _ (λ i. pos (a .up) -ℤ pos (a .down))
-            (known-akin (joined (a .schema .now) (a .s) (a .proof .now)) _ (b .pre .1 .1 .1) _ _ (eqb-true _ _ (and-left _ _ h)))
+            (known-met (formulaRows (a .schema .now) (a .s) (a .proof .now)) _ _ (n .3) (pos (a .up) -ℤ pos (a .down)) _ _ (n .1) (n .2) _ _ (λ i. pos (a .up) -ℤ pos (a .down))
+            (known-akin (formulaRows (a .schema .now) (a .s) (a .proof .now)) _ (b .pre .1 .1 .1) _ _ (eqb-true _ _ (and-left _ _ h)))
             (sym (ap₂ (fitting (a .up) (a .down)) (n .3 .worked _ (n .1) .shift) (n .3 .worked _ (n .2) .shift)) ∙ and-right _ _ h)),
         b .pre .1 .1 .1,
       )
@@ -186,11 +186,11 @@ module _ (t : ℕ) where
       let r = c .before .before in
       let d = r .before .before in
       let a = opening d .args in
-      let rows = joined (a .schema .now) (a .s) (a .proof .now) in
+      let rows = formulaRows (a .schema .now) (a .s) (a .proof .now) in
       let e = d .before .before .before .gone-down .ensures in
       let met = asked-true (e .0) (d .if1 .left) in
       let k = keeps d in
-      (sym met, subst (Remembers rows) (sym (r .remember .ensures)) (joined-agreed rows _ (e .1) _ _ (k .2) (k .3) (met-akin (pos (a .up) -ℤ pos (a .down)) _ _ met)))
+      (sym met, subst (Remembers rows) (sym (r .remember .ensures)) (united-agreed rows _ (e .1) _ _ (k .2) (k .3) (met-akin (pos (a .up) -ℤ pos (a .down)) _ _ met)))
 
 -- ---- the rows are gone down
 
@@ -221,7 +221,7 @@ module _ (t : ℕ) where
   -- ---- what is known there
 
   abbrev rows : Start → ℕ → Row
-  rows b = joined (b .args .schema .now) (b .args .s) (b .args .proof .now)
+  rows b = formulaRows (b .args .schema .now) (b .args .s) (b .args .proof .now)
 
   abbrev by : Start → ℤ
   by b = pos (b .args .up) -ℤ pos (b .args .down)

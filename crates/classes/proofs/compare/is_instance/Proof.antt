@@ -4,7 +4,7 @@ use native.Mathlib.Omega.{arith}
 use mathlib.Core.Path.{_≡_, sym, _∙_, ap₂}
 use mathlib.Core.Bool.{true}
 use lib.IntN.{ℤ, pos, _-ℤ_}
-use Rattle.stab.specs.Formula.{Row, Op, iteration, kindOf, joined, tree, wellFormed}
+use Rattle.stab.specs.Formula.{Row, Op, iteration, kindOf, formulaRows, tree, wellFormed}
 use Rattle.stab.specs.Alike.{lower, alike}
 use Rattle.formula.specs.Column.{column}
 use Rattle.formula.proofs.RowLaws.{offset-small, bit-zero, bit-one}
@@ -15,7 +15,7 @@ use Rattle.classes.proofs.compare.is_instance.Statement.{statement}
 use Rattle.classes.proofs.compare.is_instance.Tie as tie
 
 abbrev rows : tie.Start → ℕ → Row
-rows b = joined (b .args .schema .now) (b .args .s) (b .args .proof .now)
+rows b = formulaRows (b .args .schema .now) (b .args .s) (b .args .proof .now)
 
 formed : (b : tie.Start) → wellFormed (rows b) (b .args .on) ≡ true
 formed b = b .pre .0 .3 .formed (b .args .on) (b .pre .0 .1)

@@ -7,7 +7,7 @@ use lib.IntN.{ℤ, pos, negℤ, _-ℤ_}
 use mir.Facts.{toZ-ofZ}
 use Rattle.signed.proofs.Signs.{nat-small, under-small}
 use Rattle.stab.specs.Basic.{nat}
-use Rattle.stab.specs.Formula.{Row, joined, tree}
+use Rattle.stab.specs.Formula.{Row, formulaRows, tree}
 use Rattle.stab.specs.Alike.{lower, alike}
 use Rattle.stab.proofs.Bools.{asked-false}
 use Rattle.classes.specs.Class.{ground}
@@ -17,7 +17,7 @@ use Rattle.classes.proofs.compare.is_lowered.Statement.{statement}
 use Rattle.classes.proofs.compare.is_lowered.Tie as tie
 
 abbrev rows : tie.Start → ℕ → Row
-rows b = joined (b .args .schema .now) (b .args .s) (b .args .proof .now)
+rows b = formulaRows (b .args .schema .now) (b .args .s) (b .args .proof .now)
 
 small : (b : tie.Start) → (b .args .z < 1024) × (b .args .x < 1024)
 small b = let p = b .pre .0 in (omega (arith, p .1, p .3 .few), omega (arith, p .2, p .3 .few))

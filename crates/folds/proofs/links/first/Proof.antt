@@ -4,14 +4,14 @@ use Prim.Native.Nat.{ℕ, _-_, _<_}
 use mathlib.Core.Path.{sym, _∙_, ap, subst}
 use mathlib.Core.Logic.{⊎-elim}
 use lib.ListN.{getD}
-use Rattle.stab.specs.Formula.{Row, joined}
+use Rattle.stab.specs.Formula.{Row, formulaRows}
 use Rattle.repeats.specs.Places.{Leads}
 use Rattle.folds.proofs.Earlier.{Walk, walk-start, walk-end, walk-found, walk-on}
 use Rattle.folds.proofs.links.first.Statement.{statement}
 use Rattle.folds.proofs.links.first.Tie as tie
 
 abbrev Inv-loop : tie.InvT-loop
-Inv-loop schema s table r h next heads best₀ rest₀ best rest = Walk (joined schema s table) r best rest
+Inv-loop schema s table r h next heads best₀ rest₀ best rest = Walk (formulaRows schema s table) r best rest
 
 abbrev μ-loop : tie.MeasureT-loop
 μ-loop schema s table r h next heads best₀ rest₀ best rest = rest
@@ -24,7 +24,7 @@ abbrev start : Turn → tie.Start Inv-loop μ-loop
 start c = c .before .before .before .before .before
 
 abbrev rows : tie.Start Inv-loop μ-loop → ℕ → Row
-rows b = let a = b .args in joined (a .schema .now) (a .s) (a .table .now)
+rows b = let a = b .args in formulaRows (a .schema .now) (a .s) (a .table .now)
 
 row-below : (c : Turn) → c .before .loop .rest - 1 < start c .args .r
 row-below c = omega (arith, c .before .loop .inv .within)

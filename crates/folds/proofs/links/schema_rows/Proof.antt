@@ -3,7 +3,7 @@ use native.Mathlib.Omega.{arith}
 use Prim.Native.Nat.{ℕ, _-_, _<_, _≤_}
 use mathlib.Core.Path.{_≡_, refl, _∙_, ap, subst}
 use lib.ListN.{length}
-use Rattle.stab.specs.Formula.{Row, joined}
+use Rattle.stab.specs.Formula.{Row, formulaRows}
 use Rattle.repeats.specs.Places.{placeOf, Linked}
 use Rattle.repeats.proofs.Links.{place-small, linked-none, linked-more}
 use Rattle.folds.proofs.links.schema_rows.Statement.{statement}
@@ -11,7 +11,7 @@ use Rattle.folds.proofs.links.schema_rows.Tie as tie
 
 abbrev Inv-loop : tie.InvT-loop
 Inv-loop schema s table next₀ heads₀ r₀ next heads r =
-    (r ≤ s) × (length next ≡ length next₀) × (length heads ≡ length heads₀) × Linked (joined schema s table) next heads r
+    (r ≤ s) × (length next ≡ length next₀) × (length heads ≡ length heads₀) × Linked (formulaRows schema s table) next heads r
 
 abbrev μ-loop : tie.MeasureT-loop
 μ-loop schema s table next₀ heads₀ r₀ next heads r = s - r
@@ -21,7 +21,7 @@ abbrev start : tie.After-place Inv-loop μ-loop → tie.Start Inv-loop μ-loop
 start c = c .before .before .before .before .before .before
 
 abbrev rows : tie.Start Inv-loop μ-loop → ℕ → Row
-rows b = let a = b .args in joined (a .schema .now) (a .s) (a .table .now)
+rows b = let a = b .args in formulaRows (a .schema .now) (a .s) (a .table .now)
 
 is-place : (c : tie.After-place Inv-loop μ-loop) → c .place .result ≡ placeOf (rows (start c) (c .before .before .before .loop .r))
 is-place c = c .place .ensures ∙ ap placeOf (c .before .of-row .ensures)

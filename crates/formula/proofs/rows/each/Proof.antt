@@ -6,7 +6,7 @@ use borrow.Author.Needs.{needs}
 use lib.ListN.{length}
 use Rattle.stab.specs.Basic.{scan}
 use Rattle.stab.specs.Check.{rowRefusal, finding}
-use Rattle.stab.specs.Formula.{joined}
+use Rattle.stab.specs.Formula.{formulaRows}
 use Rattle.stab.proofs.Scans.{scan-none, scan-more, scan-found}
 use Rattle.formula.specs.Rows.{factsTable, Passed}
 use Rattle.formula.proofs.RowLaws.{passed-none, never, none-kept, table-none, table-more, table-stays}
@@ -17,9 +17,9 @@ abbrev Inv-loop : tie.InvT-loop
 Inv-loop schema s proof n facts₀ r₀ facts r =
     (r ≤ n)
     × (length facts ≡ length facts₀)
-    × (scan (rowRefusal (joined schema s proof)) r ≡ none)
-    × Passed (joined schema s proof) facts r
-    × (facts ≡ factsTable (joined schema s proof) facts₀ r)
+    × (scan (rowRefusal (formulaRows schema s proof)) r ≡ none)
+    × Passed (formulaRows schema s proof) facts r
+    × (facts ≡ factsTable (formulaRows schema s proof) facts₀ r)
 
 abbrev μ-loop : tie.MeasureT-loop
 μ-loop schema s proof n facts₀ r₀ facts r = n - r
@@ -83,7 +83,7 @@ unfolding finding
 returns-2 c =
     let a = c .before .before .before .args in
     let i = c .before .loop .inv in
-    let rows = joined (a .schema .now) (a .s) (a .proof .now) in
+    let rows = formulaRows (a .schema .now) (a .s) (a .proof .now) in
     let e : c .before .loop .r ≡ a .n = omega arith in (
       sym (subst (λ (m : ℕ). scan (rowRefusal rows) m ≡ none) e (i .2)),
       (

@@ -7,7 +7,7 @@ use mir.Facts.{toZ-ofZ}
 use borrow.Author.Needs.{needs}
 use Rattle.stab.specs.Basic.{nat, scan}
 use Rattle.stab.specs.Check.{rootFits, rowRefusal, formulasBy, formulasRefusal, finding}
-use Rattle.stab.specs.Formula.{joined, tree, loose, isOuter}
+use Rattle.stab.specs.Formula.{formulaRows, tree, loose, isOuter}
 use Rattle.stab.proofs.Bools.{and-left, if-true, if-false}
 use Rattle.stab.proofs.Trees.{below-nat}
 use Rattle.formula.specs.Rows.{factsOf, factsAt, formulasTable}
@@ -26,7 +26,7 @@ said c =
 
 -- a literal on i stands in the root outside an iteration
 abbrev root-loose : tie.Start → Bool
-root-loose s = let a = s .args in loose (tree (joined (a .schema .now) (a .s) (a .proof .now)) (nat (a .root)))
+root-loose s = let a = s .args in loose (tree (formulaRows (a .schema .now) (a .s) (a .proof .now)) (nat (a .root)))
 
 returns : tie.Need-returns
 unfolding finding formulasTable formulasRefusal formulasBy isOuter
@@ -69,7 +69,7 @@ start c = passed c .before .before .before .before .before
 fits : (c : tie.After-natural) → let a = start c .args in rootFits (a .s) (a .root) (a .least) ≡ true
 fits c = passes _ (said (passed c .before .before .before)) (passed c .before .before .if1 .left)
 
-nothing : (c : tie.After-natural) → let a = start c .args in scan (rowRefusal (joined (a .schema .now) (a .s) (a .proof .now))) (a .n) ≡ none
+nothing : (c : tie.After-natural) → let a = start c .args in scan (rowRefusal (formulaRows (a .schema .now) (a .s) (a .proof .now))) (a .n) ≡ none
 unfolding finding
 nothing c = sym (passed c .each .ensures .0) ∙ ap finding (c .before .before .enum-told .given .1)
 
@@ -84,7 +84,7 @@ known-requires : tie.Need-known-requires
 known-requires c κs = omega (arith, root-is c, root-less c, passed c .each .ensures .1 .0 (nothing c) .room)
 
 -- the root's numbers
-known : (c : tie.After-known) → let a = start (c .before) .args in c .known .result ≡ factsOf (tree (joined (a .schema .now) (a .s) (a .proof .now)) (nat (a .root)))
+known : (c : tie.After-known) → let a = start (c .before) .args in c .known .result ≡ factsOf (tree (formulaRows (a .schema .now) (a .s) (a .proof .now)) (nat (a .root)))
 known c =
     let b = c .before in
     c .known .ensures

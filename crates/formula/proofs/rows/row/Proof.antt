@@ -1,7 +1,7 @@
 use mathlib.Core.Path.{_≡_, refl, sym, _∙_, ap}
 use lib.IntN.{pos}
 use borrow.Author.Needs.{needs}
-use Rattle.stab.specs.Formula.{Row, joined, kindOf, wellFormedAs}
+use Rattle.stab.specs.Formula.{Row, formulaRows, kindOf, wellFormedAs}
 use Rattle.signed.proofs.Signs.{read-back}
 use Rattle.formula.specs.Cells.{rowOf}
 use Rattle.formula.specs.Rows.{constantJudged, literalJudged, pairJudged, bodyJudged}
@@ -14,7 +14,7 @@ abbrev start : tie.After-kind-of → tie.Start
 start c = c .before .before .before .before
 
 abbrev columns : tie.After-kind-of → Row
-columns c = let a = start c .args in joined (a .schema .now) (a .s) (a .proof .now) (a .r)
+columns c = let a = start c .args in formulaRows (a .schema .now) (a .s) (a .proof .now) (a .r)
 
 known-kind : (c : tie.After-kind-of) → kindOf (pos (c .kind-of .result)) ≡ kindOf (columns c .kind)
 unfolding rowOf

@@ -6,7 +6,7 @@ use lib.IntN.{ℤ}
 use mir.Facts.{toZ-ofZ}
 use borrow.Author.Tests.{lt-ltb, le-ltb}
 use Rattle.stab.specs.Basic.{nat}
-use Rattle.stab.specs.Formula.{joined, tree}
+use Rattle.stab.specs.Formula.{formulaRows, tree}
 use Rattle.stab.specs.Check.{formulasRefusal}
 use Rattle.stab.proofs.Bools.{and-first-false, and-first-true}
 use Rattle.jointrefusal.specs.Before.{orSmall}
@@ -32,8 +32,8 @@ or-fits-requires : tie.Need-or-fits-requires
 or-fits-requires c κs =
     let b = c .before .before in
     let a = b .args in (
-      (b .pre .0 .0, ap₂ (formulasRefusal (joined (a .first-schema .now) (a .first-rows) (a .first-proof .now)) (a .first-rows) (a .first-rows)) (toZ-ofZ (b .fits .first-root)) (toZ-ofZ (b .fits .first-least)) ∙ b .pre .0 .2),
-      (b .pre .1 .0, ap₂ (formulasRefusal (joined (a .second-schema .now) (a .second-rows) (a .second-proof .now)) (a .second-rows) (a .second-rows)) (toZ-ofZ (b .fits .second-root)) (toZ-ofZ (b .fits .second-least)) ∙ b .pre .1 .2),
+      (b .pre .0 .0, ap₂ (formulasRefusal (formulaRows (a .first-schema .now) (a .first-rows) (a .first-proof .now)) (a .first-rows) (a .first-rows)) (toZ-ofZ (b .fits .first-root)) (toZ-ofZ (b .fits .first-least)) ∙ b .pre .0 .2),
+      (b .pre .1 .0, ap₂ (formulasRefusal (formulaRows (a .second-schema .now) (a .second-rows) (a .second-proof .now)) (a .second-rows) (a .second-rows)) (toZ-ofZ (b .fits .second-root)) (toZ-ofZ (b .fits .second-least)) ∙ b .pre .1 .2),
     )
 
 returns-3 : tie.Need-returns-3
@@ -41,7 +41,7 @@ returns-3 c =
     let b = c .before .before .before in
     let a = b .args in
     c .or-fits .ensures
-    ∙ ap₂ (λ (x y : ℤ). orSmall (tree (joined (a .first-schema .now) (a .first-rows) (a .first-proof .now)) (nat x)) (tree (joined (a .second-schema .now) (a .second-rows) (a .second-proof .now)) (nat y))) (toZ-ofZ (b .fits .first-root)) (toZ-ofZ (b .fits .second-root))
+    ∙ ap₂ (λ (x y : ℤ). orSmall (tree (formulaRows (a .first-schema .now) (a .first-rows) (a .first-proof .now)) (nat x)) (tree (formulaRows (a .second-schema .now) (a .second-rows) (a .second-proof .now)) (nat y))) (toZ-ofZ (b .fits .first-root)) (toZ-ofZ (b .fits .second-root))
     ∙ sym
     (and-first-true (ltb (a .first-rows + a .second-rows) 1024) _ (lt-ltb (a .first-rows + a .second-rows) 1024 (omega (arith, c .before .before .if1 .left)))
     ∙ and-first-true (ltb (a .first-nodes + a .second-nodes) 1024) _ (lt-ltb (a .first-nodes + a .second-nodes) 1024 (omega (arith, c .before .if2 .left))))

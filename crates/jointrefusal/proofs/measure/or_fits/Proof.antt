@@ -1,5 +1,5 @@
 use Rattle.stab.proofs.Bools.{and-first-false}
-use Rattle.stab.specs.Formula.{Formula, joined, tree, disj}
+use Rattle.stab.specs.Formula.{Formula, formulaRows, tree, disj}
 use Rattle.stab.specs.Formula as F
 use Rattle.stab.specs.Basic.{_and_, nat}
 use mir.Facts.{toZ-ofZ}
@@ -20,20 +20,20 @@ abbrev start : tie.After-root-facts2 → tie.Start
 start c = c .before .before
 
 abbrev first : tie.Start → Formula
-first b = let a = b .args in tree (joined (a .first-schema .now) (a .first-rows) (a .first-proof .now)) (nat (a .first-root))
+first b = let a = b .args in tree (formulaRows (a .first-schema .now) (a .first-rows) (a .first-proof .now)) (nat (a .first-root))
 
 abbrev second : tie.Start → Formula
-second b = let a = b .args in tree (joined (a .second-schema .now) (a .second-rows) (a .second-proof .now)) (nat (a .second-root))
+second b = let a = b .args in tree (formulaRows (a .second-schema .now) (a .second-rows) (a .second-proof .now)) (nat (a .second-root))
 
 first-size : (c : tie.After-root-facts2) → c .before .root-facts .result .size ≡ F.size (first (start c))
 first-size c =
     let b = start c in
-    c .before .root-facts .ensures .0 .0 ∙ ap (λ (z : ℤ). F.size (tree (joined (b .args .first-schema .now) (b .args .first-rows) (b .args .first-proof .now)) (nat z))) (toZ-ofZ (b .fits .first-root))
+    c .before .root-facts .ensures .0 .0 ∙ ap (λ (z : ℤ). F.size (tree (formulaRows (b .args .first-schema .now) (b .args .first-rows) (b .args .first-proof .now)) (nat z))) (toZ-ofZ (b .fits .first-root))
 
 second-size : (c : tie.After-root-facts2) → c .root-facts2 .result .size ≡ F.size (second (start c))
 second-size c =
     let b = start c in
-    c .root-facts2 .ensures .0 .0 ∙ ap (λ (z : ℤ). F.size (tree (joined (b .args .second-schema .now) (b .args .second-rows) (b .args .second-proof .now)) (nat z))) (toZ-ofZ (b .fits .second-root))
+    c .root-facts2 .ensures .0 .0 ∙ ap (λ (z : ℤ). F.size (tree (formulaRows (b .args .second-schema .now) (b .args .second-rows) (b .args .second-proof .now)) (nat z))) (toZ-ofZ (b .fits .second-root))
 
 root-facts-requires : tie.Need-root-facts-requires
 root-facts-requires c κs = search needs
@@ -70,8 +70,8 @@ returns-2 c =
     ap (λ (d : ℕ). leb (1 + d) 64)
     (c .larger .ensures
     ∙ ap₂ max
-    (f .root-facts .ensures .0 .1 ∙ ap (λ (z : ℤ). F.depth (tree (joined (b .args .first-schema .now) (b .args .first-rows) (b .args .first-proof .now)) (nat z))) (toZ-ofZ (b .fits .first-root)))
-    (g .root-facts2 .ensures .0 .1 ∙ ap (λ (z : ℤ). F.depth (tree (joined (b .args .second-schema .now) (b .args .second-rows) (b .args .second-proof .now)) (nat z))) (toZ-ofZ (b .fits .second-root))))
+    (f .root-facts .ensures .0 .1 ∙ ap (λ (z : ℤ). F.depth (tree (formulaRows (b .args .first-schema .now) (b .args .first-rows) (b .args .first-proof .now)) (nat z))) (toZ-ofZ (b .fits .first-root)))
+    (g .root-facts2 .ensures .0 .1 ∙ ap (λ (z : ℤ). F.depth (tree (formulaRows (b .args .second-schema .now) (b .args .second-rows) (b .args .second-proof .now)) (nat z))) (toZ-ofZ (b .fits .second-root))))
     ∙ sym (ap (λ (x : Bool). x and leb (F.depth (F.join disj (first b) (second b))) 64) (le-leb (F.size (F.join disj (first b) (second b))) 4096 (omega (arith, i .if1 .left, first-size g, second-size g))))
 
 pub or-fits-spec : {M : Type 1} → statement M

@@ -3,7 +3,7 @@ use Rattle.formula.specs.Rows.{factsAt, Passed}
 use Rattle.stab.proofs.Trees.{below-nat}
 use Rattle.stab.proofs.Bools.{and-left, and-right, unless-none, otherwise-first}
 use Rattle.stab.specs.Check.{wholeUnless, rootFits, formulasBy, formulasRefusal}
-use Rattle.stab.specs.Formula.{Row, joined, tree, smallEnough}
+use Rattle.stab.specs.Formula.{Row, formulaRows, tree, smallEnough}
 use Rattle.stab.specs.Formula as F
 use Rattle.stab.specs.Basic.{nat, below}
 use mir.Facts.{toZ-ofZ}
@@ -23,7 +23,7 @@ abbrev start : tie.After-formulas → tie.Start
 start c = c .before .before
 
 abbrev rows : tie.Start → ℕ → Row
-rows b = let a = b .args in joined (a .schema .now) (a .s) (a .proof .now)
+rows b = let a = b .args in formulaRows (a .schema .now) (a .s) (a .proof .now)
 
 abbrev facts : tie.After-formulas → List ℕ
 facts c = c .formulas .last .1 .1 .1 .1 .1 .1 .0

@@ -7,7 +7,7 @@ use Rattle.stab.specs.Formula.{Row}
 use Rattle.stab.specs.Check.{finding, formulasRefusal}
 use Rattle.stab.proofs.Findings.{nothing-found}
 use Rattle.signed.proofs.Signs.{read-back}
-use Rattle.formula.proofs.Columns.{joined-part}
+use Rattle.formula.proofs.Columns.{formula-rows-part}
 use Rattle.nextsmall.proofs.Judging.{passes, passes-listed, fails-unlisted}
 use Rattle.nextsmall.proofs.list.on_list.Statement.{statement}
 use Rattle.nextsmall.proofs.list.on_list.Tie as tie
@@ -24,7 +24,7 @@ formulas-are c =
     let o = c .before .before .before in
     let e = read-back _ (o .of .ok) in
     c .formulas .ensures .0
-    ∙ ap₂ (λ (r : ℕ → Row) (z : ℤ). formulasRefusal r n n z (pos 0)) (joined-part t n) (e ∙ o .of .ensures)
+    ∙ ap₂ (λ (r : ℕ → Row) (z : ℤ). formulasRefusal r n n z (pos 0)) (formula-rows-part t n) (e ∙ o .of .ensures)
 
 mul-end : tie.Need-mul-end
 mul-end c = search needs

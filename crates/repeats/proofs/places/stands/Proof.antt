@@ -3,7 +3,7 @@ use Prim.Native.Nat.{ℕ, _-_, _<_}
 use mathlib.Core.Path.{sym, _∙_, ap, subst}
 use borrow.Author.Needs.{needs}
 use lib.ListN.{getD}
-use Rattle.stab.specs.Formula.{Row, joined}
+use Rattle.stab.specs.Formula.{Row, formulaRows}
 use Rattle.repeats.specs.Places.{Leads}
 use Rattle.repeats.proofs.Links.{leads-end, leads-found, leads-on}
 use Rattle.repeats.proofs.places.stands.Statement.{statement}
@@ -11,7 +11,7 @@ use Rattle.repeats.proofs.places.stands.Tie as tie
 
 abbrev Inv-loop : tie.InvT-loop
 Inv-loop schema s proof r h next heads rest₀ rest =
-    Leads (joined schema s proof) (joined schema s proof r) r rest
+    Leads (formulaRows schema s proof) (formulaRows schema s proof r) r rest
 
 abbrev μ-loop : tie.MeasureT-loop
 μ-loop schema s proof r h next heads rest₀ rest = rest
@@ -24,7 +24,7 @@ abbrev start : Turn → tie.Start Inv-loop μ-loop
 start c = c .before .before .before .before .before
 
 abbrev rows : tie.Start Inv-loop μ-loop → ℕ → Row
-rows b = let a = b .args in joined (a .schema .now) (a .s) (a .proof .now)
+rows b = let a = b .args in formulaRows (a .schema .now) (a .s) (a .proof .now)
 
 abbrev LeadsTo : tie.Start Inv-loop μ-loop → ℕ → ℕ → Type 0
 LeadsTo b = Leads (rows b) (rows b (b .args .r))

@@ -6,7 +6,7 @@ use lib.Dec.{eqb}
 use Rattle.formula.specs.Column.{column}
 use Rattle.formula.proofs.RowLaws.{offset-small}
 use Rattle.steps.proofs.PartnerLaws.{next-test}
-use Rattle.stab.specs.Formula.{joined}
+use Rattle.stab.specs.Formula.{formulaRows}
 use Rattle.steps.proofs.partners.is_next.Statement.{statement}
 use Rattle.steps.proofs.partners.is_next.Tie as tie
 
@@ -47,7 +47,7 @@ returns c =
     ap₂ eqb
     (ap₂ _+_ (c .before .before .before .natural-in .ensures) (c .before .before .under-in .ensures))
     (ap₂ (λ (m n : ℕ). m + n + 1) (c .before .natural-in2 .ensures) (c .under-in2 .ensures))
-    ∙ next-test (joined (a .schema .now) (a .s) (a .proof .now) (a .with) .c) (joined (a .schema .now) (a .s) (a .proof .now) (a .on) .c)
+    ∙ next-test (formulaRows (a .schema .now) (a .s) (a .proof .now) (a .with) .c) (formulaRows (a .schema .now) (a .s) (a .proof .now) (a .on) .c)
 
 pub is-next-spec : {M : Type 1} → statement M
 is-next-spec =

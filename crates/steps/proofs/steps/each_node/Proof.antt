@@ -5,7 +5,7 @@ use mathlib.Core.Path.{_≡_, refl, sym, _∙_, ap, subst}
 use mathlib.Core.Option.{none}
 use lib.ListN.{length}
 use Rattle.stab.specs.Basic.{scan}
-use Rattle.stab.specs.Formula.{joined}
+use Rattle.stab.specs.Formula.{formulaRows}
 use Rattle.stab.specs.Check.{finding}
 use Rattle.stab.proofs.Scans.{scan-none, scan-more, scan-found}
 use Rattle.classes.specs.Agreed.{Remembers}
@@ -18,7 +18,7 @@ abbrev Inv-loop : tie.InvT-loop
 Inv-loop whole schema proof nodes members facts forms work t agreed₀ j₀ agreed j =
     (j ≤ t .nodes)
     × (scan (nodeRefusalAs whole (lent schema proof nodes members t)) j ≡ none)
-    × Remembers (joined schema (t .schema) proof) agreed
+    × Remembers (formulaRows schema (t .schema) proof) agreed
     × (length agreed ≡ length agreed₀)
 
 abbrev μ-loop : tie.MeasureT-loop

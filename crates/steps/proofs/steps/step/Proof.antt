@@ -4,7 +4,7 @@ use mathlib.Core.Path.{_≡_, _∙_}
 use mathlib.Core.Bool.{true}
 use mathlib.Core.List.{[]}
 use lib.ListN.{length}
-use Rattle.stab.specs.Formula.{joined}
+use Rattle.stab.specs.Formula.{formulaRows}
 use Rattle.stab.specs.Node.{Tableau, node, row, rows, rowCount, bound, formula}
 use Rattle.stab.specs.Rule.{drawn, fieldsFit, targetFits, boundFits, partnersFit, isInstance}
 use Rattle.classes.specs.Agreed.{Remembers}
@@ -23,7 +23,7 @@ small : (s : tie.Start) → s .args .j < 2 ^ 32
 small s = omega (arith, s .pre .0, s .pre .1 .0 .nodeLimit)
 
 -- what is remembered at the start
-held : (s : tie.Start) → Remembers (joined (s .args .schema .now) (s .args .t .schema) (s .args .proof .now)) (s .args .agreed .now)
+held : (s : tie.Start) → Remembers (formulaRows (s .args .schema .now) (s .args .t .schema) (s .args .proof .now)) (s .args .agreed .now)
 held s = s .pre .1 .1 .0
 
 -- the tests that are asked-true

@@ -7,7 +7,7 @@ use mir.Facts.{toZ-ofZ}
 use denote.Ref.{now}
 use borrow.Author.Needs.{needs}
 use Rattle.stab.specs.Basic.{scan}
-use Rattle.stab.specs.Formula.{joined}
+use Rattle.stab.specs.Formula.{formulaRows}
 use Rattle.stab.specs.Check.{finding, repeatRefusal, rootFits}
 use Rattle.stab.proofs.Findings.{stays, nothing-found, later}
 use Rattle.tableau.specs.Fresh.{reached, countIn}
@@ -51,10 +51,10 @@ enum-told-2 c = search needs
 -- what is found among them
 again-found : (c : tie.After-repeats) →
     let a = c .before .before .before .before .args in
-    finding (c .repeats .result) ≡ scan (repeatRefusal (joined (now (a .schema)) (a .s) (now (a .proof))) (a .s)) (reached (finding (a .found)) (rootFits (a .s) (a .root) (a .least)) (countIn (a .s) (a .p)))
+    finding (c .repeats .result) ≡ scan (repeatRefusal (formulaRows (now (a .schema)) (a .s) (now (a .proof))) (a .s)) (reached (finding (a .found)) (rootFits (a .s) (a .root) (a .least)) (countIn (a .s) (a .p)))
 again-found c =
     let a = c .before .before .before .before .args in
-    c .repeats .ensures ∙ ap (scan (repeatRefusal (joined (now (a .schema)) (a .s) (now (a .proof))) (a .s))) (count-is (c .before))
+    c .repeats .ensures ∙ ap (scan (repeatRefusal (formulaRows (now (a .schema)) (a .s) (now (a .proof))) (a .s))) (count-is (c .before))
 
 returns : tie.Need-returns
 returns c = stays _ _ _ _ _ (again-found (c .before .before)) (c .enum-told2 .given .1)

@@ -4,7 +4,7 @@ use mathlib.Core.Option.{none}
 use lib.IntN.{ℤ}
 use mir.Facts.{toZ-ofZ}
 use denote.Ref.{now}
-use Rattle.stab.specs.Formula.{joined}
+use Rattle.stab.specs.Formula.{formulaRows}
 use Rattle.stab.specs.Node.{Tableau, rows, rowCount}
 use Rattle.stab.specs.Check.{finding, formulasRefusal}
 use Rattle.stab.proofs.Findings.{stays, nothing-found, later}
@@ -46,7 +46,7 @@ rows-found c =
     let start = c .before .before .before in
     let a = start .args in
     c .formulas .ensures .0
-    ∙ ap₂ (formulasRefusal (joined (now (a .schema)) (a .s) (now (a .proof))) (a .s + a .p) (a .s)) (toZ-ofZ (start .fits .root)) (toZ-ofZ (start .fits .least))
+    ∙ ap₂ (formulasRefusal (formulaRows (now (a .schema)) (a .s) (now (a .proof))) (a .s + a .p) (a .s)) (toZ-ofZ (start .fits .root)) (toZ-ofZ (start .fits .least))
 
 rows-passed : (c : tie.After-enum-told) → rowsRefusal (lent (c .before .before .before .before .before .before .before)) ≡ none
 rows-passed c = nothing-found _ _ (rows-found (c .before .before .before .before)) (c .enum-told .given .1)
