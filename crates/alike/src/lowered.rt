@@ -1,5 +1,5 @@
 // The lowered rows of a link: refusal 16.
-use branch::counts::Counts;
+use branch::header::Header;
 use branch::node;
 use classes::compare;
 ghost use mathlib.Core.Path.{_≡_};
@@ -22,7 +22,7 @@ fn place(
     nodes: &[i32],
     members: &[i32],
     forms: &[u32],
-    t: Counts,
+    h: Header,
     j: usize,
     k: i32,
     z: usize,
@@ -30,20 +30,20 @@ fn place(
     hi: usize,
     agreed: &mut [u32],
 ) -> usize
-    requires { ⌜ (j < 2 ^ 32) × (z < t .schema + t .proof) × (lo ≤ hi) × (hi ≤ nat (nodeAt (now nodes) j .size)) ⌝ }
-    requires { ⌜ Ready (formulaRows (now schema) (t .schema) (now proof)) (now forms) (t .schema + t .proof) ⌝ }
-    requires { ⌜ loose (tree (formulaRows (now schema) (t .schema) (now proof)) z) ≡ false ⌝ }
-    requires { ⌜ SetOfRows (formulaRows (now schema) (t .schema) (now proof)) (now nodes) (now members) (t .schema + t .proof) j ⌝ }
-    requires { ⌜ Remembers (formulaRows (now schema) (t .schema) (now proof)) (now agreed) × (t .schema + t .proof ≤ length (now agreed)) ⌝ }
-    ensures { λ r. ⌜ (r < hi → isLowered (lent (now (schema .entry)) (now (proof .entry)) (now (nodes .entry)) (now (members .entry)) t) k (pos z) (getD (setOf (now (members .entry)) (nodeAt (now (nodes .entry)) j)) r (pos 0)) ≡ true) ⌝ }
-    ensures { λ r. ⌜ (hi ≤ r → (i : ℕ) → lo ≤ i → i < hi → isLowered (lent (now (schema .entry)) (now (proof .entry)) (now (nodes .entry)) (now (members .entry)) t) k (pos z) (getD (setOf (now (members .entry)) (nodeAt (now (nodes .entry)) j)) i (pos 0)) ≡ false) ⌝ }
-    ensures { λ _. ⌜ Remembers (formulaRows (now (schema .entry)) (t .schema) (now (proof .entry))) (now (agreed .exit)) ⌝ }
+    requires { ⌜ (j < 2 ^ 32) × (z < h .«schema_rows» + h .«proof_rows») × (lo ≤ hi) × (hi ≤ nat (nodeAt (now nodes) j .size)) ⌝ }
+    requires { ⌜ Ready (formulaRows (now schema) (h .«schema_rows») (now proof)) (now forms) (h .«schema_rows» + h .«proof_rows») ⌝ }
+    requires { ⌜ loose (tree (formulaRows (now schema) (h .«schema_rows») (now proof)) z) ≡ false ⌝ }
+    requires { ⌜ SetOfRows (formulaRows (now schema) (h .«schema_rows») (now proof)) (now nodes) (now members) (h .«schema_rows» + h .«proof_rows») j ⌝ }
+    requires { ⌜ Remembers (formulaRows (now schema) (h .«schema_rows») (now proof)) (now agreed) × (h .«schema_rows» + h .«proof_rows» ≤ length (now agreed)) ⌝ }
+    ensures { λ r. ⌜ (r < hi → isLowered (lent (now (schema .entry)) (now (proof .entry)) (now (nodes .entry)) (now (members .entry)) h) k (pos z) (getD (setOf (now (members .entry)) (nodeAt (now (nodes .entry)) j)) r (pos 0)) ≡ true) ⌝ }
+    ensures { λ r. ⌜ (hi ≤ r → (i : ℕ) → lo ≤ i → i < hi → isLowered (lent (now (schema .entry)) (now (proof .entry)) (now (nodes .entry)) (now (members .entry)) h) k (pos z) (getD (setOf (now (members .entry)) (nodeAt (now (nodes .entry)) j)) i (pos 0)) ≡ false) ⌝ }
+    ensures { λ _. ⌜ Remembers (formulaRows (now (schema .entry)) (h .«schema_rows») (now (proof .entry))) (now (agreed .exit)) ⌝ }
 {
     let start = node::natural_of(nodes, j, node::START);
     let mut i = lo;
     while i < hi {
         let x = signed::natural_at(members, start + i);
-        if compare::is_lowered(schema, t.schema, proof, forms, k, z, x, agreed) {
+        if compare::is_lowered(schema, h.schema_rows, proof, forms, k, z, x, agreed) {
             return i;
         }
         i += 1;
@@ -59,21 +59,21 @@ fn partner(
     nodes: &[i32],
     members: &[i32],
     forms: &[u32],
-    t: Counts,
+    h: Header,
     j: usize,
     k: i32,
     z: usize,
     from: usize,
     agreed: &mut [u32],
 ) -> usize
-    requires { ⌜ (j < 2 ^ 32) × (z < t .schema + t .proof) × (from ≤ nat (nodeAt (now nodes) j .size)) ⌝ }
-    requires { ⌜ Ready (formulaRows (now schema) (t .schema) (now proof)) (now forms) (t .schema + t .proof) ⌝ }
-    requires { ⌜ loose (tree (formulaRows (now schema) (t .schema) (now proof)) z) ≡ false ⌝ }
-    requires { ⌜ SetOfRows (formulaRows (now schema) (t .schema) (now proof)) (now nodes) (now members) (t .schema + t .proof) j ⌝ }
-    requires { ⌜ Remembers (formulaRows (now schema) (t .schema) (now proof)) (now agreed) × (t .schema + t .proof ≤ length (now agreed)) ⌝ }
-    ensures { λ r. ⌜ (r < nat (nodeAt (now (nodes .entry)) j .size) → true ≡ hasLowered (lent (now (schema .entry)) (now (proof .entry)) (now (nodes .entry)) (now (members .entry)) t) k (set (lent (now (schema .entry)) (now (proof .entry)) (now (nodes .entry)) (now (members .entry)) t) j) (pos z)) ⌝ }
-    ensures { λ r. ⌜ (nat (nodeAt (now (nodes .entry)) j .size) ≤ r → false ≡ hasLowered (lent (now (schema .entry)) (now (proof .entry)) (now (nodes .entry)) (now (members .entry)) t) k (set (lent (now (schema .entry)) (now (proof .entry)) (now (nodes .entry)) (now (members .entry)) t) j) (pos z)) ⌝ }
-    ensures { λ _. ⌜ Remembers (formulaRows (now (schema .entry)) (t .schema) (now (proof .entry))) (now (agreed .exit)) ⌝ }
+    requires { ⌜ (j < 2 ^ 32) × (z < h .«schema_rows» + h .«proof_rows») × (from ≤ nat (nodeAt (now nodes) j .size)) ⌝ }
+    requires { ⌜ Ready (formulaRows (now schema) (h .«schema_rows») (now proof)) (now forms) (h .«schema_rows» + h .«proof_rows») ⌝ }
+    requires { ⌜ loose (tree (formulaRows (now schema) (h .«schema_rows») (now proof)) z) ≡ false ⌝ }
+    requires { ⌜ SetOfRows (formulaRows (now schema) (h .«schema_rows») (now proof)) (now nodes) (now members) (h .«schema_rows» + h .«proof_rows») j ⌝ }
+    requires { ⌜ Remembers (formulaRows (now schema) (h .«schema_rows») (now proof)) (now agreed) × (h .«schema_rows» + h .«proof_rows» ≤ length (now agreed)) ⌝ }
+    ensures { λ r. ⌜ (r < nat (nodeAt (now (nodes .entry)) j .size) → true ≡ hasLowered (lent (now (schema .entry)) (now (proof .entry)) (now (nodes .entry)) (now (members .entry)) h) k (set (lent (now (schema .entry)) (now (proof .entry)) (now (nodes .entry)) (now (members .entry)) h) j) (pos z)) ⌝ }
+    ensures { λ r. ⌜ (nat (nodeAt (now (nodes .entry)) j .size) ≤ r → false ≡ hasLowered (lent (now (schema .entry)) (now (proof .entry)) (now (nodes .entry)) (now (members .entry)) h) k (set (lent (now (schema .entry)) (now (proof .entry)) (now (nodes .entry)) (now (members .entry)) h) j) (pos z)) ⌝ }
+    ensures { λ _. ⌜ Remembers (formulaRows (now (schema .entry)) (h .«schema_rows») (now (proof .entry))) (now (agreed .exit)) ⌝ }
 {
     let size = node::natural_of(nodes, j, node::SIZE);
     let after = place(
@@ -82,7 +82,7 @@ fn partner(
         nodes,
         members,
         forms,
-        t,
+        h,
         j,
         k,
         z,
@@ -99,7 +99,7 @@ fn partner(
         nodes,
         members,
         forms,
-        t,
+        h,
         j,
         k,
         z,
@@ -157,19 +157,19 @@ pub fn all_lowered(
     nodes: &[i32],
     members: &[i32],
     forms: &[u32],
-    t: Counts,
+    h: Header,
     j: usize,
     to: usize,
     k: i32,
     agreed: &mut [u32],
 ) -> bool
     requires { ⌜ (j < 2 ^ 32) × (to < 2 ^ 32) ⌝ }
-    requires { ⌜ Ready (formulaRows (now schema) (t .schema) (now proof)) (now forms) (t .schema + t .proof) ⌝ }
-    requires { ⌜ SetOfRows (formulaRows (now schema) (t .schema) (now proof)) (now nodes) (now members) (t .schema + t .proof) j ⌝ }
-    requires { ⌜ SetOfRows (formulaRows (now schema) (t .schema) (now proof)) (now nodes) (now members) (t .schema + t .proof) to ⌝ }
-    requires { ⌜ Remembers (formulaRows (now schema) (t .schema) (now proof)) (now agreed) × (t .schema + t .proof ≤ length (now agreed)) ⌝ }
-    ensures { λ r. ⌜ r ≡ allOf (hasLowered (lent (now (schema .entry)) (now (proof .entry)) (now (nodes .entry)) (now (members .entry)) t) k (set (lent (now (schema .entry)) (now (proof .entry)) (now (nodes .entry)) (now (members .entry)) t) j)) (set (lent (now (schema .entry)) (now (proof .entry)) (now (nodes .entry)) (now (members .entry)) t) to) ⌝ }
-    ensures { λ _. ⌜ Remembers (formulaRows (now (schema .entry)) (t .schema) (now (proof .entry))) (now (agreed .exit)) ⌝ }
+    requires { ⌜ Ready (formulaRows (now schema) (h .«schema_rows») (now proof)) (now forms) (h .«schema_rows» + h .«proof_rows») ⌝ }
+    requires { ⌜ SetOfRows (formulaRows (now schema) (h .«schema_rows») (now proof)) (now nodes) (now members) (h .«schema_rows» + h .«proof_rows») j ⌝ }
+    requires { ⌜ SetOfRows (formulaRows (now schema) (h .«schema_rows») (now proof)) (now nodes) (now members) (h .«schema_rows» + h .«proof_rows») to ⌝ }
+    requires { ⌜ Remembers (formulaRows (now schema) (h .«schema_rows») (now proof)) (now agreed) × (h .«schema_rows» + h .«proof_rows» ≤ length (now agreed)) ⌝ }
+    ensures { λ r. ⌜ r ≡ allOf (hasLowered (lent (now (schema .entry)) (now (proof .entry)) (now (nodes .entry)) (now (members .entry)) h) k (set (lent (now (schema .entry)) (now (proof .entry)) (now (nodes .entry)) (now (members .entry)) h) j)) (set (lent (now (schema .entry)) (now (proof .entry)) (now (nodes .entry)) (now (members .entry)) h) to) ⌝ }
+    ensures { λ _. ⌜ Remembers (formulaRows (now (schema .entry)) (h .«schema_rows») (now (proof .entry))) (now (agreed .exit)) ⌝ }
 {
     let size = node::natural_of(nodes, to, node::SIZE);
     let width = node::natural_of(nodes, j, node::SIZE);
@@ -184,7 +184,7 @@ pub fn all_lowered(
             nodes,
             members,
             forms,
-            t,
+            h,
             j,
             k,
             z,

@@ -14,11 +14,11 @@ use Rattle.stab.specs.Node.{Tableau, Bound, Node, node, nodeAt, set, setOf}
 use Rattle.stab.specs.Rule as R
 use Rattle.stab.specs.Rule.{unused, kindFits}
 use Rattle.stab.specs.declared.Rule.{Rule}
-use Rattle.branch.specs.declared.counts.Counts.{Counts}
+use Rattle.branch.specs.declared.header.Header.{Header}
 
-abbrev pub lent : List ℤ → List ℤ → List ℤ → List ℤ → Counts → Tableau
-lent schema proof nodes members t =
-    record { schema = schema; schemaRows = t .schema; proof = proof; proofRows = t .proof; root = t .root; least = t .least; nodes = nodes; nodeRows = t .nodes; members = members; memberCount = t .members }
+abbrev pub lent : List ℤ → List ℤ → List ℤ → List ℤ → Header → Tableau
+lent schema proof nodes members h =
+    record { schema = schema; schemaRows = h .«schema_rows»; proof = proof; proofRows = h .«proof_rows»; root = h .root; least = h .least; nodes = nodes; nodeRows = h .«node_rows»; members = members; memberCount = h .«member_count» }
 
 -- the upper bound that a number stands for: 0 for none, else one less than it
 unfoldable pub upper : ℕ → Option ℕ

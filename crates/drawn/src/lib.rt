@@ -1,5 +1,5 @@
 // What a child's set is drawn from: refusal 11.
-use branch::counts::Counts;
+use branch::header::Header;
 use branch::member;
 use branch::node;
 use branch::worked;
@@ -66,20 +66,20 @@ fn is_given(
     schema: &[i32],
     proof: &[i32],
     nodes: &[i32],
-    t: Counts,
+    h: Header,
     p: usize,
     rank: usize,
     z: i32,
 ) -> bool
     requires { ⌜ p < 2 ^ 32 ⌝ }
-    ensures { λ v. ⌜ v ≡ has z (given (lent (now (schema .entry)) (now (proof .entry)) (now (nodes .entry)) [] t) (nodeAt (now (nodes .entry)) p) rank) ⌝ }
+    ensures { λ v. ⌜ v ≡ has z (given (lent (now (schema .entry)) (now (proof .entry)) (now (nodes .entry)) [] h) (nodeAt (now (nodes .entry)) p) rank) ⌝ }
 {
     let on = node::natural_of(nodes, p, node::ON);
     if node::is_of(nodes, p, node::RULE, 0) {
-        return is_part(schema, t.schema, proof, on, z);
+        return is_part(schema, h.schema_rows, proof, on, z);
     }
     if node::is_of(nodes, p, node::RULE, 1) {
-        return is_side(schema, t.schema, proof, on, rank, z);
+        return is_side(schema, h.schema_rows, proof, on, rank, z);
     }
     if node::is_of(nodes, p, node::RULE, 3) {
         return is_unfolded(nodes, p, z);
@@ -104,7 +104,7 @@ fn may_stand(
     proof: &[i32],
     nodes: &[i32],
     members: &[i32],
-    t: Counts,
+    h: Header,
     p: usize,
     rank: usize,
     at: usize,
@@ -113,13 +113,13 @@ fn may_stand(
 ) -> bool
     requires { ⌜ (p < 2 ^ 32) × SetHeld (now nodes) (now members) p ⌝ }
     requires { ⌜ (at ≡ nat (nodeAt (now nodes) p .start) + placeOf (getD (now members) of (pos 0)) (setOf (now members) (nodeAt (now nodes) p))) × (end ≡ nat (nodeAt (now nodes) p .start) + nat (nodeAt (now nodes) p .size)) ⌝ }
-    ensures { λ v. ⌜ v ≡ drawnFrom (lent (now (schema .entry)) (now (proof .entry)) (now (nodes .entry)) (now (members .entry)) t) p rank (getD (now (members .entry)) of (pos 0)) ⌝ }
+    ensures { λ v. ⌜ v ≡ drawnFrom (lent (now (schema .entry)) (now (proof .entry)) (now (nodes .entry)) (now (members .entry)) h) p rank (getD (now (members .entry)) of (pos 0)) ⌝ }
 {
     let z = signed::at(members, of);
     if member::stands_at(&members[at..end], 0, z) {
         return true;
     }
-    is_given(schema, proof, nodes, t, p, rank, z)
+    is_given(schema, proof, nodes, h, p, rank, z)
 }
 
 // The set of node j is drawn from its parent's set and what the parent's rule gives.
@@ -130,12 +130,12 @@ pub fn is_drawn(
     nodes: &[i32],
     members: &[i32],
     work: &[u32],
-    t: Counts,
+    h: Header,
     j: usize,
 ) -> bool
     requires { ⌜ j < 2 ^ 32 ⌝ }
     requires { ⌜ ChildKnown (now nodes) (now members) (now work) j ⌝ }
-    ensures { λ v. ⌜ v ≡ allOf (drawnFrom (lent (now (schema .entry)) (now (proof .entry)) (now (nodes .entry)) (now (members .entry)) t) (nat (nodeAt (now (nodes .entry)) j .up)) (N.rank (now (nodes .entry)) j)) (set (lent (now (schema .entry)) (now (proof .entry)) (now (nodes .entry)) (now (members .entry)) t) j) ⌝ }
+    ensures { λ v. ⌜ v ≡ allOf (drawnFrom (lent (now (schema .entry)) (now (proof .entry)) (now (nodes .entry)) (now (members .entry)) h) (nat (nodeAt (now (nodes .entry)) j .up)) (N.rank (now (nodes .entry)) j)) (set (lent (now (schema .entry)) (now (proof .entry)) (now (nodes .entry)) (now (members .entry)) h) j) ⌝ }
 {
     let p = node::natural_of(nodes, j, node::UP);
     let rank = kept::kept_at(work, 4 * j + worked::RANK);
@@ -151,7 +151,7 @@ pub fn is_drawn(
             proof,
             nodes,
             members,
-            t,
+            h,
             p,
             rank,
             at,

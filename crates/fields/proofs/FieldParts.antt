@@ -13,7 +13,7 @@ use Rattle.stab.proofs.Bools.{and-left, and-right}
 use Rattle.stab.proofs.Trees.{below-pos}
 use Rattle.stab.proofs.Whole.{eqZ-true}
 use Rattle.branch.specs.Lent.{lent, otherFits, byFits, linkFits, rowsFit, restFits, FieldsKnown}
-use Rattle.branch.specs.declared.counts.Counts.{Counts}
+use Rattle.branch.specs.declared.header.Header.{Header}
 use Rattle.fields.proofs.Answers.{first-fails, second-fails, second-decides, third-decides, implies-made, implies-spared}
 
 regroup : (a b c d e f g : Bool) → (a and b and c and d and e and f and g) ≡ (a and (b and c and d) and (e and f) and g)
@@ -114,7 +114,7 @@ fields-known T j h =
     }
 
 -- no set is looked at
-pub fields-bare : (schema proof nodes members : List ℤ) (t : Counts) (j : ℕ) → FieldsKnown (lent schema proof nodes members t) j → FieldsKnown (lent schema proof nodes [] t) j
+pub fields-bare : (schema proof nodes members : List ℤ) (h : Header) (j : ℕ) → FieldsKnown (lent schema proof nodes members h) j → FieldsKnown (lent schema proof nodes [] h) j
 unfolding node rule kindFits isRow rowCount row rows R.otherFits R.linkFits
-fields-bare schema proof nodes members t j k =
+fields-bare schema proof nodes members h j k =
     record { rule = k .rule; on = k .on; with = k .with; other = k .other; link = k .link }

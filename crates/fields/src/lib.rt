@@ -1,7 +1,7 @@
 // A node's fields against the rule table: refusal 12.
 pub mod rules;
 
-use branch::counts::Counts;
+use branch::header::Header;
 use branch::member;
 use branch::node;
 use stab::Rule;
@@ -31,23 +31,23 @@ fn kind_fits(
     schema: &[i32],
     proof: &[i32],
     nodes: &[i32],
-    t: Counts,
+    h: Header,
     j: usize,
     k: usize,
     need: i32,
 ) -> bool
     requires { ⌜ (j < 2 ^ 32) × (k < 9) ⌝ }
-    requires { ⌜ t .schema + t .proof ≤ 1024 ⌝ }
-    ensures { λ r. ⌜ r ≡ fitsKind (formulaRows (now (schema .entry)) (t .schema) (now (proof .entry))) (t .schema + t .proof) need (nodeColumn (nodeAt (now (nodes .entry)) j) k) ⌝ }
+    requires { ⌜ h .«schema_rows» + h .«proof_rows» ≤ 1024 ⌝ }
+    ensures { λ r. ⌜ r ≡ fitsKind (formulaRows (now (schema .entry)) (h .«schema_rows») (now (proof .entry))) (h .«schema_rows» + h .«proof_rows») need (nodeColumn (nodeAt (now (nodes .entry)) j) k) ⌝ }
 {
     if signed::equal(need, -1) {
         return node::is_of(nodes, j, k, -1);
     }
-    if !node::is_below(nodes, j, k, t.schema + t.proof) {
+    if !node::is_below(nodes, j, k, h.schema_rows + h.proof_rows) {
         return false;
     }
     let r = node::natural_of(nodes, j, k);
-    formula::is_in(schema, t.schema, proof, r, formula::KIND, need)
+    formula::is_in(schema, h.schema_rows, proof, r, formula::KIND, need)
 }
 
 // Where a kind is needed, `on` stands in the node's set.
@@ -63,13 +63,13 @@ fn on_stands(nodes: &[i32], members: &[i32], j: usize, need: i32) -> bool
 }
 
 // `other` names a row if it is used.
-fn other_fits(nodes: &[i32], t: Counts, j: usize, used: bool) -> bool
+fn other_fits(nodes: &[i32], h: Header, j: usize, used: bool) -> bool
     requires { ⌜ j < 2 ^ 32 ⌝ }
-    requires { ⌜ t .schema + t .proof ≤ 1024 ⌝ }
-    ensures { λ r. ⌜ r ≡ otherFits (t .schema + t .proof) (nodeAt (now (nodes .entry)) j) used ⌝ }
+    requires { ⌜ h .«schema_rows» + h .«proof_rows» ≤ 1024 ⌝ }
+    ensures { λ r. ⌜ r ≡ otherFits (h .«schema_rows» + h .«proof_rows») (nodeAt (now (nodes .entry)) j) used ⌝ }
 {
     if used {
-        return node::is_below(nodes, j, node::OTHER, t.schema + t.proof);
+        return node::is_below(nodes, j, node::OTHER, h.schema_rows + h.proof_rows);
     }
     node::is_of(nodes, j, node::OTHER, -1)
 }
@@ -105,20 +105,20 @@ fn symbol_fits(
     proof: &[i32],
     nodes: &[i32],
     members: &[i32],
-    t: Counts,
+    h: Header,
     j: usize,
 ) -> bool
     requires { ⌜ j < 2 ^ 32 ⌝ }
     requires { ⌜ SetHeld (now nodes) (now members) j ⌝ }
     requires { ⌜ (below 1024 (nodeAt (now nodes) j .on) ≡ true) × (below 1024 (nodeAt (now nodes) j .with) ≡ true) ⌝ }
-    ensures { λ r. ⌜ r ≡ symbolFits (lent (now (schema .entry)) (now (proof .entry)) (now (nodes .entry)) (now (members .entry)) t) j ⌝ }
+    ensures { λ r. ⌜ r ≡ symbolFits (lent (now (schema .entry)) (now (proof .entry)) (now (nodes .entry)) (now (members .entry)) h) j ⌝ }
 {
     if !in_set(nodes, members, j, node::WITH) {
         return false;
     }
     let on = node::natural_of(nodes, j, node::ON);
     let with = node::natural_of(nodes, j, node::WITH);
-    leaves::same_in(schema, t.schema, proof, on, formula::A, with, formula::A)
+    leaves::same_in(schema, h.schema_rows, proof, on, formula::A, with, formula::A)
 }
 
 // `on` and `with` are as the rule says.
@@ -127,29 +127,29 @@ fn rows_fit(
     proof: &[i32],
     nodes: &[i32],
     members: &[i32],
-    t: Counts,
+    h: Header,
     j: usize,
     rule: Rule,
 ) -> bool
-    requires { ⌜ (j < 2 ^ 32) × (t .schema + t .proof ≤ 1024) ⌝ }
+    requires { ⌜ (j < 2 ^ 32) × (h .«schema_rows» + h .«proof_rows» ≤ 1024) ⌝ }
     requires { ⌜ SetHeld (now nodes) (now members) j ⌝ }
-    ensures { λ r. ⌜ r ≡ rowsFit (lent (now (schema .entry)) (now (proof .entry)) (now (nodes .entry)) (now (members .entry)) t) j rule ⌝ }
+    ensures { λ r. ⌜ r ≡ rowsFit (lent (now (schema .entry)) (now (proof .entry)) (now (nodes .entry)) (now (members .entry)) h) j rule ⌝ }
 {
-    if !kind_fits(schema, proof, nodes, t, j, node::ON, rule.on) {
+    if !kind_fits(schema, proof, nodes, h, j, node::ON, rule.on) {
         return false;
     }
     if !on_stands(nodes, members, j, rule.on) {
         return false;
     }
-    kind_fits(schema, proof, nodes, t, j, node::WITH, rule.with)
+    kind_fits(schema, proof, nodes, h, j, node::WITH, rule.with)
 }
 
 // `other`, `to` and `by` are as the rule says.
-fn rest_fits(nodes: &[i32], t: Counts, j: usize, rule: Rule) -> bool
-    requires { ⌜ (j < 2 ^ 32) × (t .schema + t .proof ≤ 1024) ⌝ }
-    ensures { λ r. ⌜ r ≡ restFits (t .schema + t .proof) (nodeAt (now (nodes .entry)) j) rule ⌝ }
+fn rest_fits(nodes: &[i32], h: Header, j: usize, rule: Rule) -> bool
+    requires { ⌜ (j < 2 ^ 32) × (h .«schema_rows» + h .«proof_rows» ≤ 1024) ⌝ }
+    ensures { λ r. ⌜ r ≡ restFits (h .«schema_rows» + h .«proof_rows») (nodeAt (now (nodes .entry)) j) rule ⌝ }
 {
-    if !other_fits(nodes, t, j, rule.other) {
+    if !other_fits(nodes, h, j, rule.other) {
         return false;
     }
     link_fits(nodes, j, rule.link, rule.split)
@@ -161,25 +161,25 @@ pub fn fields_fit(
     proof: &[i32],
     nodes: &[i32],
     members: &[i32],
-    t: Counts,
+    h: Header,
     j: usize,
 ) -> bool
-    requires { ⌜ (j < 2 ^ 32) × (t .schema + t .proof ≤ 1024) ⌝ }
+    requires { ⌜ (j < 2 ^ 32) × (h .«schema_rows» + h .«proof_rows» ≤ 1024) ⌝ }
     requires { ⌜ SetHeld (now nodes) (now members) j ⌝ }
-    ensures { λ r. ⌜ r ≡ fieldsFit (lent (now (schema .entry)) (now (proof .entry)) (now (nodes .entry)) (now (members .entry)) t) j ⌝ }
+    ensures { λ r. ⌜ r ≡ fieldsFit (lent (now (schema .entry)) (now (proof .entry)) (now (nodes .entry)) (now (members .entry)) h) j ⌝ }
 {
     if !node::is_below(nodes, j, node::RULE, 9) {
         return false;
     }
     let rule = rules::rule_at(node::natural_of(nodes, j, node::RULE));
-    if !rows_fit(schema, proof, nodes, members, t, j, rule) {
+    if !rows_fit(schema, proof, nodes, members, h, j, rule) {
         return false;
     }
-    if !rest_fits(nodes, t, j, rule) {
+    if !rest_fits(nodes, h, j, rule) {
         return false;
     }
     if node::is_of(nodes, j, node::RULE, 6) {
-        return symbol_fits(schema, proof, nodes, members, t, j);
+        return symbol_fits(schema, proof, nodes, members, h, j);
     }
     true
 }

@@ -1,6 +1,6 @@
 // A node's bound against its rule, and the index of a clash: refusal 14.
 // A sum of table numbers is compared by natural parts: what lies below 0 goes to the other side.
-use branch::counts::Counts;
+use branch::header::Header;
 use branch::node;
 use branch::split;
 use branch::worked;
@@ -164,15 +164,15 @@ pub fn bound_fits(
     proof: &[i32],
     nodes: &[i32],
     work: &[u32],
-    t: Counts,
+    h: Header,
     j: usize,
 ) -> bool
-    requires { ⌜ (j < t .nodes) × (t .nodes ≤ 1024) × (t .schema + t .proof ≤ 1024) ⌝ }
-    requires { ⌜ FieldsKnown (lent (now schema) (now proof) (now nodes) [] t) j ⌝ }
-    requires { ⌜ AllFormed (formulaRows (now schema) (t .schema) (now proof)) (t .schema + t .proof) ⌝ }
-    requires { ⌜ AllWorked (now nodes) (t .least) (t .nodes) (now work) (t .nodes) ⌝ }
+    requires { ⌜ (j < h .«node_rows») × (h .«node_rows» ≤ 1024) × (h .«schema_rows» + h .«proof_rows» ≤ 1024) ⌝ }
+    requires { ⌜ FieldsKnown (lent (now schema) (now proof) (now nodes) [] h) j ⌝ }
+    requires { ⌜ AllFormed (formulaRows (now schema) (h .«schema_rows») (now proof)) (h .«schema_rows» + h .«proof_rows») ⌝ }
+    requires { ⌜ AllWorked (now nodes) (h .least) (h .«node_rows») (now work) (h .«node_rows») ⌝ }
     requires { ⌜ (ofRule 8 (nodeAt (now nodes) j) ≡ true → nat (nodeAt (now nodes) j .to) < j) ⌝ }
-    ensures { λ r. ⌜ r ≡ boundFits (lent (now (schema .entry)) (now (proof .entry)) (now (nodes .entry)) [] t) j ⌝ }
+    ensures { λ r. ⌜ r ≡ boundFits (lent (now (schema .entry)) (now (proof .entry)) (now (nodes .entry)) [] h) j ⌝ }
 {
     let l = kept::kept_at(work, 4 * j + worked::L);
     let h = kept::kept_at(work, 4 * j + worked::H);
@@ -180,9 +180,9 @@ pub fn bound_fits(
     let with = node::natural_of(nodes, j, node::WITH);
     match node::natural_of(nodes, j, node::RULE) {
         2 => split_fits(nodes, j, l, h),
-        3 | 4 => reaches(schema, t.schema, proof, on, l),
-        6 => clash_fits(schema, t.schema, proof, on, with, is_exact(l, h), l),
-        7 => void_fits(schema, t.schema, proof, on, h),
+        3 | 4 => reaches(schema, h.schema_rows, proof, on, l),
+        6 => clash_fits(schema, h.schema_rows, proof, on, with, is_exact(l, h), l),
+        7 => void_fits(schema, h.schema_rows, proof, on, h),
         8 => target_allows(nodes, work, j, l, h),
         _ => true,
     }

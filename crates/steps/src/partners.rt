@@ -1,5 +1,5 @@
 // `with` and `other` of an unfolding: refusal 15.
-use branch::counts::Counts;
+use branch::header::Header;
 use branch::node;
 use classes::compare;
 ghost use mathlib.Core.Path.{_≡_};
@@ -65,26 +65,26 @@ pub fn partners_fit(
     nodes: &[i32],
     facts: &[u32],
     forms: &[u32],
-    t: Counts,
+    h: Header,
     j: usize,
     agreed: &mut [u32],
 ) -> bool
     requires { ⌜ j < 2 ^ 32 ⌝ }
-    requires { ⌜ FieldsKnown (lent (now schema) (now proof) (now nodes) [] t) j ⌝ }
-    requires { ⌜ AllKnown (formulaRows (now schema) (t .schema) (now proof)) (now facts) (t .schema + t .proof) ⌝ }
-    requires { ⌜ Ready (formulaRows (now schema) (t .schema) (now proof)) (now forms) (t .schema + t .proof) ⌝ }
-    requires { ⌜ Remembers (formulaRows (now schema) (t .schema) (now proof)) (now agreed) × (t .schema + t .proof ≤ length (now agreed)) ⌝ }
-    ensures { λ r. ⌜ r ≡ partnersFit (lent (now (schema .entry)) (now (proof .entry)) (now (nodes .entry)) [] t) j ⌝ }
-    ensures { λ _. ⌜ Remembers (formulaRows (now (schema .entry)) (t .schema) (now (proof .entry))) (now (agreed .exit)) ⌝ }
+    requires { ⌜ FieldsKnown (lent (now schema) (now proof) (now nodes) [] h) j ⌝ }
+    requires { ⌜ AllKnown (formulaRows (now schema) (h .«schema_rows») (now proof)) (now facts) (h .«schema_rows» + h .«proof_rows») ⌝ }
+    requires { ⌜ Ready (formulaRows (now schema) (h .«schema_rows») (now proof)) (now forms) (h .«schema_rows» + h .«proof_rows») ⌝ }
+    requires { ⌜ Remembers (formulaRows (now schema) (h .«schema_rows») (now proof)) (now agreed) × (h .«schema_rows» + h .«proof_rows» ≤ length (now agreed)) ⌝ }
+    ensures { λ r. ⌜ r ≡ partnersFit (lent (now (schema .entry)) (now (proof .entry)) (now (nodes .entry)) [] h) j ⌝ }
+    ensures { λ _. ⌜ Remembers (formulaRows (now (schema .entry)) (h .«schema_rows») (now (proof .entry))) (now (agreed .exit)) ⌝ }
 {
     if !unfolds(nodes, j) {
         return true;
     }
     let on = node::natural_of(nodes, j, node::ON);
     let with = node::natural_of(nodes, j, node::WITH);
-    if !is_shortened(schema, t.schema, proof, on, with) {
+    if !is_shortened(schema, h.schema_rows, proof, on, with) {
         return false;
     }
     let other = node::natural_of(nodes, j, node::OTHER);
-    compare::is_instance(schema, t.schema, proof, facts, forms, on, other, agreed)
+    compare::is_instance(schema, h.schema_rows, proof, facts, forms, on, other, agreed)
 }

@@ -1,7 +1,7 @@
 // The judgement of nodes, one by one: refusals 11 to 17.
 use crate::partners;
 use alike::lowered;
-use branch::counts::Counts;
+use branch::header::Header;
 use branch::node;
 use branch::worked;
 use fields::rules;
@@ -32,17 +32,17 @@ fn drawn_fits(
     nodes: &[i32],
     members: &[i32],
     work: &[u32],
-    t: Counts,
+    h: Header,
     j: usize,
 ) -> bool
     requires { ⌜ j < 2 ^ 32 ⌝ }
     requires { ⌜ (0 < j → ChildKnown (now nodes) (now members) (now work) j) ⌝ }
-    ensures { λ r. ⌜ r ≡ drawn (lent (now (schema .entry)) (now (proof .entry)) (now (nodes .entry)) (now (members .entry)) t) j ⌝ }
+    ensures { λ r. ⌜ r ≡ drawn (lent (now (schema .entry)) (now (proof .entry)) (now (nodes .entry)) (now (members .entry)) h) j ⌝ }
 {
     if j == 0 {
         return true;
     }
-    drawn::is_drawn(schema, proof, nodes, members, work, t, j)
+    drawn::is_drawn(schema, proof, nodes, members, work, h, j)
 }
 
 // 13: the target of a link is a node before it.
@@ -63,24 +63,24 @@ fn lowered_fits(
     nodes: &[i32],
     members: &[i32],
     forms: &[u32],
-    t: Counts,
+    h: Header,
     j: usize,
     agreed: &mut [u32],
 ) -> bool
     requires { ⌜ j < 2 ^ 32 ⌝ }
-    requires { ⌜ Compared (formulaRows (now schema) (t .schema) (now proof)) (now forms) (t .schema + t .proof) ⌝ }
-    requires { ⌜ SetOfRows (formulaRows (now schema) (t .schema) (now proof)) (now nodes) (now members) (t .schema + t .proof) j ⌝ }
-    requires { ⌜ (ofRule 8 (nodeAt (now nodes) j) ≡ true → (nat (nodeAt (now nodes) j .to) < 2 ^ 32) × SetOfRows (formulaRows (now schema) (t .schema) (now proof)) (now nodes) (now members) (t .schema + t .proof) (nat (nodeAt (now nodes) j .to))) ⌝ }
-    requires { ⌜ Remembers (formulaRows (now schema) (t .schema) (now proof)) (now agreed) × (t .schema + t .proof ≤ length (now agreed)) ⌝ }
-    ensures { λ r. ⌜ r ≡ loweredFits (lent (now (schema .entry)) (now (proof .entry)) (now (nodes .entry)) (now (members .entry)) t) j ⌝ }
-    ensures { λ _. ⌜ Remembers (formulaRows (now (schema .entry)) (t .schema) (now (proof .entry))) (now (agreed .exit)) ⌝ }
+    requires { ⌜ Compared (formulaRows (now schema) (h .«schema_rows») (now proof)) (now forms) (h .«schema_rows» + h .«proof_rows») ⌝ }
+    requires { ⌜ SetOfRows (formulaRows (now schema) (h .«schema_rows») (now proof)) (now nodes) (now members) (h .«schema_rows» + h .«proof_rows») j ⌝ }
+    requires { ⌜ (ofRule 8 (nodeAt (now nodes) j) ≡ true → (nat (nodeAt (now nodes) j .to) < 2 ^ 32) × SetOfRows (formulaRows (now schema) (h .«schema_rows») (now proof)) (now nodes) (now members) (h .«schema_rows» + h .«proof_rows») (nat (nodeAt (now nodes) j .to))) ⌝ }
+    requires { ⌜ Remembers (formulaRows (now schema) (h .«schema_rows») (now proof)) (now agreed) × (h .«schema_rows» + h .«proof_rows» ≤ length (now agreed)) ⌝ }
+    ensures { λ r. ⌜ r ≡ loweredFits (lent (now (schema .entry)) (now (proof .entry)) (now (nodes .entry)) (now (members .entry)) h) j ⌝ }
+    ensures { λ _. ⌜ Remembers (formulaRows (now (schema .entry)) (h .«schema_rows») (now (proof .entry))) (now (agreed .exit)) ⌝ }
 {
     if !node::is_of(nodes, j, node::RULE, 8) {
         return true;
     }
     let to = node::natural_of(nodes, j, node::TO);
     let by = signed::at(nodes, 9 * j + node::BY);
-    lowered::all_lowered(schema, proof, nodes, members, forms, t, j, to, by, agreed)
+    lowered::all_lowered(schema, proof, nodes, members, forms, h, j, to, by, agreed)
 }
 
 // 17: the number of children is the rule's; among rows that are held it is not beyond it.
@@ -106,23 +106,23 @@ fn step(
     facts: &[u32],
     forms: &[u32],
     work: &[u32],
-    t: Counts,
+    h: Header,
     j: usize,
     agreed: &mut [u32],
 ) -> Finding
-    requires { ⌜ j < t .nodes ⌝ }
-    requires { ⌜ Ready (lent (now schema) (now proof) (now nodes) (now members) t) (now facts) (now forms) (now work) ⌝ }
-    requires { ⌜ Remembers (formulaRows (now schema) (t .schema) (now proof)) (now agreed) × (t .schema + t .proof ≤ length (now agreed)) ⌝ }
-    ensures { λ r. ⌜ finding r ≡ stepRefusal (lent (now (schema .entry)) (now (proof .entry)) (now (nodes .entry)) (now (members .entry)) t) j ⌝ }
-    ensures { λ _. ⌜ Remembers (formulaRows (now (schema .entry)) (t .schema) (now (proof .entry))) (now (agreed .exit)) ⌝ }
+    requires { ⌜ j < h .«node_rows» ⌝ }
+    requires { ⌜ Ready (lent (now schema) (now proof) (now nodes) (now members) h) (now facts) (now forms) (now work) ⌝ }
+    requires { ⌜ Remembers (formulaRows (now schema) (h .«schema_rows») (now proof)) (now agreed) × (h .«schema_rows» + h .«proof_rows» ≤ length (now agreed)) ⌝ }
+    ensures { λ r. ⌜ finding r ≡ stepRefusal (lent (now (schema .entry)) (now (proof .entry)) (now (nodes .entry)) (now (members .entry)) h) j ⌝ }
+    ensures { λ _. ⌜ Remembers (formulaRows (now (schema .entry)) (h .«schema_rows») (now (proof .entry))) (now (agreed .exit)) ⌝ }
 {
-    if !drawn_fits(schema, proof, nodes, members, work, t, j) {
+    if !drawn_fits(schema, proof, nodes, members, work, h, j) {
         return Finding::Found {
             why: Refusal::Drawn,
             place: Place::At(j),
         };
     }
-    if !fields::fields_fit(schema, proof, nodes, members, t, j) {
+    if !fields::fields_fit(schema, proof, nodes, members, h, j) {
         return Finding::Found {
             why: Refusal::Fields,
             place: Place::At(j),
@@ -134,19 +134,19 @@ fn step(
             place: Place::At(j),
         };
     }
-    if !limits::bound_fits(schema, proof, nodes, work, t, j) {
+    if !limits::bound_fits(schema, proof, nodes, work, h, j) {
         return Finding::Found {
             why: Refusal::Bound,
             place: Place::At(j),
         };
     }
-    if !partners::partners_fit(schema, proof, nodes, facts, forms, t, j, agreed) {
+    if !partners::partners_fit(schema, proof, nodes, facts, forms, h, j, agreed) {
         return Finding::Found {
             why: Refusal::Partner,
             place: Place::At(j),
         };
     }
-    if !lowered_fits(schema, proof, nodes, members, forms, t, j, agreed) {
+    if !lowered_fits(schema, proof, nodes, members, forms, h, j, agreed) {
         return Finding::Found {
             why: Refusal::Lowered,
             place: Place::At(j),
@@ -165,15 +165,15 @@ fn judge(
     facts: &[u32],
     forms: &[u32],
     work: &[u32],
-    t: Counts,
+    h: Header,
     j: usize,
     agreed: &mut [u32],
 ) -> Finding
-    requires { ⌜ j < t .nodes ⌝ }
-    requires { ⌜ Ready (lent (now schema) (now proof) (now nodes) (now members) t) (now facts) (now forms) (now work) ⌝ }
-    requires { ⌜ Remembers (formulaRows (now schema) (t .schema) (now proof)) (now agreed) × (t .schema + t .proof ≤ length (now agreed)) ⌝ }
-    ensures { λ r. ⌜ finding r ≡ nodeRefusalAs whole (lent (now (schema .entry)) (now (proof .entry)) (now (nodes .entry)) (now (members .entry)) t) j ⌝ }
-    ensures { λ _. ⌜ Remembers (formulaRows (now (schema .entry)) (t .schema) (now (proof .entry))) (now (agreed .exit)) ⌝ }
+    requires { ⌜ j < h .«node_rows» ⌝ }
+    requires { ⌜ Ready (lent (now schema) (now proof) (now nodes) (now members) h) (now facts) (now forms) (now work) ⌝ }
+    requires { ⌜ Remembers (formulaRows (now schema) (h .«schema_rows») (now proof)) (now agreed) × (h .«schema_rows» + h .«proof_rows» ≤ length (now agreed)) ⌝ }
+    ensures { λ r. ⌜ finding r ≡ nodeRefusalAs whole (lent (now (schema .entry)) (now (proof .entry)) (now (nodes .entry)) (now (members .entry)) h) j ⌝ }
+    ensures { λ _. ⌜ Remembers (formulaRows (now (schema .entry)) (h .«schema_rows») (now (proof .entry))) (now (agreed .exit)) ⌝ }
 {
     let found = step(
         schema,
@@ -183,7 +183,7 @@ fn judge(
         facts,
         forms,
         work,
-        t,
+        h,
         j,
         agreed,
     );
@@ -209,16 +209,16 @@ pub fn each_node(
     facts: &[u32],
     forms: &[u32],
     work: &[u32],
-    t: Counts,
+    h: Header,
     agreed: &mut [u32],
 ) -> Finding
-    requires { ⌜ Ready (lent (now schema) (now proof) (now nodes) (now members) t) (now facts) (now forms) (now work) ⌝ }
-    requires { ⌜ Remembers (formulaRows (now schema) (t .schema) (now proof)) (now agreed) × (t .schema + t .proof ≤ length (now agreed)) ⌝ }
-    ensures { λ r. ⌜ finding r ≡ scan (nodeRefusalAs whole (lent (now (schema .entry)) (now (proof .entry)) (now (nodes .entry)) (now (members .entry)) t)) (t .nodes) ⌝ }
-    ensures { λ _. ⌜ Remembers (formulaRows (now (schema .entry)) (t .schema) (now (proof .entry))) (now (agreed .exit)) ⌝ }
+    requires { ⌜ Ready (lent (now schema) (now proof) (now nodes) (now members) h) (now facts) (now forms) (now work) ⌝ }
+    requires { ⌜ Remembers (formulaRows (now schema) (h .«schema_rows») (now proof)) (now agreed) × (h .«schema_rows» + h .«proof_rows» ≤ length (now agreed)) ⌝ }
+    ensures { λ r. ⌜ finding r ≡ scan (nodeRefusalAs whole (lent (now (schema .entry)) (now (proof .entry)) (now (nodes .entry)) (now (members .entry)) h)) (h .«node_rows») ⌝ }
+    ensures { λ _. ⌜ Remembers (formulaRows (now (schema .entry)) (h .«schema_rows») (now (proof .entry))) (now (agreed .exit)) ⌝ }
 {
     let mut j: usize = 0;
-    while j < t.nodes {
+    while j < h.node_rows {
         let found = judge(
             whole,
             schema,
@@ -228,7 +228,7 @@ pub fn each_node(
             facts,
             forms,
             work,
-            t,
+            h,
             j,
             agreed,
         );

@@ -1,5 +1,5 @@
 // The check of a whole record.
-use branch::counts::Counts;
+use branch::header::Header;
 use stab::Finding;
 use stab::Place;
 use stab::Refusal;
@@ -180,7 +180,7 @@ fn single_steps(
 {
     bounds::work_out(nodes, k, least, work);
     classify(schema, s, proof, s + p, forms, sides);
-    let t = Counts {
+    let h = Header {
         schema: s,
         proof: p,
         root,
@@ -197,7 +197,7 @@ fn single_steps(
         facts,
         forms,
         work,
-        t,
+        h,
         agreed,
     )
 }

@@ -30,15 +30,15 @@ abbrev placed : List ℤ → List ℤ → ℕ → ℕ → ℕ
 placed nodes members j i = placeOf (getD (setOf members (nodeAt nodes j)) i (pos 0)) (setOf members (nodeAt nodes (nat (nodeAt nodes j .up))))
 
 abbrev Inv-loop : tie.InvT-loop
-Inv-loop schema proof nodes members work t j p rank start size at₀ end i₀ at i =
+Inv-loop schema proof nodes members work h j p rank start size at₀ end i₀ at i =
     (i ≤ nat (nodeAt nodes j .size))
-    × ((a : ℕ) → a < i → drawnFrom (lent schema proof nodes members t) (nat (nodeAt nodes j .up)) (N.rank nodes j) (getD (setOf members (nodeAt nodes j)) a (pos 0)) ≡ true)
+    × ((a : ℕ) → a < i → drawnFrom (lent schema proof nodes members h) (nat (nodeAt nodes j .up)) (N.rank nodes j) (getD (setOf members (nodeAt nodes j)) a (pos 0)) ≡ true)
     × (at₀ ≤ at)
     × (at ≤ end)
     × (i < nat (nodeAt nodes j .size) → at ≤ at₀ + placed nodes members j i)
 
 abbrev μ-loop : tie.MeasureT-loop
-μ-loop schema proof nodes members work t j p rank start size at₀ end i₀ at i = size - i
+μ-loop schema proof nodes members work h j p rank start size at₀ end i₀ at i = size - i
 
 natural-of-requires : tie.Need-natural-of-requires Inv-loop μ-loop
 natural-of-requires c κs = omega arith
@@ -139,14 +139,14 @@ may-stand-requires c κs =
 
 -- what is asked of the member at i
 abbrev Asked : tie.At-loop Inv-loop μ-loop → Bool
-Asked l = drawnFrom (lent (Begin l .args .schema .now) (Begin l .args .proof .now) (Begin l .args .nodes .now) (Begin l .args .members .now) (Begin l .args .t)) (nat (nodeAt (Begin l .args .nodes .now) (Begin l .args .j) .up)) (N.rank (Begin l .args .nodes .now) (Begin l .args .j)) (getD (setOf (Begin l .args .members .now) (nodeAt (Begin l .args .nodes .now) (Begin l .args .j))) (l .loop .i) (pos 0))
+Asked l = drawnFrom (lent (Begin l .args .schema .now) (Begin l .args .proof .now) (Begin l .args .nodes .now) (Begin l .args .members .now) (Begin l .args .h)) (nat (nodeAt (Begin l .args .nodes .now) (Begin l .args .j) .up)) (N.rank (Begin l .args .nodes .now) (Begin l .args .j)) (getD (setOf (Begin l .args .members .now) (nodeAt (Begin l .args .nodes .now) (Begin l .args .j))) (l .loop .i) (pos 0))
 
 asked : (c : tie.After-may-stand Inv-loop μ-loop) → c .may-stand .result ≡ Asked (c .before .before .before)
 asked c =
     let l = c .before .before .before in
     let s = Begin l in
     c .may-stand .ensures
-    ∙ drawn-same (lent (s .args .schema .now) (s .args .proof .now) (s .args .nodes .now) (s .args .members .now) (s .args .t))
+    ∙ drawn-same (lent (s .args .schema .now) (s .args .proof .now) (s .args .nodes .now) (s .args .members .now) (s .args .h))
     (parent-is l)
     (l .before .before .before .before .before .kept-at .ensures .0 ∙ first-at (s .args .work .now) (s .args .j) ∙ s .pre .1 .rank)
     (member l (inside (c .before .before)))

@@ -13,7 +13,7 @@ use Rattle.fields.proofs.fields_fit.Tie as tie
 use Rattle.stab.proofs.Bools.{asked-false, asked-true}
 
 abbrev Lent : tie.Start → Tableau
-Lent s = lent (s .args .schema .now) (s .args .proof .now) (s .args .nodes .now) (s .args .members .now) (s .args .t)
+Lent s = lent (s .args .schema .now) (s .args .proof .now) (s .args .nodes .now) (s .args .members .now) (s .args .h)
 
 -- where the entry has been looked up
 abbrev Begin : tie.After-rule-at → tie.Start

@@ -15,7 +15,7 @@ use Rattle.limits.proofs.bound_fits.Statement.{statement}
 use Rattle.limits.proofs.bound_fits.Tie as tie
 
 abbrev Lent : tie.Start → Tableau
-Lent s = lent (s .args .schema .now) (s .args .proof .now) (s .args .nodes .now) [] (s .args .t)
+Lent s = lent (s .args .schema .now) (s .args .proof .now) (s .args .nodes .now) [] (s .args .h)
 
 -- where the rule's number has been read
 abbrev Begin : tie.After-natural-of3 → tie.Start

@@ -25,15 +25,15 @@ use Rattle.alike.proofs.lowered.all_lowered.Statement.{statement}
 use Rattle.alike.proofs.lowered.all_lowered.Tie as tie
 
 abbrev Inv-loop : tie.InvT-loop
-Inv-loop schema proof nodes members forms t j to k agreed₀ size width start from₀ i₀ agreed from i =
+Inv-loop schema proof nodes members forms h j to k agreed₀ size width start from₀ i₀ agreed from i =
     (i ≤ nat (nodeAt nodes to .size))
-    × ((a : ℕ) → a < i → hasLowered (lent schema proof nodes members t) (toZ w32 k) (setOf members (nodeAt nodes j)) (getD (setOf members (nodeAt nodes to)) a (pos 0)) ≡ true)
+    × ((a : ℕ) → a < i → hasLowered (lent schema proof nodes members h) (toZ w32 k) (setOf members (nodeAt nodes j)) (getD (setOf members (nodeAt nodes to)) a (pos 0)) ≡ true)
     × (from ≤ nat (nodeAt nodes j .size))
-    × Remembers (formulaRows schema (t .schema) proof) agreed
+    × Remembers (formulaRows schema (h .«schema_rows») proof) agreed
     × (length agreed ≡ length agreed₀)
 
 abbrev μ-loop : tie.MeasureT-loop
-μ-loop schema proof nodes members forms t j to k agreed₀ size width start from₀ i₀ agreed from i = size - i
+μ-loop schema proof nodes members forms h j to k agreed₀ size width start from₀ i₀ agreed from i = size - i
 
 natural-of-requires : tie.Need-natural-of-requires Inv-loop μ-loop
 natural-of-requires c κs = omega arith
@@ -59,7 +59,7 @@ abbrev Start : Type 0
 Start = tie.Start Inv-loop μ-loop
 
 abbrev Lent : Start → Tableau
-Lent s = lent (s .args .schema .now) (s .args .proof .now) (s .args .nodes .now) (s .args .members .now) (s .args .t)
+Lent s = lent (s .args .schema .now) (s .args .proof .now) (s .args .nodes .now) (s .args .members .now) (s .args .h)
 
 abbrev Size : Start → ℕ
 Size s = nat (nodeAt (s .args .nodes .now) (s .args .to) .size)
@@ -68,10 +68,10 @@ abbrev Member : Start → ℕ → ℤ
 Member s a = getD (setOf (s .args .members .now) (nodeAt (s .args .nodes .now) (s .args .to))) a (pos 0)
 
 module _ (s : Start) (a : ℕ) (l : a < Size s) where
-  named : below (s .args .t .schema + s .args .t .proof) (Member s a) ≡ true
+  named : below (s .args .h .«schema_rows» + s .args .h .«proof_rows») (Member s a) ≡ true
   named = s .pre .1 .1 .1 .0 .named a l
 
-  small : nat (Member s a) < s .args .t .schema + s .args .t .proof
+  small : nat (Member s a) < s .args .h .«schema_rows» + s .args .h .«proof_rows»
   small = below-nat _ _ named
 
   outer : loose (tree (rows (Lent s)) (nat (Member s a))) ≡ false

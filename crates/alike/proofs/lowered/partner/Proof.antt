@@ -11,7 +11,7 @@ use Rattle.alike.proofs.lowered.partner.Statement.{statement}
 use Rattle.alike.proofs.lowered.partner.Tie as tie
 
 abbrev Lent : tie.Start → Tableau
-Lent s = lent (s .args .schema .now) (s .args .proof .now) (s .args .nodes .now) (s .args .members .now) (s .args .t)
+Lent s = lent (s .args .schema .now) (s .args .proof .now) (s .args .nodes .now) (s .args .members .now) (s .args .h)
 
 long : (s : tie.Start) → length (setOf (s .args .members .now) (nodeAt (s .args .nodes .now) (s .args .j))) ≡ nat (nodeAt (s .args .nodes .now) (s .args .j) .size)
 long s = set-length (s .args .nodes .now) (s .args .members .now) (s .args .j) (s .pre .1 .1 .1 .0 .held)

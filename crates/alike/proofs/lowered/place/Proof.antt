@@ -22,14 +22,14 @@ use Rattle.alike.proofs.lowered.place.Statement.{statement}
 use Rattle.alike.proofs.lowered.place.Tie as tie
 
 abbrev Inv-loop : tie.InvT-loop
-Inv-loop schema proof nodes members forms t j k z lo hi agreed₀ start i₀ agreed i =
+Inv-loop schema proof nodes members forms h j k z lo hi agreed₀ start i₀ agreed i =
     (i ≤ hi)
-    × ((a : ℕ) → a < i → lo ≤ a → isLowered (lent schema proof nodes members t) (toZ w32 k) (pos z) (getD (setOf members (nodeAt nodes j)) a (pos 0)) ≡ false)
-    × Remembers (formulaRows schema (t .schema) proof) agreed
+    × ((a : ℕ) → a < i → lo ≤ a → isLowered (lent schema proof nodes members h) (toZ w32 k) (pos z) (getD (setOf members (nodeAt nodes j)) a (pos 0)) ≡ false)
+    × Remembers (formulaRows schema (h .«schema_rows») proof) agreed
     × (length agreed ≡ length agreed₀)
 
 abbrev μ-loop : tie.MeasureT-loop
-μ-loop schema proof nodes members forms t j k z lo hi agreed₀ start i₀ agreed i = hi - i
+μ-loop schema proof nodes members forms h j k z lo hi agreed₀ start i₀ agreed i = hi - i
 
 natural-of-requires : tie.Need-natural-of-requires Inv-loop μ-loop
 natural-of-requires c κs = omega arith
@@ -52,7 +52,7 @@ abbrev Begin : tie.After-natural-at Inv-loop μ-loop → tie.Start Inv-loop μ-l
 Begin c = first (c .before .before .before)
 
 abbrev Lent : tie.Start Inv-loop μ-loop → Tableau
-Lent s = lent (s .args .schema .now) (s .args .proof .now) (s .args .nodes .now) (s .args .members .now) (s .args .t)
+Lent s = lent (s .args .schema .now) (s .args .proof .now) (s .args .nodes .now) (s .args .members .now) (s .args .h)
 
 -- the set's member at i
 abbrev Member : tie.After-natural-at Inv-loop μ-loop → ℤ
@@ -66,7 +66,7 @@ read c =
     let s = Begin c in
     member-nat (s .args .nodes .now) (s .args .members .now) (s .args .j) (s .pre .1 .1 .1 .0 .held) _ (inside c) _ _ (c .natural-at .ensures .0) (c .before .before .before .natural-of .ensures .0)
 
-named : (c : tie.After-natural-at Inv-loop μ-loop) → c .natural-at .result < Begin c .args .t .schema + Begin c .args .t .proof
+named : (c : tie.After-natural-at Inv-loop μ-loop) → c .natural-at .result < Begin c .args .h .«schema_rows» + Begin c .args .h .«proof_rows»
 named c = omega (arith, read c, below-nat _ _ (Begin c .pre .1 .1 .1 .0 .named _ (inside c)))
 
 outer : (c : tie.After-natural-at Inv-loop μ-loop) → loose (tree (rows (Lent (Begin c))) (c .natural-at .result)) ≡ false

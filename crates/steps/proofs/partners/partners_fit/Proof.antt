@@ -14,7 +14,7 @@ use Rattle.steps.proofs.partners.partners_fit.Tie as tie
 use Rattle.stab.proofs.Bools.{asked-false, asked-true}
 
 abbrev Lent : tie.Start → Tableau
-Lent s = lent (s .args .schema .now) (s .args .proof .now) (s .args .nodes .now) [] (s .args .t)
+Lent s = lent (s .args .schema .now) (s .args .proof .now) (s .args .nodes .now) [] (s .args .h)
 
 abbrev begin : tie.Else1 → tie.Start
 begin c = c .before .before .before .before .before

@@ -15,14 +15,14 @@ use Rattle.steps.proofs.steps.each_node.Statement.{statement}
 use Rattle.steps.proofs.steps.each_node.Tie as tie
 
 abbrev Inv-loop : tie.InvT-loop
-Inv-loop whole schema proof nodes members facts forms work t agreed₀ j₀ agreed j =
-    (j ≤ t .nodes)
-    × (scan (nodeRefusalAs whole (lent schema proof nodes members t)) j ≡ none)
-    × Remembers (formulaRows schema (t .schema) proof) agreed
+Inv-loop whole schema proof nodes members facts forms work h agreed₀ j₀ agreed j =
+    (j ≤ h .«node_rows»)
+    × (scan (nodeRefusalAs whole (lent schema proof nodes members h)) j ≡ none)
+    × Remembers (formulaRows schema (h .«schema_rows») proof) agreed
     × (length agreed ≡ length agreed₀)
 
 abbrev μ-loop : tie.MeasureT-loop
-μ-loop whole schema proof nodes members facts forms work t agreed₀ j₀ agreed j = t .nodes - j
+μ-loop whole schema proof nodes members facts forms work h agreed₀ j₀ agreed j = h .«node_rows» - j
 
 abbrev begin : tie.At-loop Inv-loop μ-loop → tie.Start Inv-loop μ-loop
 begin l = l .before .before .before .before .before
@@ -79,8 +79,8 @@ unfolding finding
 returns-2 c =
     let l = c .before .before in
     let s = begin l in
-    let e : l .loop .j ≡ s .args .t .nodes = omega arith in
-    (sym (subst (λ (n : ℕ). scan (nodeRefusalAs (s .args .whole) (lent (s .args .schema .now) (s .args .proof .now) (s .args .nodes .now) (s .args .members .now) (s .args .t))) n ≡ none) e (l .loop .inv .1)), l .loop .inv .2)
+    let e : l .loop .j ≡ s .args .h .«node_rows» = omega arith in
+    (sym (subst (λ (n : ℕ). scan (nodeRefusalAs (s .args .whole) (lent (s .args .schema .now) (s .args .proof .now) (s .args .nodes .now) (s .args .members .now) (s .args .h))) n ≡ none) e (l .loop .inv .1)), l .loop .inv .2)
 
 pub each-node-spec : {M : Type 1} → statement M
 each-node-spec =

@@ -18,7 +18,7 @@ use Rattle.steps.proofs.steps.judge.Tie as tie
 use Rattle.stab.proofs.Bools.{asked-false, asked-true}
 
 abbrev Lent : tie.Start → Tableau
-Lent s = lent (s .args .schema .now) (s .args .proof .now) (s .args .nodes .now) (s .args .members .now) (s .args .t)
+Lent s = lent (s .args .schema .now) (s .args .proof .now) (s .args .nodes .now) (s .args .members .now) (s .args .h)
 
 step-requires : tie.Need-step-requires
 step-requires c κs = search needs

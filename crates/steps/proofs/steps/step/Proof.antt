@@ -17,13 +17,13 @@ use Rattle.steps.proofs.steps.step.Tie as tie
 use Rattle.stab.proofs.Bools.{asked-false, asked-true}
 
 abbrev Lent : tie.Start → Tableau
-Lent s = lent (s .args .schema .now) (s .args .proof .now) (s .args .nodes .now) (s .args .members .now) (s .args .t)
+Lent s = lent (s .args .schema .now) (s .args .proof .now) (s .args .nodes .now) (s .args .members .now) (s .args .h)
 
 small : (s : tie.Start) → s .args .j < 2 ^ 32
 small s = omega (arith, s .pre .0, s .pre .1 .0 .nodeLimit)
 
 -- what is remembered at the start
-held : (s : tie.Start) → Remembers (formulaRows (s .args .schema .now) (s .args .t .schema) (s .args .proof .now)) (s .args .agreed .now)
+held : (s : tie.Start) → Remembers (formulaRows (s .args .schema .now) (s .args .h .«schema_rows») (s .args .proof .now)) (s .args .agreed .now)
 held s = s .pre .1 .1 .0
 
 -- the tests that are asked-true
@@ -39,7 +39,7 @@ Start2 c = Start1 (c .before .before)
 fields-passed : (c : tie.Else2) → fieldsFit (Lent (Start2 c)) (Start2 c .args .j) ≡ true
 fields-passed c = asked-true (c .before .fields-fit .ensures) (c .if2 .left)
 
-bare : (c : tie.Else2) → FieldsKnown (lent (Start2 c .args .schema .now) (Start2 c .args .proof .now) (Start2 c .args .nodes .now) [] (Start2 c .args .t)) (Start2 c .args .j)
+bare : (c : tie.Else2) → FieldsKnown (lent (Start2 c .args .schema .now) (Start2 c .args .proof .now) (Start2 c .args .nodes .now) [] (Start2 c .args .h)) (Start2 c .args .j)
 bare c = fields-bare _ _ _ _ _ _ (fields-known (Lent (Start2 c)) _ (fields-passed c))
 
 abbrev Start3 : tie.Else3 → tie.Start
