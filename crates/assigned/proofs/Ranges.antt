@@ -9,7 +9,7 @@ use lib.Dec.{eqb}
 use lib.IntN.{ℤ, pos, _+ℤ_}
 use lib.ListN.{getD}
 use Rattle.stab.specs.Basic.{if_then_else_, _and_, _or_}
-use Rattle.stab.specs.Formula.{Op, conj, disj, nothing, parameter, index, Row, Formula, const, lit, combine, iter, loose, onIndex, tree}
+use Rattle.stab.specs.Formula.{Op, conj, disj, nothing, parameter, index, Row, Formula, const, lit, join, iter, loose, onIndex, tree}
 use Rattle.stab.specs.Meaning.{Assignment, base, op, empty, over, value}
 use Rattle.stab.proofs.Bools.{or-false-left, or-false-right}
 use Rattle.formula.specs.Facts.{bit, Known, AllKnown}
@@ -25,7 +25,7 @@ still σ n (const v) i j h = refl
 still σ n (lit v s nothing c) i j h = refl
 still σ n (lit v s parameter c) i j h = refl
 still σ n (lit v s index c) i j h = absurd (true≢false h)
-still σ n (combine o f g) i j h =
+still σ n (join o f g) i j h =
     ap₂ (op o) (still σ n f i j (or-false-left (loose f) (loose g) h)) (still σ n g i j (or-false-right (loose f) _ h))
 still σ n (iter o f b c) i j h = refl
 

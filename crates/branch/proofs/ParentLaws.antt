@@ -4,7 +4,6 @@ use native.Mathlib.Omega.{arith}
 use mathlib.Core.Path.{_≡_, refl, sym, _∙_, ap}
 use mathlib.Core.Bool.{Bool, true, false}
 use mathlib.Core.List.{List, [], _∷_}
-use mathlib.Core.Option.{none, some}
 use lib.Dec.{ltb}
 use lib.IntN.{ℤ, pos, negsuc, negℤ}
 use lib.Signed.{ltZ}
@@ -14,10 +13,10 @@ use Rattle.stab.specs.Node.{Tableau, node, nodeAt, set, setOf, parentFits}
 use Rattle.stab.specs.Check.{parentRefusal, atUnless}
 use Rattle.stab.specs.declared.Place.the-variants.{At}
 use Rattle.stab.specs.declared.Refusal.the-variants.{Parent}
-use Rattle.stab.specs.declared.Verdict.the-variants.{Refused}
-use Rattle.stab.proofs.Bools.{and-left, and-both, and-first-false, and-second-false, unless-none, none-unless, some-unless, same-test}
+use Rattle.stab.specs.declared.Finding.the-variants.{Found, Nothing}
+use Rattle.stab.proofs.Bools.{and-left, and-both, and-first-false, and-second-false, unless-nothing, nothing-unless, found-unless, same-test}
 use Rattle.stab.proofs.Whole.{eqZ-true, at-least-0, below-0}
-use Rattle.stab.proofs.Scans.{none-scan}
+use Rattle.stab.proofs.Scans.{nothing-scan}
 use Rattle.stab.proofs.Trees.{below-nat, below-pos}
 use Rattle.branch.specs.Parents.{upFits, isAlone, parentRight, AllUpFit}
 use Rattle.branch.specs.Sets.{Within}
@@ -94,13 +93,13 @@ module _ (schema : List ℤ) (s : ℕ) (proof : List ℤ) (p : ℕ) (root least 
   same-parent zero = refl
   same-parent (suc i) = refl
 
-  pub parent-passes : (j : ℕ) → parentRight nodes members root j ≡ true → parentRefusal (tableau schema s proof p root least nodes k members m) j ≡ none
+  pub parent-passes : (j : ℕ) → parentRight nodes members root j ≡ true → parentRefusal (tableau schema s proof p root least nodes k members m) j ≡ Nothing
   unfolding parentRefusal atUnless
-  parent-passes j h = none-unless _ _ (sym (same-parent j) ∙ h)
+  parent-passes j h = nothing-unless _ _ _ (sym (same-parent j) ∙ h)
 
-  pub parent-refused : (j : ℕ) → parentRight nodes members root j ≡ false → parentRefusal (tableau schema s proof p root least nodes k members m) j ≡ some (Refused Parent (At j))
+  pub parent-refused : (j : ℕ) → parentRight nodes members root j ≡ false → parentRefusal (tableau schema s proof p root least nodes k members m) j ≡ Found Parent (At j)
   unfolding parentRefusal atUnless
-  parent-refused j h = some-unless _ _ (sym (same-parent j) ∙ h)
+  parent-refused j h = found-unless _ _ _ (sym (same-parent j) ∙ h)
 
 -- ---- what parents that were not refused are
 
@@ -110,9 +109,9 @@ fits-up T zero h = and-left _ _ h
 fits-up T (suc i) h = h
 
 -- what the pass over the parents gives
-pub parents-known : (T : Tableau) (k : ℕ) → scan (parentRefusal T) k ≡ none → AllUpFit (T .nodes) k
+pub parents-known : (T : Tableau) (k : ℕ) → scan (parentRefusal T) k ≡ Nothing → AllUpFit (T .nodes) k
 unfolding parentRefusal atUnless
-parents-known T k h j p = fits-up T j (unless-none _ _ (none-scan (parentRefusal T) k h j p))
+parents-known T k h j p = fits-up T j (unless-nothing _ _ _ (nothing-scan (parentRefusal T) k h j p))
 
 module _ (nodes : List ℤ) where
   pub first-up : upFits nodes 0 ≡ true → nodeAt nodes 0 .up ≡ negsuc 0

@@ -3,7 +3,6 @@ use Prim.Native.Nat.{ℕ, _+_, _-_, _*_, _%_, _<_, _≤_}
 use mathlib.Core.Path.{_≡_}
 use mathlib.Core.Bool.{true}
 use mathlib.Core.List.{List, [], _∷_, _++_}
-use mathlib.Core.Option.{Option}
 use lib.Dec.{eqb, leb}
 use lib.IntN.{ℤ, pos}
 use lib.ListN.{length, getD, set}
@@ -12,14 +11,14 @@ use Rattle.stab.specs.Basic.{if_then_else_, _otherwise_}
 use Rattle.stab.specs.Formula.{Row, rowAt}
 use Rattle.stab.specs.Check.{atUnless, wholeUnless, holds}
 use Rattle.stab.specs.declared.Refusal.the-variants.{TableTooShort, TooMany}
-use Rattle.stab.specs.declared.Verdict.{Verdict}
+use Rattle.stab.specs.declared.Finding.{Finding}
 use Rattle.wide.specs.WideFormula.{wideKindOf, wideFormed}
 use Rattle.wide.specs.Plain.{rowsGiven, startOf, Image, image, row, columns}
 use Rattle.wide.specs.Convert.{WideSchema, wideRefusal}
 use Rattle.convert.specs.declared.rows.Stands.{Stands}
 
 -- the refusals before 23
-unfoldable pub inputRefusal : WideSchema → Option Verdict
+unfoldable pub inputRefusal : WideSchema → Finding
 inputRefusal W =
     atUnless (leb 4096 (W .room)) TableTooShort 0 otherwise
     wholeUnless (holds (W .wide) 4 (W .wideRows)) TableTooShort otherwise

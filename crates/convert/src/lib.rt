@@ -7,20 +7,20 @@ use stab::Refusal;
 use stab::SchemaRead;
 ghost use mathlib.Core.Path.{_≡_};
 ghost use mathlib.Core.List.{[]};
-ghost use mathlib.Core.Option.{none};
 ghost use Prim.Native.Nat.{_*_, _≤_};
 ghost use lib.IntN.{pos};
 ghost use lib.ListN.{length};
 ghost use Rattle.stab.specs.Formula.{rowAt};
-ghost use Rattle.stab.specs.Check.{finding, formulasRefusal};
+ghost use Rattle.stab.specs.Check.{formulasRefusal};
 ghost use Rattle.stab.specs.Text.{padded};
 ghost use Rattle.stab.specs.declared.SchemaRead.the-variants.{Refused};
+ghost use Rattle.stab.specs.declared.Finding.the-variants.{Nothing, Found};
 ghost use Rattle.wide.specs.Convert.{plainRefusal, convertedBy, converted, convertedTableBy, convertedTable};
 ghost use Rattle.convert.specs.Emission.{inputRefusal};
 
 // Refusals 2, 5, 6, 7, 8 and 6 again, where the result table has room for so many numbers.
 fn wide_pass(wide: &[i32], n: usize, root: i32, least: i32, room: usize) -> Finding
-    ensures { λ r. ⌜ finding r ≡ inputRefusal (record { wide = now (wide .entry); wideRows = n; root = root; least = least; room = room }) ⌝ }
+    ensures { λ r. ⌜ r ≡ inputRefusal (record { wide = now (wide .entry); wideRows = n; root = root; least = least; room = room }) ⌝ }
 {
     if room < 4096 {
         return Finding::Found {
@@ -47,7 +47,7 @@ fn wide_pass(wide: &[i32], n: usize, root: i32, least: i32, room: usize) -> Find
 // What the pass over formula rows finds of n plain rows. The rest of the table stands where a proof's rows would.
 fn plain_pass(plain: &[i32], n: usize, root: i32, least: i32) -> Finding
     requires { ⌜ (n ≤ 1024) × (4 * n ≤ length (now plain)) ⌝ }
-    ensures { λ r. ⌜ finding r ≡ formulasRefusal (rowAt (now (plain .entry))) n n root least ⌝ }
+    ensures { λ r. ⌜ r ≡ formulasRefusal (rowAt (now (plain .entry))) n n root least ⌝ }
 {
     let mut facts = [0u32; 4096];
     let end = 4 * n;
@@ -64,7 +64,7 @@ fn refused(plain: &mut [i32], why: Refusal, place: Place) -> SchemaRead
 
 // The plain rows of wide rows that passed: 23, or the table filled with them.
 fn plain_rows(wide: &[i32], n: usize, root: i32, least: i32, plain: &mut [i32]) -> SchemaRead
-    requires { ⌜ inputRefusal (record { wide = now wide; wideRows = n; root = root; least = least; room = length (now plain) }) ≡ none ⌝ }
+    requires { ⌜ inputRefusal (record { wide = now wide; wideRows = n; root = root; least = least; room = length (now plain) }) ≡ Nothing ⌝ }
     ensures { λ r. ⌜ r ≡ convertedBy (plainRefusal (record { wide = now (wide .entry); wideRows = n; root = root; least = least; room = length (now (plain .entry)) })) (record { wide = now (wide .entry); wideRows = n; root = root; least = least; room = length (now (plain .entry)) }) ⌝ }
     ensures { λ r. ⌜ now (plain .exit) ≡ convertedTableBy (plainRefusal (record { wide = now (wide .entry); wideRows = n; root = root; least = least; room = length (now (plain .entry)) })) (record { wide = now (wide .entry); wideRows = n; root = root; least = least; room = length (now (plain .entry)) }) ⌝ }
 {

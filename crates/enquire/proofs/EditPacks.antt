@@ -1,12 +1,11 @@
 -- The answers to an enquiry and a commit as the one number.
 use mathlib.Core.Path.{_≡_, sym, _∙_, subst}
-use mathlib.Core.Option.{none}
-use Rattle.stab.specs.Basic.{_otherwise_}
 use Rattle.stab.specs.Check.{wholeUnless}
 use Rattle.stab.specs.Answer.{numbersIn, Packs}
 use Rattle.stab.specs.declared.Refusal.the-variants.{Waiting}
-use Rattle.stab.proofs.Bools.{otherwise-none, otherwise-first, otherwise-second}
-use Rattle.stab.proofs.Exactness.Refusals.{FindsRefusals, of-whole, _or-else_}
+use Rattle.stab.specs.declared.Finding.the-variants.{Nothing}
+use Rattle.stab.proofs.Bools.{otherwise-nothing, otherwise-first, otherwise-second}
+use Rattle.stab.proofs.Exactness.Refusals.{FindsNear, of-whole, _or-else_}
 use Rattle.growing.specs.Growing.{heldRefusal, NodeRow, added, newRefusal, addRefusal, add, growthNumbers, growthPacked}
 use Rattle.growing.specs.Enquiry.{waits, waitingRow, Editor, enquire, commit, commitRefusal, editorRefusal, spokenOf, editorAnswer}
 use Rattle.growing.specs.declared.Growth.{Growth}
@@ -19,14 +18,14 @@ pub enquiry-packs : (E : Editor) (w : NodeRow) → Packs (asVerdict (editorAnswe
 enquiry-packs E w = subst (λ (r : Growth). Packs (asVerdict r)) (enquiry-answer E w) (call-packs (E .held) (add w))
 
 module _ (E : Editor) where
-  of-commit : FindsRefusals (commitRefusal E)
+  of-commit : FindsNear (commitRefusal E)
   unfolding commitRefusal
   of-commit = of-held (E .held) or-else of-whole _ _ or-else of-new (E .held) (waitingRow (E .waiting))
 
-  added-too : commitRefusal E ≡ none → addRefusal (E .held) (waitingRow (E .waiting)) ≡ none
+  added-too : commitRefusal E ≡ Nothing → addRefusal (E .held) (waitingRow (E .waiting)) ≡ Nothing
   unfolding commitRefusal addRefusal
   added-too e =
-      otherwise-none (heldRefusal (E .held)) _ (otherwise-first _ _ e)
+      otherwise-nothing (heldRefusal (E .held)) _ (otherwise-first _ _ e)
       ∙ otherwise-second (wholeUnless (waits (E .waiting)) Waiting) _ (otherwise-second (heldRefusal (E .held)) _ e)
 
   pub commit-packs : Packs (asVerdict (editorAnswer E commit))

@@ -4,7 +4,6 @@ use native.Mathlib.Omega.{arith}
 use mathlib.Core.Path.{_≡_, refl, sym, _∙_, ap, ap₂}
 use mathlib.Core.Bool.{Bool, true, false}
 use mathlib.Core.List.{List, [], _∷_, _++_}
-use mathlib.Core.Option.{Option, none, some}
 use lib.IntN.{ℤ, pos}
 use lib.ListN.{length, getD, take, drop}
 use lib.Seq.{sets, getD-take, getD-drop, length-sets}
@@ -16,9 +15,9 @@ use Rattle.stab.specs.declared.Place.{Place}
 use Rattle.stab.specs.declared.Place.the-variants.{Whole}
 use Rattle.stab.specs.declared.Refusal.{Refusal}
 use Rattle.stab.specs.declared.Refusal.the-variants.{Waiting}
-use Rattle.stab.specs.declared.Verdict.{Verdict}
-use Rattle.stab.specs.declared.Verdict.the-variants.{Accepted, Refused}
-use Rattle.stab.proofs.Bools.{some-unless, otherwise-some, otherwise-same}
+use Rattle.stab.specs.declared.Finding.{Finding}
+use Rattle.stab.specs.declared.Finding.the-variants.{Nothing, Found}
+use Rattle.stab.proofs.Bools.{found-unless, otherwise-found, otherwise-same}
 use Rattle.folds.proofs.Fronts.{sets-more}
 use Rattle.signed.specs.Numbers.{cleared}
 use Rattle.signed.proofs.Tables.{cleared-padded}
@@ -33,22 +32,21 @@ use Rattle.grow.proofs.Calls.{accepted-left}
 
 -- ---- what an answer says
 
-held-means : (x : Option Verdict) (S T : Tableau) (n l : ℕ) (shown : Bool) → growthBy x S T ≡ Held n l shown → x ≡ none
+held-means : (x : Finding) (S T : Tableau) (n l : ℕ) (shown : Bool) → growthBy x S T ≡ Held n l shown → x ≡ Nothing
 unfolding growthBy
-held-means none S T n l shown e = refl
-held-means (some (Refused why p)) S T n l shown e = let z : _≡_ {A = ℕ} 0 1 = cc in absurd (omega arith)
-held-means (some (Accepted a b)) S T n l shown e = let z : _≡_ {A = ℕ} 0 1 = cc in absurd (omega arith)
+held-means Nothing S T n l shown e = refl
+held-means (Found why p) S T n l shown e = let z : _≡_ {A = ℕ} 0 1 = cc in absurd (omega arith)
 
-refused-means : (x : Option Verdict) (S T : Tableau) (why : Refusal) (p : Place) (shown : Bool) → growthBy x S T ≡ GrowthRefused why p shown → (v : Verdict) × (x ≡ some v)
+refused-means : (x : Finding) (S T : Tableau) (why : Refusal) (p : Place) (shown : Bool) → growthBy x S T ≡ GrowthRefused why p shown → (w : Refusal) × (q : Place) × (x ≡ Found w q)
 unfolding growthBy
-refused-means none S T why p shown e = let z : _≡_ {A = ℕ} 0 1 = cc in absurd (omega arith)
-refused-means (some v) S T why p shown e = (v, refl)
+refused-means Nothing S T why p shown e = let z : _≡_ {A = ℕ} 0 1 = cc in absurd (omega arith)
+refused-means (Found w q) S T why p shown e = (w, q, refl)
 
-pub call-held : (T : Tableau) (call : Call) (n l : ℕ) (shown : Bool) → answered T call ≡ Held n l shown → callRefusal T call ≡ none
+pub call-held : (T : Tableau) (call : Call) (n l : ℕ) (shown : Bool) → answered T call ≡ Held n l shown → callRefusal T call ≡ Nothing
 unfolding answered
 call-held T call n l shown e = held-means (callRefusal T call) T (changed T call) n l shown e
 
-pub call-refused : (T : Tableau) (call : Call) (why : Refusal) (p : Place) (shown : Bool) → answered T call ≡ GrowthRefused why p shown → (v : Verdict) × (callRefusal T call ≡ some v)
+pub call-refused : (T : Tableau) (call : Call) (why : Refusal) (p : Place) (shown : Bool) → answered T call ≡ GrowthRefused why p shown → (w : Refusal) × (q : Place) × (callRefusal T call ≡ Found w q)
 unfolding answered
 call-refused T call why p shown e = refused-means (callRefusal T call) T (changed T call) why p shown e
 
@@ -58,18 +56,18 @@ pub enquiry-answer : (E : Editor) (w : NodeRow) → answered (E .held) (add w) �
 unfolding answered callRefusal changed editorAnswer editorRefusal spokenOf
 enquiry-answer E w = refl
 
-pub enquired-yes : (E : Editor) (w : NodeRow) → callRefusal (E .held) (add w) ≡ none → edited E (enquire w) ≡ (record { held = E .held; waiting = stored w })
+pub enquired-yes : (E : Editor) (w : NodeRow) → callRefusal (E .held) (add w) ≡ Nothing → edited E (enquire w) ≡ (record { held = E .held; waiting = stored w })
 unfolding callRefusal edited editorRefusal heldAfter leftBy waitingBy waitingAfter
 enquired-yes E w e i = record {
-  held = ap (λ (x : Option Verdict). leftBy x (E .held) (E .held)) e i;
-  waiting = ap (λ (x : Option Verdict). waitingBy x (E .waiting) (enquire w)) e i;
+  held = ap (λ (x : Finding). leftBy x (E .held) (E .held)) e i;
+  waiting = ap (λ (x : Finding). waitingBy x (E .waiting) (enquire w)) e i;
 }
 
-pub enquired-no : (E : Editor) (w : NodeRow) (v : Verdict) → callRefusal (E .held) (add w) ≡ some v → edited E (enquire w) ≡ (record { held = E .held; waiting = nothingWaits })
+pub enquired-no : (E : Editor) (w : NodeRow) (why : Refusal) (p : Place) → callRefusal (E .held) (add w) ≡ Found why p → edited E (enquire w) ≡ (record { held = E .held; waiting = nothingWaits })
 unfolding callRefusal edited editorRefusal heldAfter leftBy waitingBy waitingRefused
-enquired-no E w v e i = record {
-  held = ap (λ (x : Option Verdict). leftBy x (E .held) (E .held)) e i;
-  waiting = ap (λ (x : Option Verdict). waitingBy x (E .waiting) (enquire w)) e i;
+enquired-no E w why p e i = record {
+  held = ap (λ (x : Finding). leftBy x (E .held) (E .held)) e i;
+  waiting = ap (λ (x : Finding). waitingBy x (E .waiting) (enquire w)) e i;
 }
 
 -- ---- adding and taking back
@@ -91,24 +89,24 @@ same-spoken E takeBack = refl
 
 pub call-answer : (E : Editor) (call : Call) → answered (E .held) call ≡ editorAnswer E (grow call)
 unfolding answered editorAnswer
-call-answer E call = sym (ap₂ (λ (x : Option Verdict) (U : Tableau). growthBy x (E .held) U) (same-refusal E call) (same-spoken E call))
+call-answer E call = sym (ap₂ (λ (x : Finding) (U : Tableau). growthBy x (E .held) U) (same-refusal E call) (same-spoken E call))
 
 pub held-is : (E : Editor) (call : Call) → edited E (grow call) .held ≡ after (E .held) call
 unfolding edited after
-held-is E call = ap₂ (λ (x : Option Verdict) (U : Tableau). leftBy x (E .held) U) (same-refusal E call) (same-rows E call)
+held-is E call = ap₂ (λ (x : Finding) (U : Tableau). leftBy x (E .held) U) (same-refusal E call) (same-rows E call)
 
-pub called-yes : (E : Editor) (call : Call) → callRefusal (E .held) call ≡ none → edited E (grow call) ≡ (record { held = after (E .held) call; waiting = nothingWaits })
+pub called-yes : (E : Editor) (call : Call) → callRefusal (E .held) call ≡ Nothing → edited E (grow call) ≡ (record { held = after (E .held) call; waiting = nothingWaits })
 unfolding edited waitingBy waitingAfter
 called-yes E call e i = record {
   held = held-is E call i;
-  waiting = ap (λ (x : Option Verdict). waitingBy x (E .waiting) (grow call)) (same-refusal E call ∙ e) i;
+  waiting = ap (λ (x : Finding). waitingBy x (E .waiting) (grow call)) (same-refusal E call ∙ e) i;
 }
 
-pub called-no : (E : Editor) (call : Call) (v : Verdict) → callRefusal (E .held) call ≡ some v → edited E (grow call) ≡ (record { held = after (E .held) call; waiting = E .waiting })
+pub called-no : (E : Editor) (call : Call) (why : Refusal) (p : Place) → callRefusal (E .held) call ≡ Found why p → edited E (grow call) ≡ (record { held = after (E .held) call; waiting = E .waiting })
 unfolding edited waitingBy waitingRefused
-called-no E call v e i = record {
+called-no E call why p e i = record {
   held = held-is E call i;
-  waiting = ap (λ (x : Option Verdict). waitingBy x (E .waiting) (grow call)) (same-refusal E call ∙ e) i;
+  waiting = ap (λ (x : Finding). waitingBy x (E .waiting) (grow call)) (same-refusal E call ∙ e) i;
 }
 
 -- ---- commit
@@ -123,42 +121,42 @@ module _ (E : Editor) (h : waits (E .waiting) ≡ true) where
 
   pub commit-answer : answered (E .held) (add w) ≡ editorAnswer E commit
   unfolding answered changed editorAnswer editorRefusal spokenOf
-  commit-answer = sym (ap (λ (x : Option Verdict). growthBy x (E .held) (added (E .held) w)) judged)
+  commit-answer = sym (ap (λ (x : Finding). growthBy x (E .held) (added (E .held) w)) judged)
 
   held-as : edited E commit .held ≡ after (E .held) (add w)
   unfolding edited after editorRefusal heldAfter changed
-  held-as = ap (λ (x : Option Verdict). leftBy x (E .held) (added (E .held) w)) judged
+  held-as = ap (λ (x : Finding). leftBy x (E .held) (added (E .held) w)) judged
 
-  pub committed-yes : callRefusal (E .held) (add w) ≡ none → edited E commit ≡ (record { held = after (E .held) (add w); waiting = nothingWaits })
+  pub committed-yes : callRefusal (E .held) (add w) ≡ Nothing → edited E commit ≡ (record { held = after (E .held) (add w); waiting = nothingWaits })
   unfolding edited editorRefusal waitingBy waitingAfter
   committed-yes e i = record {
     held = held-as i;
-    waiting = ap (λ (x : Option Verdict). waitingBy x (E .waiting) commit) (judged ∙ e) i;
+    waiting = ap (λ (x : Finding). waitingBy x (E .waiting) commit) (judged ∙ e) i;
   }
 
-  pub committed-no : (v : Verdict) → callRefusal (E .held) (add w) ≡ some v → edited E commit ≡ (record { held = after (E .held) (add w); waiting = E .waiting })
+  pub committed-no : (why : Refusal) (p : Place) → callRefusal (E .held) (add w) ≡ Found why p → edited E commit ≡ (record { held = after (E .held) (add w); waiting = E .waiting })
   unfolding edited editorRefusal waitingBy waitingRefused
-  committed-no v e i = record {
+  committed-no why p e i = record {
     held = held-as i;
-    waiting = ap (λ (x : Option Verdict). waitingBy x (E .waiting) commit) (judged ∙ e) i;
+    waiting = ap (λ (x : Finding). waitingBy x (E .waiting) commit) (judged ∙ e) i;
   }
 
 module _ (E : Editor) (h : waits (E .waiting) ≡ false) where
-  pub nothing-waits : commitRefusal E ≡ (heldRefusal (E .held) otherwise some (Refused Waiting Whole))
+  pub nothing-waits : commitRefusal E ≡ (heldRefusal (E .held) otherwise Found Waiting Whole)
   unfolding commitRefusal wholeUnless
-  nothing-waits = otherwise-same (heldRefusal (E .held)) _ _ (λ e. otherwise-some _ _ _ (some-unless (waits (E .waiting)) _ h))
+  nothing-waits = otherwise-same (heldRefusal (E .held)) _ _ (λ e. otherwise-found _ _ (found-unless (waits (E .waiting)) _ _ h))
 
-  pub no-commit-answer : (r : Growth) → ((U : Tableau) → r ≡ growthBy (heldRefusal (E .held) otherwise some (Refused Waiting Whole)) (E .held) U) → r ≡ editorAnswer E commit
+  pub no-commit-answer : (r : Growth) → ((U : Tableau) → r ≡ growthBy (heldRefusal (E .held) otherwise Found Waiting Whole) (E .held) U) → r ≡ editorAnswer E commit
   unfolding editorAnswer editorRefusal
-  no-commit-answer r f = f (spokenOf E commit) ∙ ap (λ (x : Option Verdict). growthBy x (E .held) (spokenOf E commit)) (sym nothing-waits)
+  no-commit-answer r f = f (spokenOf E commit) ∙ ap (λ (x : Finding). growthBy x (E .held) (spokenOf E commit)) (sym nothing-waits)
 
   pub no-commit : edited E commit ≡ E
   unfolding edited editorRefusal leftBy waitingBy waitingRefused _otherwise_
   no-commit = go (heldRefusal (E .held)) nothing-waits
     where
-      go : (x : Option Verdict) → commitRefusal E ≡ (x otherwise some (Refused Waiting Whole)) → (record { held = leftBy (commitRefusal E) (E .held) (heldAfter E commit); waiting = waitingBy (commitRefusal E) (E .waiting) commit }) ≡ E
-      go none e = λ i. record { held = ap (λ (x : Option Verdict). leftBy x (E .held) (heldAfter E commit)) e i; waiting = ap (λ (x : Option Verdict). waitingBy x (E .waiting) commit) e i }
-      go (some v) e = λ i. record { held = ap (λ (x : Option Verdict). leftBy x (E .held) (heldAfter E commit)) e i; waiting = ap (λ (x : Option Verdict). waitingBy x (E .waiting) commit) e i }
+      go : (x : Finding) → commitRefusal E ≡ (x otherwise Found Waiting Whole) → (record { held = leftBy (commitRefusal E) (E .held) (heldAfter E commit); waiting = waitingBy (commitRefusal E) (E .waiting) commit }) ≡ E
+      go Nothing e = λ i. record { held = ap (λ (x : Finding). leftBy x (E .held) (heldAfter E commit)) e i; waiting = ap (λ (x : Finding). waitingBy x (E .waiting) commit) e i }
+      go (Found why p) e = λ i. record { held = ap (λ (x : Finding). leftBy x (E .held) (heldAfter E commit)) e i; waiting = ap (λ (x : Finding). waitingBy x (E .waiting) commit) e i }
 
 -- ---- the waiting row in its memory
 

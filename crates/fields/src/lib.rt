@@ -118,7 +118,15 @@ fn symbol_fits(
     }
     let on = node::natural_of(nodes, j, node::ON);
     let with = node::natural_of(nodes, j, node::WITH);
-    leaves::same_in(schema, h.schema_rows, proof, on, formula::A, with, formula::A)
+    leaves::same_in(
+        schema,
+        h.schema_rows,
+        proof,
+        on,
+        formula::A,
+        with,
+        formula::A,
+    )
 }
 
 // `on` and `with` are as the rule says.

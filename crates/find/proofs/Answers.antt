@@ -14,7 +14,7 @@ use lib.Seq.{take-at}
 use borrow.Author.Tests.{le-leb, lt-leb}
 use Rattle.stab.specs.Formula.{rowAt, tree}
 use Rattle.stab.specs.Meaning.{truth}
-use Rattle.stab.specs.Check.{finding, wholeUnless}
+use Rattle.stab.specs.Check.{wholeUnless}
 use Rattle.stab.specs.Occurs.{Wire, occurring, table}
 use Rattle.stab.specs.Text.{padded}
 use Rattle.stab.specs.declared.Finding.{Finding}
@@ -23,9 +23,7 @@ use Rattle.stab.specs.declared.Place.{Place}
 use Rattle.stab.specs.declared.Place.the-variants.{Whole}
 use Rattle.stab.specs.declared.Refusal.{Refusal}
 use Rattle.stab.specs.declared.Refusal.the-variants.{Wires}
-use Rattle.stab.specs.declared.Verdict.{Verdict}
-use Rattle.stab.specs.declared.Verdict.the-variants.{Accepted, Refused}
-use Rattle.stab.proofs.Bools.{if-true, none-unless, some-unless, otherwise-none, otherwise-some}
+use Rattle.stab.proofs.Bools.{if-true, nothing-unless, found-unless, otherwise-nothing, otherwise-found}
 use Rattle.found.specs.Find.{Query, formula, wires, among, holdsWith, firstModel, findRefusal, modelOr, foundBy, find, modelPairs, givenBy, given, foundTable}
 use Rattle.found.specs.Number.{numbered, leastBelow, leastOr}
 use Rattle.found.specs.Keys.{keysOf}
@@ -96,77 +94,74 @@ module _ (schema : List ℤ) (root n count r : ℕ) (long : count ≡ length (oc
 -- ---- the answer
 
 module _ (Q : Query) where
-  over-refusal : 16 < length (wires Q) → wiresRefusal Q ≡ some (Refused Wires Whole)
+  over-refusal : 16 < length (wires Q) → wiresRefusal Q ≡ Found Wires Whole
   unfolding wiresRefusal wholeUnless
-  over-refusal h = some-unless (leb (length (wires Q)) 16) _ (lt-leb (length (wires Q)) 16 h)
+  over-refusal h = found-unless (leb (length (wires Q)) 16) _ _ (lt-leb (length (wires Q)) 16 h)
 
-  few-refusal : length (wires Q) ≤ 16 → wiresRefusal Q ≡ none
+  few-refusal : length (wires Q) ≤ 16 → wiresRefusal Q ≡ Nothing
   unfolding wiresRefusal wholeUnless
-  few-refusal h = none-unless (leb (length (wires Q)) 16) _ (le-leb (length (wires Q)) 16 h)
+  few-refusal h = nothing-unless (leb (length (wires Q)) 16) _ _ (le-leb (length (wires Q)) 16 h)
 
   pub answer-over : 16 < length (wires Q) → FindRefused Wires Whole ≡ foundBy (wiresRefusal Q) Q
   unfolding foundBy
-  answer-over h = sym (ap (λ (x : Option Verdict). foundBy x Q) (over-refusal h))
+  answer-over h = sym (ap (λ (x : Finding). foundBy x Q) (over-refusal h))
 
   pub given-over : 16 < length (wires Q) → givenBy (wiresRefusal Q) Q ≡ []
   unfolding givenBy
-  given-over h = ap (λ (x : Option Verdict). givenBy x Q) (over-refusal h)
+  given-over h = ap (λ (x : Finding). givenBy x Q) (over-refusal h)
 
   module _ (h : length (wires Q) ≤ 16) (x : Option (List Wire)) (e : firstModel Q ≡ x) where
     pub answer-few : modelOr (Q .n) x ≡ foundBy (wiresRefusal Q) Q
     unfolding foundBy
-    answer-few = sym (ap (λ (y : Option Verdict). foundBy y Q) (few-refusal h) ∙ ap (modelOr (Q .n)) e)
+    answer-few = sym (ap (λ (y : Finding). foundBy y Q) (few-refusal h) ∙ ap (modelOr (Q .n)) e)
 
     pub given-few : givenBy (wiresRefusal Q) Q ≡ modelPairs x
     unfolding givenBy
-    given-few = ap (λ (y : Option Verdict). givenBy y Q) (few-refusal h) ∙ ap modelPairs e
+    given-few = ap (λ (y : Finding). givenBy y Q) (few-refusal h) ∙ ap modelPairs e
 
 -- ---- the whole search
 
-module _ (Q : Query) (f : Finding) (e : finding f ≡ queryRefusal Q) where
+module _ (Q : Query) (f : Finding) (e : f ≡ queryRefusal Q) where
   -- something is found before the pairs are counted
   module _ (why : Refusal) (p : Place) (h : f ≡ Found why p) where
-    refusal-is : findRefusal Q ≡ some (Refused why p)
-    unfolding finding
-    refusal-is = find-is Q ∙ otherwise-some (queryRefusal Q) (wiresRefusal Q) (Refused why p) (sym e ∙ ap finding h)
+    refusal-is : findRefusal Q ≡ Found why p
+    refusal-is = find-is Q ∙ otherwise-found (queryRefusal Q) (wiresRefusal Q) (sym e ∙ h)
 
     pub refused-is : FindRefused why p ≡ find Q
     unfolding find foundBy
-    refused-is = sym (ap (λ (x : Option Verdict). foundBy x Q) refusal-is)
+    refused-is = sym (ap (λ (x : Finding). foundBy x Q) refusal-is)
 
     pub refused-table : padded (pos 0) (Q .room) [] ≡ foundTable Q
     unfolding foundTable given givenBy table
-    refused-table = sym (ap (λ (x : Option Verdict). padded (pos 0) (Q .room) (table (givenBy x Q))) refusal-is)
+    refused-table = sym (ap (λ (x : Finding). padded (pos 0) (Q .room) (table (givenBy x Q))) refusal-is)
 
   -- nothing is
   module _ (h : f ≡ Nothing) where
-    pub query-none : queryRefusal Q ≡ none
-    unfolding finding
-    query-none = sym e ∙ ap finding h
+    pub query-none : queryRefusal Q ≡ Nothing
+    query-none = sym e ∙ h
 
     later-is : findRefusal Q ≡ wiresRefusal Q
-    later-is = find-is Q ∙ otherwise-none (queryRefusal Q) (wiresRefusal Q) query-none
+    later-is = find-is Q ∙ otherwise-nothing (queryRefusal Q) (wiresRefusal Q) query-none
 
     pub searched-is : foundBy (wiresRefusal Q) Q ≡ find Q
     unfolding find
-    searched-is = ap (λ (x : Option Verdict). foundBy x Q) (sym later-is)
+    searched-is = ap (λ (x : Finding). foundBy x Q) (sym later-is)
 
     pub searched-table : padded (pos 0) (Q .room) (table (givenBy (wiresRefusal Q) Q)) ≡ foundTable Q
     unfolding foundTable given
-    searched-table = ap (λ (x : Option Verdict). padded (pos 0) (Q .room) (table (givenBy x Q))) (sym later-is)
+    searched-table = ap (λ (x : Finding). padded (pos 0) (Q .room) (table (givenBy x Q))) (sym later-is)
 
 -- the search reads the schema, its root, n and the room
 module _ (Q : Query) where
-  found-same : (x : Option Verdict) → foundBy x (asked (Q .schema) (Q .root) (Q .n) (Q .room)) ≡ foundBy x Q
+  found-same : (x : Finding) → foundBy x (asked (Q .schema) (Q .root) (Q .n) (Q .room)) ≡ foundBy x Q
   unfolding foundBy firstModel holdsWith wires formula
-  found-same none = refl
-  found-same (some (Accepted nodes links)) = refl
-  found-same (some (Refused why p)) = refl
+  found-same Nothing = refl
+  found-same (Found why p) = refl
 
-  given-same : (x : Option Verdict) → givenBy x (asked (Q .schema) (Q .root) (Q .n) (Q .room)) ≡ givenBy x Q
+  given-same : (x : Finding) → givenBy x (asked (Q .schema) (Q .root) (Q .n) (Q .room)) ≡ givenBy x Q
   unfolding givenBy firstModel holdsWith wires formula
-  given-same none = refl
-  given-same (some v) = refl
+  given-same Nothing = refl
+  given-same (Found why p) = refl
 
   pub asked-found : foundBy (wiresRefusal (asked (Q .schema) (Q .root) (Q .n) (Q .room))) (asked (Q .schema) (Q .root) (Q .n) (Q .room)) ≡ foundBy (wiresRefusal Q) Q
   unfolding wiresRefusal wires formula

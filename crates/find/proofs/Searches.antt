@@ -4,23 +4,20 @@ use native.Mathlib.Omega.{arith}
 use mathlib.Core.Path.{_≡_, sym, _∙_, ap}
 use mathlib.Core.Bool.{Bool, true, false}
 use mathlib.Core.List.{List}
-use mathlib.Core.Option.{Option, none, some}
 use lib.Dec.{leb}
 use lib.IntN.{ℤ, pos}
 use lib.Signed.{leZ}
 use lib.ListN.{length}
 use Rattle.stab.specs.Basic.{_and_, _otherwise_}
 use Rattle.stab.specs.Formula.{rowAt}
-use Rattle.stab.specs.Check.{finding, wholeUnless, atUnless, holds, formulasRefusal}
+use Rattle.stab.specs.Check.{wholeUnless, atUnless, holds, formulasRefusal}
 use Rattle.stab.specs.declared.Place.{Place}
 use Rattle.stab.specs.declared.Place.the-variants.{At}
 use Rattle.stab.specs.declared.Refusal.{Refusal}
 use Rattle.stab.specs.declared.Refusal.the-variants.{TableTooShort, TooMany, Width}
 use Rattle.stab.specs.declared.Finding.{Finding}
-use Rattle.stab.specs.declared.Finding.the-variants.{Found}
-use Rattle.stab.specs.declared.Verdict.{Verdict}
-use Rattle.stab.specs.declared.Verdict.the-variants.{Refused}
-use Rattle.stab.proofs.Bools.{none-unless, some-unless, unless-none, otherwise-first, otherwise-second, otherwise-none, otherwise-some}
+use Rattle.stab.specs.declared.Finding.the-variants.{Nothing, Found}
+use Rattle.stab.proofs.Bools.{nothing-unless, found-unless, unless-nothing, otherwise-first, otherwise-second, otherwise-nothing, otherwise-found}
 use Rattle.stab.proofs.Findings.{otherwise-assoc}
 use Rattle.stab.proofs.Tests.{_clears_, _then_, le-tests, at-clears, whole-clears}
 use Rattle.formula.specs.Rows.{Passed}
@@ -31,20 +28,19 @@ use Rattle.find.specs.Search.{tablesRefusal, queryRefusal, wiresRefusal,
 
 -- ---- refusals
 
-module _ (ok : Bool) (why : Refusal) (k : ℕ) (rest : Option Verdict) where
-  pub at-here : ok ≡ false → finding (Found why (At k)) ≡ (atUnless ok why k otherwise rest)
-  unfolding finding atUnless
-  at-here h = sym (otherwise-some (atUnless ok why k) rest _ (some-unless ok _ h))
-
-  pub at-later : (x : Option Verdict) → ok ≡ true → x ≡ rest → x ≡ (atUnless ok why k otherwise rest)
+module _ (ok : Bool) (why : Refusal) (k : ℕ) (rest : Finding) where
+  pub at-here : ok ≡ false → (Found why (At k)) ≡ (atUnless ok why k otherwise rest)
   unfolding atUnless
-  at-later x h e = e ∙ sym (otherwise-none (atUnless ok why k) rest (none-unless ok _ h))
+  at-here h = sym (otherwise-found (atUnless ok why k) rest (found-unless ok _ _ h))
+
+  pub at-later : (x : Finding) → ok ≡ true → x ≡ rest → x ≡ (atUnless ok why k otherwise rest)
+  unfolding atUnless
+  at-later x h e = e ∙ sym (otherwise-nothing (atUnless ok why k) rest (nothing-unless ok _ _ h))
 
 -- what is found is not nothing
-pub found-some : (f : Finding) (x : Option Verdict) (why : Refusal) (p : Place) → finding f ≡ x → f ≡ Found why p → x ≡ none → ⊥
-unfolding finding
+pub found-some : (f : Finding) (x : Finding) (why : Refusal) (p : Place) → f ≡ x → f ≡ Found why p → x ≡ Nothing → ⊥
 found-some f x why p e h n =
-    let found : some (Refused why p) ≡ none = sym (ap finding h) ∙ e ∙ n in
+    let found : Found why p ≡ Nothing = sym (h) ∙ e ∙ n in
     let z : _≡_ {A = ℕ} 0 1 = cc in
     omega arith
 
@@ -66,25 +62,25 @@ find-is Q =
     let x = wiresRefusal Q in
     sym
     (otherwise-assoc (a otherwise (b otherwise c)) (f otherwise w) x
-    ∙ ap (λ (y : Option Verdict). (a otherwise (b otherwise c)) otherwise y) (otherwise-assoc f w x)
+    ∙ ap (λ (y : Finding). (a otherwise (b otherwise c)) otherwise y) (otherwise-assoc f w x)
     ∙ otherwise-assoc a (b otherwise c) _
-    ∙ ap (λ (y : Option Verdict). a otherwise y) (otherwise-assoc b c _))
+    ∙ ap (λ (y : Finding). a otherwise y) (otherwise-assoc b c _))
 
 -- ---- what holds of a query that has passed
 
-module _ (Q : Query) (h : queryRefusal Q ≡ none) where
-  tables-none : tablesRefusal (Q .room) (Q .schema) (Q .schemaRows) ≡ none
+module _ (Q : Query) (h : queryRefusal Q ≡ Nothing) where
+  tables-none : tablesRefusal (Q .room) (Q .schema) (Q .schemaRows) ≡ Nothing
   unfolding queryRefusal
   tables-none = otherwise-first _ _ h
 
-  pub formulas-none : formulasRefusal (rowAt (Q .schema)) (Q .schemaRows) (Q .schemaRows) (Q .root) (Q .least) ≡ none
+  pub formulas-none : formulasRefusal (rowAt (Q .schema)) (Q .schemaRows) (Q .schemaRows) (Q .root) (Q .least) ≡ Nothing
   unfolding queryRefusal
   formulas-none = otherwise-first _ _ (otherwise-second (tablesRefusal (Q .room) (Q .schema) (Q .schemaRows)) _ h)
 
   width-in : (leZ (Q .least) (Q .n) and leZ (Q .n) (pos 9999)) ≡ true
   unfolding queryRefusal wholeUnless
   width-in =
-      unless-none _ _
+      unless-nothing _ _ _
       (otherwise-second (formulasRefusal (rowAt (Q .schema)) (Q .schemaRows) (Q .schemaRows) (Q .root) (Q .least)) _
       (otherwise-second (tablesRefusal (Q .room) (Q .schema) (Q .schemaRows)) _ h))
 

@@ -13,7 +13,7 @@ use Rattle.stab.specs.Meaning.{truth}
 use Rattle.stab.specs.Check.{wholeUnless, atUnless, holds, formulasRefusal}
 use Rattle.stab.specs.Occurs.{Wire, occurring}
 use Rattle.stab.specs.declared.Refusal.the-variants.{TableTooShort, TooMany, Width, Wires}
-use Rattle.stab.specs.declared.Verdict.{Verdict}
+use Rattle.stab.specs.declared.Finding.{Finding}
 use Rattle.formula.specs.Rows.{Passed}
 use Rattle.pairs.specs.Index.{unbiased}
 use Rattle.found.specs.Find.{Query, wires, among, firstFrom}
@@ -21,21 +21,21 @@ use Rattle.found.specs.Find.{Query, wires, among, firstFrom}
 -- ---- refusals
 
 -- 2 and 5
-unfoldable pub tablesRefusal : ℕ → List ℤ → ℕ → Option Verdict
+unfoldable pub tablesRefusal : ℕ → List ℤ → ℕ → Finding
 tablesRefusal room schema s =
     atUnless (leb 8192 room) TableTooShort 0 otherwise
     wholeUnless (holds schema 4 s) TableTooShort otherwise
     wholeUnless (leb s 1024) TooMany
 
 -- those before 30
-unfoldable pub queryRefusal : Query → Option Verdict
+unfoldable pub queryRefusal : Query → Finding
 queryRefusal Q =
     tablesRefusal (Q .room) (Q .schema) (Q .schemaRows) otherwise
     formulasRefusal (rowAt (Q .schema)) (Q .schemaRows) (Q .schemaRows) (Q .root) (Q .least) otherwise
     wholeUnless (leZ (Q .least) (Q .n) and leZ (Q .n) (pos 9999)) Width
 
 -- 30
-unfoldable pub wiresRefusal : Query → Option Verdict
+unfoldable pub wiresRefusal : Query → Finding
 wiresRefusal Q = wholeUnless (leb (length (wires Q)) 16) Wires
 
 -- what the search asks of a query that has passed so far, and of what is kept of its rows

@@ -4,14 +4,13 @@ use stab::Finding;
 use stab::Place;
 use stab::Refusal;
 ghost use mathlib.Core.Path.{_≡_};
-ghost use mathlib.Core.Option.{none};
 ghost use Prim.Native.Nat.{_+_, _*_, _<_, _≤_};
 ghost use lib.IntN.{pos};
 ghost use lib.ListN.{length, take, getD};
 ghost use Rattle.stab.specs.Basic.{if_then_else_};
-ghost use Rattle.stab.specs.Check.{finding};
 ghost use Rattle.stab.specs.Occurs.{table as wireTable};
 ghost use Rattle.stab.specs.Text.{padded};
+ghost use Rattle.stab.specs.declared.Finding.the-variants.{Nothing, Found};
 ghost use Rattle.pairs.specs.Index.{unbiased};
 ghost use Rattle.found.specs.Find.{find, modelOr, foundBy, modelPairs, givenBy, foundTable};
 ghost use Rattle.found.specs.Number.{numbered};
@@ -22,7 +21,7 @@ ghost use Rattle.find.specs.Search.{tablesRefusal, queryRefusal, wiresRe
 
 // Refusals 2 and 5.
 fn tables_pass(room: usize, schema: &[i32], schema_rows: usize) -> Finding
-    ensures { λ r. ⌜ finding r ≡ tablesRefusal room (now (schema .entry)) «schema_rows» ⌝ }
+    ensures { λ r. ⌜ r ≡ tablesRefusal room (now (schema .entry)) «schema_rows» ⌝ }
 {
     if room < 8192 {
         return Finding::Found {
@@ -50,8 +49,8 @@ fn query_pass(
     facts: &mut [u32],
 ) -> Finding
     requires { ⌜ 4096 ≤ length (now facts) ⌝ }
-    ensures { λ r. ⌜ finding r ≡ queryRefusal (record { schema = now (schema .entry); schemaRows = «schema_rows»; root = root; least = least; n = n; room = room }) ⌝ }
-    ensures { λ r. ⌜ (queryRefusal (record { schema = now (schema .entry); schemaRows = «schema_rows»; root = root; least = least; n = n; room = room }) ≡ none → Ready (now (schema .entry)) (now (facts .exit)) root n room) ⌝ }
+    ensures { λ r. ⌜ r ≡ queryRefusal (record { schema = now (schema .entry); schemaRows = «schema_rows»; root = root; least = least; n = n; room = room }) ⌝ }
+    ensures { λ r. ⌜ (queryRefusal (record { schema = now (schema .entry); schemaRows = «schema_rows»; root = root; least = least; n = n; room = room }) ≡ Nothing → Ready (now (schema .entry)) (now (facts .exit)) root n room) ⌝ }
 {
     let found = tables_pass(room, schema, schema_rows);
     let Finding::Nothing = found else {

@@ -5,13 +5,14 @@ use mathlib.Core.Path.{_≡_, refl, sym, _∙_, ap, ap₂, subst}
 use mathlib.Core.Logic.{⊎-elim}
 use mathlib.Core.Bool.{true, false, false≢true}
 use mathlib.Core.List.{List}
-use mathlib.Core.Option.{Option, none, some}
+use mathlib.Core.Option.{Option, none, some, orElse}
 use lib.ListN.{getD}
-use Rattle.stab.specs.Basic.{if_then_else_, _or_, _otherwise_, scan}
+use Rattle.stab.specs.Basic.{if_then_else_, _or_, first}
 use Rattle.stab.specs.Formula.{Row}
 use Rattle.stab.specs.Check.{sameRow, standsBefore}
-use Rattle.stab.proofs.Bools.{decide, or-first-false, or-false-left, or-false-right, if-true, if-false, otherwise-none, otherwise-some}
-use Rattle.stab.proofs.Scans.{below-suc, scan-same}
+use Rattle.stab.proofs.Bools.{decide, or-first-false, or-false-left, or-false-right, if-true, if-false}
+use Rattle.stab.proofs.Scans.{below-suc}
+use Rattle.stab.proofs.Firsts.{else-none, else-some, search-same}
 use Rattle.repeats.specs.Places.{placeOf, Leads, Linked}
 use Rattle.tidied.specs.Tidied.{earliest}
 use Rattle.tidied.proofs.Foldings.{earliest-some}
@@ -19,37 +20,37 @@ use Rattle.folds.specs.Folds.{rowOr}
 
 -- ---- what is found, or a number
 
-or-this : (o : Option ℕ) (best q : ℕ) → rowOr best (o otherwise some q) ≡ rowOr q o
-unfolding rowOr _otherwise_
+or-this : (o : Option ℕ) (best q : ℕ) → rowOr best (orElse o (some q)) ≡ rowOr q o
+unfolding rowOr orElse
 or-this none best q = refl
 or-this (some x) best q = refl
 
-or-none : (o : Option ℕ) → (o otherwise none) ≡ o
-unfolding _otherwise_
+or-none : (o : Option ℕ) → orElse o none ≡ o
+unfolding orElse
 or-none none = refl
 or-none (some x) = refl
 
 -- ---- the earliest row
 
 module _ (rows : ℕ → Row) (w : Row) where
-  earliest-more : (n : ℕ) → earliest rows (suc n) w ≡ (earliest rows n w otherwise (if sameRow (rows n) w then some n else none))
-  unfolding earliest scan
+  earliest-more : (n : ℕ) → earliest rows (suc n) w ≡ orElse (earliest rows n w) (if sameRow (rows n) w then some n else none)
+  unfolding earliest first
   earliest-more n = refl
 
   earliest-stays : (n x : ℕ) → earliest rows n w ≡ some x → (m : ℕ) → n ≤ m → earliest rows m w ≡ some x
   earliest-stays n x h zero l = let e : n ≡ zero = omega arith in subst (λ (k : ℕ). earliest rows k w ≡ some x) e h
   earliest-stays n x h (suc m) l =
       ⊎-elim
-      (λ p. earliest-more m ∙ otherwise-some _ _ x (earliest-stays n x h m (omega arith)))
+      (λ p. earliest-more m ∙ else-some _ _ x (earliest-stays n x h m (omega arith)))
       (λ e. subst (λ (k : ℕ). earliest rows k w ≡ some x) e h)
       (below-suc n (suc m) (omega arith))
 
   stands-none : (n : ℕ) → standsBefore rows n w ≡ false → earliest rows n w ≡ none
   unfolding standsBefore
-  stands-none zero h = unfold earliest scan in refl
+  stands-none zero h = unfold earliest first in refl
   stands-none (suc n) h =
       earliest-more n
-      ∙ otherwise-none _ _ (stands-none n (or-false-left _ _ h))
+      ∙ else-none _ _ (stands-none n (or-false-left _ _ h))
       ∙ if-false (sameRow (rows n) w) _ _ (or-false-right (standsBefore rows n w) _ h)
 
   stands-some : (n : ℕ) → standsBefore rows n w ≡ true → (x : ℕ) × (earliest rows n w ≡ some x)
@@ -58,7 +59,7 @@ module _ (rows : ℕ → Row) (w : Row) where
   stands-some (suc n) h =
       ⊎-elim
       (λ t. let s = stands-some n t in (s .0, earliest-stays n (s .0) (s .1) (suc n) (omega arith)))
-      (λ t. (n, earliest-more n ∙ otherwise-none _ _ (stands-none n t) ∙ if-true (sameRow (rows n) w) _ _ (sym (or-first-false _ _ t) ∙ h)))
+      (λ t. (n, earliest-more n ∙ else-none _ _ (stands-none n t) ∙ if-true (sameRow (rows n) w) _ _ (sym (or-first-false _ _ t) ∙ h)))
       (decide (standsBefore rows n w))
 
   -- the links lead to it
@@ -109,7 +110,7 @@ module _ (rows : ℕ → Row) (r : ℕ) where
   walk-start v l = record { within = l .within; of-place = l .of-place; finds = ap (rowOr r) (leads-earliest rows (rows r) r v l) }
 
   pub walk-end : (best rest : ℕ) → rest ≤ 0 → Walk rows r best rest → best ≡ rowOr r (earliest rows r (rows r))
-  unfolding rowOr earliest scan
+  unfolding rowOr earliest first
   walk-end best zero h k = sym (k .finds)
   walk-end best (suc n) h k = absurd (omega arith)
 
@@ -118,24 +119,24 @@ module _ (rows : ℕ → Row) (r : ℕ) where
     last = omega arith
 
     -- with the row that is looked at
-    here : earliest rows rest (rows r) ≡ (earliest rows u (rows r) otherwise (if sameRow (rows (rest - 1)) (rows r) then some (rest - 1) else none))
+    here : earliest rows rest (rows r) ≡ orElse (earliest rows u (rows r)) (if sameRow (rows (rest - 1)) (rows r) then some (rest - 1) else none)
     here =
         ap (λ (n : ℕ). earliest rows n (rows r)) last
         ∙ earliest-more rows (rows r) (rest - 1)
-        ∙ ap (λ (o : Option ℕ). o otherwise (if sameRow (rows (rest - 1)) (rows r) then some (rest - 1) else none)) (leads-earliest rows (rows r) (rest - 1) u l)
+        ∙ ap (λ (o : Option ℕ). orElse o (if sameRow (rows (rest - 1)) (rows r) then some (rest - 1) else none)) (leads-earliest rows (rows r) (rest - 1) u l)
 
     pub walk-found : sameRow (rows (rest - 1)) (rows r) ≡ true → Walk rows r (rest - 1) u
     walk-found h = record {
       within = omega (arith, l .within, k .within);
       of-place = l .of-place;
-      finds = k .finds ∙ ap (rowOr best) (here ∙ ap (λ (o : Option ℕ). earliest rows u (rows r) otherwise o) (if-true (sameRow (rows (rest - 1)) (rows r)) _ _ h)) ∙ or-this (earliest rows u (rows r)) best (rest - 1);
+      finds = k .finds ∙ ap (rowOr best) (here ∙ ap (λ (o : Option ℕ). orElse (earliest rows u (rows r)) o) (if-true (sameRow (rows (rest - 1)) (rows r)) _ _ h)) ∙ or-this (earliest rows u (rows r)) best (rest - 1);
     }
 
     pub walk-on : sameRow (rows (rest - 1)) (rows r) ≡ false → Walk rows r best u
     walk-on h = record {
       within = omega (arith, l .within, k .within);
       of-place = l .of-place;
-      finds = k .finds ∙ ap (rowOr best) (here ∙ ap (λ (o : Option ℕ). earliest rows u (rows r) otherwise o) (if-false (sameRow (rows (rest - 1)) (rows r)) _ _ h) ∙ or-none (earliest rows u (rows r)));
+      finds = k .finds ∙ ap (rowOr best) (here ∙ ap (λ (o : Option ℕ). orElse (earliest rows u (rows r)) o) (if-false (sameRow (rows (rest - 1)) (rows r)) _ _ h) ∙ or-none (earliest rows u (rows r)));
     }
 
 -- ---- rows that agree below n
@@ -143,7 +144,7 @@ module _ (rows : ℕ → Row) (r : ℕ) where
 module _ (rows rows′ : ℕ → Row) (n : ℕ) (agree : (q : ℕ) → q < n → rows q ≡ rows′ q) where
   pub earliest-agree : (w : Row) → earliest rows n w ≡ earliest rows′ n w
   unfolding earliest
-  earliest-agree w = scan-same _ _ n (λ k l _. ap (λ (v : Row). if sameRow v w then some k else none) (agree k l))
+  earliest-agree w = search-same _ _ n (λ k l. ap (λ (v : Row). if sameRow v w then some k else none) (agree k l))
 
   stands-agree : (w : Row) (m : ℕ) → m ≤ n → standsBefore rows m w ≡ standsBefore rows′ m w
   unfolding standsBefore

@@ -6,7 +6,6 @@ use mathlib.Core.Path.{_≡_, refl, sym, _∙_, ap, ap₂, subst}
 use mathlib.Core.Bool.{Bool, true, false, false≢true, not}
 use mathlib.Core.Logic.{_⊎_, inl, inr, ⊎-elim}
 use mathlib.Core.List.{List}
-use mathlib.Core.Option.{Option, none, some, Option·some-ne-none}
 use lib.Dec.{eqb, leb, ltb, leb·zero, leb·suc-suc}
 use lib.ListN.{length}
 use lib.IntN.{ℤ, pos, negsuc, negℤ}
@@ -17,9 +16,11 @@ use Rattle.stab.specs.Formula.{Row, Op, conj, disj, Kind, constant, literal, ju
 use Rattle.stab.specs.Check.{atUnless, wholeUnless, rowRefusal, rootFits}
 use Rattle.stab.specs.declared.Place.the-variants.{Whole, At}
 use Rattle.stab.specs.declared.Refusal.the-variants.{Root, IllFormed, TooLarge}
-use Rattle.stab.specs.declared.Verdict.{Verdict}
-use Rattle.stab.specs.declared.Verdict.the-variants.{Refused}
-use Rattle.stab.proofs.Bools.{decide, and-both, and-left, and-right, and-first-false, if-true, if-false, not-of-false, not-of-true, false-of-not, true-of-not, otherwise-none, otherwise-some, otherwise-first, otherwise-second, none-unless, some-unless, unless-none}
+use Rattle.stab.specs.declared.Finding.{Finding}
+use Rattle.stab.specs.declared.Finding.the-variants.{Nothing, Found}
+use Rattle.stab.specs.declared.Refusal.{Refusal}
+use Rattle.stab.specs.declared.Place.{Place}
+use Rattle.stab.proofs.Bools.{decide, and-both, and-left, and-right, and-first-false, if-true, if-false, not-of-false, not-of-true, false-of-not, true-of-not, otherwise-nothing, otherwise-found, otherwise-first, otherwise-second, nothing-unless, found-unless, unless-nothing, found≢nothing}
 use Rattle.stab.proofs.Whole.{num, of-eq, eqZ-of, eqZ-not, nat-pos, at-least-0, below-0}
 use Rattle.stab.proofs.Scans.{below-suc, scan-found}
 use Rattle.stab.proofs.Decoded.{decoded, junction-tree, iteration-tree}
@@ -322,29 +323,29 @@ module _ (rows : ℕ → Row) (facts : List ℕ) (r : ℕ) (passed : Passed rows
 -- ---- what is found at a row
 
 -- where something is found, nothing is kept
-pub none-kept : {o : Option Verdict} {x : Verdict} (facts : List ℕ) (r : ℕ) (f : Facts) → some x ≡ o → facts ≡ keptIf o facts r f
+pub none-kept : {o : Finding} {why : Refusal} {p : Place} (facts : List ℕ) (r : ℕ) (f : Facts) → Found why p ≡ o → facts ≡ keptIf o facts r f
 unfolding keptIf
-none-kept facts r f h = ap (λ (o : Option Verdict). keptIf o facts r f) h
+none-kept facts r f h = ap (λ (o : Finding). keptIf o facts r f) h
 
 module _ (facts : List ℕ) (r : ℕ) {j : Judged} where
-  pub ill-found : j ≡ Ill → (some (Refused IllFormed (At r)) ≡ judgedRefusal j r) × (facts ≡ keptJudged j facts r)
+  pub ill-found : j ≡ Ill → (Found IllFormed (At r) ≡ judgedRefusal j r) × (facts ≡ keptJudged j facts r)
   unfolding judgedRefusal keptJudged
   ill-found e = (ap (λ (i : Judged). judgedRefusal i r) (sym e), ap (λ (i : Judged). keptJudged i facts r) (sym e))
 
   module _ (f : Facts) (e : j ≡ Formed f) where
-    pub large-found : (leb (f .size) 4096 and leb (f .depth) 64) ≡ false → (some (Refused TooLarge (At r)) ≡ judgedRefusal j r) × (facts ≡ keptJudged j facts r)
+    pub large-found : (leb (f .size) 4096 and leb (f .depth) 64) ≡ false → (Found TooLarge (At r) ≡ judgedRefusal j r) × (facts ≡ keptJudged j facts r)
     unfolding judgedRefusal keptJudged atUnless
     large-found h =
-        let found = sym (some-unless (leb (f .size) 4096 and leb (f .depth) 64) (Refused TooLarge (At r)) h) in
+        let found = sym (found-unless (leb (f .size) 4096 and leb (f .depth) 64) _ _ h) in
         (found ∙ ap (λ (i : Judged). judgedRefusal i r) (sym e), none-kept facts r f found ∙ ap (λ (i : Judged). keptJudged i facts r) (sym e))
 
-    pub small-found : f .size ≤ 4096 → f .depth ≤ 64 → (none ≡ judgedRefusal j r) × (keptFacts facts r f ≡ keptJudged j facts r)
+    pub small-found : f .size ≤ 4096 → f .depth ≤ 64 → (Nothing ≡ judgedRefusal j r) × (keptFacts facts r f ≡ keptJudged j facts r)
     unfolding judgedRefusal keptJudged atUnless keptIf
     small-found p q =
         let h = and-both _ _ (le-leb (f .size) 4096 p) (le-leb (f .depth) 64 q) in
-        let found = sym (none-unless (leb (f .size) 4096 and leb (f .depth) 64) (Refused TooLarge (At r)) h) in (
+        let found = sym (nothing-unless (leb (f .size) 4096 and leb (f .depth) 64) _ _ h) in (
           found ∙ ap (λ (i : Judged). judgedRefusal i r) (sym e),
-          ap (λ (o : Option Verdict). keptIf o facts r f) found ∙ ap (λ (i : Judged). keptJudged i facts r) (sym e),
+          ap (λ (o : Finding). keptIf o facts r f) found ∙ ap (λ (i : Judged). keptJudged i facts r) (sym e),
         )
 
 module _ (ok : Bool) (f : Facts) (r : ℕ) where
@@ -373,16 +374,16 @@ module _ (rows : ℕ → Row) (r : ℕ) where
   unfolding judged
   row-kept facts =
       judged-kept (wellFormed rows r) (factsOf (tree rows r)) r facts
-      ∙ ap (λ (o : Option Verdict). keptIf o facts r (factsOf (tree rows r))) row-found
+      ∙ ap (λ (o : Finding). keptIf o facts r (factsOf (tree rows r))) row-found
 
-  module _ (h : rowRefusal rows r ≡ none) where
+  module _ (h : rowRefusal rows r ≡ Nothing) where
     row-formed : wellFormed rows r ≡ true
     unfolding rowRefusal atUnless
-    row-formed = unless-none _ _ (otherwise-first _ _ h)
+    row-formed = unless-nothing _ _ _ (otherwise-first _ _ h)
 
     row-small : smallEnough rows r ≡ true
     unfolding rowRefusal atUnless
-    row-small = unless-none _ _ (otherwise-second (unless (wellFormed rows r) _) _ h)
+    row-small = unless-nothing _ _ _ (otherwise-second (unless (wellFormed rows r) _ _) _ h)
 
 -- ---- one row more
 
@@ -429,12 +430,12 @@ passed-none rows facts =
       small = λ a l. absurd (omega arith);
     }
 
-pub passed-more : (rows : ℕ → Row) (facts : List ℕ) (r : ℕ) → Passed rows facts r → 4 * r + 3 < length facts → rowRefusal rows r ≡ none
+pub passed-more : (rows : ℕ → Row) (facts : List ℕ) (r : ℕ) → Passed rows facts r → 4 * r + 3 < length facts → rowRefusal rows r ≡ Nothing
     → Passed rows (keptIf (rowRefusal rows r) facts r (factsOf (tree rows r))) (r + 1)
 unfolding keptIf
 passed-more rows facts r passed room h =
     let f = factsOf (tree rows r) in
-    subst (λ (o : Option Verdict). Passed rows (keptIf o facts r f) (r + 1)) (sym h)
+    subst (λ (o : Finding). Passed rows (keptIf o facts r f) (r + 1)) (sym h)
     record {
       room = omega (arith, kept-length facts r (f .size) (f .depth) (f .loose) (f .fixed));
       known =
@@ -446,63 +447,63 @@ passed-more rows facts r passed room h =
     }
 
 -- a refusal is not nothing
-pub never : {A : Type 0} {o : Option Verdict} {x : Verdict} → some x ≡ o → o ≡ none → A
-never {A} {o} {x} p q = absurd (Option·some-ne-none x (p ∙ q))
+pub never : {A : Type 0} {o : Finding} {why : Refusal} {p : Place} → Found why p ≡ o → o ≡ Nothing → A
+never e q = absurd (found≢nothing (e ∙ q))
 
 -- ---- the table of what is kept
 
-module _ (judge : ℕ → Option Verdict) (want : ℕ → Facts) (facts : List ℕ) where
+module _ (judge : ℕ → Finding) (want : ℕ → Facts) (facts : List ℕ) where
   pub table-none : facts ≡ factsTableBy judge want facts 0
   unfolding factsTableBy
   table-none = refl
 
   -- one row more
-  pub table-more : (r : ℕ) {u w : List ℕ} → scan judge (r + 1) ≡ none → judge r ≡ none → u ≡ factsTableBy judge want facts r
+  pub table-more : (r : ℕ) {u w : List ℕ} → scan judge (r + 1) ≡ Nothing → judge r ≡ Nothing → u ≡ factsTableBy judge want facts r
       → w ≡ keptIf (judge r) u r (want r) → w ≡ factsTableBy judge want facts (r + 1)
   unfolding factsTableBy
   table-more r {u} {w} s h e k =
       subst (λ (m : ℕ). w ≡ factsTableBy judge want facts m) (sym (add-one r))
       (k
-      ∙ ap (λ (o : Option Verdict). keptIf o u r (want r)) (h ∙ sym (subst (λ (m : ℕ). scan judge m ≡ none) (add-one r) s))
+      ∙ ap (λ (o : Finding). keptIf o u r (want r)) (h ∙ sym (subst (λ (m : ℕ). scan judge m ≡ Nothing) (add-one r) s))
       ∙ ap (λ (l : List ℕ). keptIf (scan judge (suc r)) l r (want r)) e)
 
-  table-next : (n : ℕ) {x : Verdict} → scan judge (suc n) ≡ some x → factsTableBy judge want facts (suc n) ≡ factsTableBy judge want facts n
+  table-next : (n : ℕ) {why : Refusal} {p : Place} → scan judge (suc n) ≡ Found why p → factsTableBy judge want facts (suc n) ≡ factsTableBy judge want facts n
   unfolding factsTableBy keptIf
-  table-next n e = ap (λ (o : Option Verdict). keptIf o (factsTableBy judge want facts n) n (want n)) e
+  table-next n e = ap (λ (o : Finding). keptIf o (factsTableBy judge want facts n) n (want n)) e
 
   -- after a row that is refused nothing is kept
-  pub table-stays : (r n : ℕ) {x : Verdict} → scan judge r ≡ none → judge r ≡ some x → r ≤ n → factsTableBy judge want facts n ≡ factsTableBy judge want facts r
+  pub table-stays : (r n : ℕ) {why : Refusal} {p : Place} → scan judge r ≡ Nothing → judge r ≡ Found why p → r ≤ n → factsTableBy judge want facts n ≡ factsTableBy judge want facts r
   table-stays r zero s h l = let e : zero ≡ r = omega arith in ap (factsTableBy judge want facts) e
-  table-stays r (suc n) {x} s h l =
+  table-stays r (suc n) s h l =
       ⊎-elim
-      (λ p. table-next n (scan-found judge (suc n) r x p s h) ∙ table-stays r n s h (omega arith))
+      (λ p. table-next n (scan-found judge (suc n) r p s h) ∙ table-stays r n s h (omega arith))
       (λ e. ap (factsTableBy judge want facts) (sym e))
       (below-suc r (suc n) (omega arith))
 
 -- ---- the formulas together
 
 -- what is found of the root and the least value, of each row by `judge`, and of the root again, which is loose or not
-module _ (judge : ℕ → Option Verdict) (n s : ℕ) (root least : ℤ) (loose : Bool) where
-  abbrev foundBy : Option Verdict
+module _ (judge : ℕ → Finding) (n s : ℕ) (root least : ℤ) (loose : Bool) where
+  abbrev foundBy : Finding
   foundBy = wholeUnless (rootFits s root least) Root otherwise scan judge n otherwise wholeUnless (not loose) Root
 
-  pub formulas-root : rootFits s root least ≡ false → some (Refused Root Whole) ≡ foundBy
+  pub formulas-root : rootFits s root least ≡ false → Found Root Whole ≡ foundBy
   unfolding wholeUnless
-  formulas-root h = sym (otherwise-some _ _ _ (some-unless (rootFits s root least) _ h))
+  formulas-root h = sym (otherwise-found _ _ (found-unless (rootFits s root least) _ _ h))
 
   module _ (fits : rootFits s root least ≡ true) where
     after-root : foundBy ≡ (scan judge n otherwise wholeUnless (not loose) Root)
     unfolding wholeUnless
-    after-root = otherwise-none _ _ (none-unless (rootFits s root least) _ fits)
+    after-root = otherwise-nothing _ _ (nothing-unless (rootFits s root least) _ _ fits)
 
-    pub formulas-row : {x : Verdict} → some x ≡ scan judge n → some x ≡ foundBy
-    formulas-row h = sym (after-root ∙ otherwise-some _ _ _ (sym h))
+    pub formulas-row : {why : Refusal} {p : Place} → Found why p ≡ scan judge n → Found why p ≡ foundBy
+    formulas-row h = sym (after-root ∙ otherwise-found _ _ (sym h))
 
-    module _ (none-found : scan judge n ≡ none) where
-      pub formulas-loose : loose ≡ true → some (Refused Root Whole) ≡ foundBy
+    module _ (none-found : scan judge n ≡ Nothing) where
+      pub formulas-loose : loose ≡ true → Found Root Whole ≡ foundBy
       unfolding wholeUnless
-      formulas-loose h = sym (after-root ∙ otherwise-none _ _ none-found ∙ some-unless (not loose) _ (not-of-true _ h))
+      formulas-loose h = sym (after-root ∙ otherwise-nothing _ _ none-found ∙ found-unless (not loose) _ _ (not-of-true _ h))
 
-      pub formulas-none : loose ≡ false → none ≡ foundBy
+      pub formulas-none : loose ≡ false → Nothing ≡ foundBy
       unfolding wholeUnless
-      formulas-none h = sym (after-root ∙ otherwise-none _ _ none-found ∙ none-unless (not loose) _ (not-of-false _ h))
+      formulas-none h = sym (after-root ∙ otherwise-nothing _ _ none-found ∙ nothing-unless (not loose) _ _ (not-of-false _ h))

@@ -3,7 +3,6 @@ use Prim.Native.Nat.{ℕ, zero, suc, _+_, _-_, _*_, _<_, _≤_, max}
 use mathlib.Core.Path.{_≡_}
 use mathlib.Core.Bool.{true}
 use mathlib.Core.List.{List}
-use mathlib.Core.Option.{Option, none, some}
 use lib.Dec.{eqb, leb}
 use lib.IntN.{ℤ, pos}
 use lib.ListN.{length, getD}
@@ -11,10 +10,10 @@ use Rattle.stab.specs.Basic.{if_then_else_, _and_, _or_, eqZ, nat, below, scan}
 use Rattle.stab.specs.Check.{atUnless, rowRefusal, rootFits}
 use Rattle.stab.specs.declared.Place.the-variants.{At}
 use Rattle.stab.specs.declared.Refusal.the-variants.{IllFormed, TooLarge}
-use Rattle.stab.specs.declared.Verdict.{Verdict}
-use Rattle.stab.specs.declared.Verdict.the-variants.{Refused}
 use Rattle.stab.specs.Formula as F
 use Rattle.stab.specs.Formula.{Row, Formula, tree, offset, baseOf, onIndex, wellFormed, smallEnough}
+use Rattle.stab.specs.declared.Finding.{Finding}
+use Rattle.stab.specs.declared.Finding.the-variants.{Nothing, Found}
 use Rattle.formula.specs.Facts.{bit, AllKnown, AllFormed}
 use Rattle.formula.specs.Kept.{kept}
 use Rattle.formula.specs.declared.rows.Facts.{Facts}
@@ -48,12 +47,12 @@ abbrev pub keptFacts : List ℕ → ℕ → Facts → List ℕ
 keptFacts facts r f = kept facts r (f .size) (f .depth) (f .loose) (f .fixed)
 
 -- those are kept where nothing is found
-unfoldable pub keptIf : Option Verdict → List ℕ → ℕ → Facts → List ℕ
-keptIf none facts r f = keptFacts facts r f
-keptIf (some v) facts r f = facts
+unfoldable pub keptIf : Finding → List ℕ → ℕ → Facts → List ℕ
+keptIf Nothing facts r f = keptFacts facts r f
+keptIf (Found why p) facts r f = facts
 
 -- the table after a pass over n rows: the numbers that `want` gives of each row, up to the first where `judge` finds something
-unfoldable pub factsTableBy : (ℕ → Option Verdict) → (ℕ → Facts) → List ℕ → ℕ → List ℕ
+unfoldable pub factsTableBy : (ℕ → Finding) → (ℕ → Facts) → List ℕ → ℕ → List ℕ
 factsTableBy judge want facts zero = facts
 factsTableBy judge want facts (suc n) = keptIf (scan judge (suc n)) (factsTableBy judge want facts n) n (want n)
 
@@ -102,8 +101,8 @@ bodyJudged r w facts =
     else Ill
 
 -- 7, then 8, for a row that was judged so
-unfoldable pub judgedRefusal : Judged → ℕ → Option Verdict
-judgedRefusal Ill r = some (Refused IllFormed (At r))
+unfoldable pub judgedRefusal : Judged → ℕ → Finding
+judgedRefusal Ill r = Found IllFormed (At r)
 judgedRefusal (Formed f) r = atUnless (leb (f .size) 4096 and leb (f .depth) 64) TooLarge r
 
 -- its numbers are kept where nothing is found

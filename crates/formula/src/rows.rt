@@ -2,13 +2,13 @@
 // the two facts about mixing, is kept in a lent table, four numbers a row, so that each row looks at its parts' numbers alone.
 ghost use mathlib.Core.Path.{_≡_};
 ghost use mathlib.Core.Bool.{true};
-ghost use mathlib.Core.Option.{none};
 ghost use Prim.Native.Nat.{_+_, _*_, _<_, _≤_, max};
 ghost use lib.ListN.{length};
 ghost use lib.IntN.{pos};
 ghost use Rattle.stab.specs.Basic.{nat, below, scan};
 ghost use Rattle.stab.specs.Formula.{formulaRows, offset, kindOf, baseOf, onIndex, tree};
-ghost use Rattle.stab.specs.Check.{rowRefusal, rootFits, formulasRefusal, finding};
+ghost use Rattle.stab.specs.Check.{rowRefusal, rootFits, formulasRefusal};
+ghost use Rattle.stab.specs.declared.Finding.the-variants.{Nothing, Found};
 ghost use Rattle.formula.specs.Cells.{rowOf};
 ghost use Rattle.formula.specs.Facts.{bit};
 ghost use Rattle.formula.specs.Rows.{factsOf, factsAt, bothFacts, overFacts, keptIf, factsTable, formulasTable, judged, constantJudged, literalJudged, pairJudged, bodyJudged, judgedRefusal, keptJudged, Summable, Passed};
@@ -265,7 +265,7 @@ fn row(schema: &[i32], s: usize, proof: &[i32], r: usize, facts: &[u32]) -> Judg
 // What is found of row r, which was judged so; its numbers are kept where that is nothing.
 pub fn sized(row: Judged, r: usize, facts: &mut [u32]) -> Finding
     requires { ⌜ 4 * r + 3 < length (now facts) ⌝ }
-    ensures { λ v. ⌜ finding v ≡ judgedRefusal row r ⌝ }
+    ensures { λ v. ⌜ v ≡ judgedRefusal row r ⌝ }
     ensures { λ v. ⌜ now (facts .exit) ≡ keptJudged row (now (facts .entry)) r ⌝ }
 {
     let Judged::Formed(f) = row else {
@@ -294,8 +294,8 @@ pub fn sized(row: Judged, r: usize, facts: &mut [u32]) -> Finding
 fn step(schema: &[i32], s: usize, proof: &[i32], r: usize, facts: &mut [u32]) -> Finding
     requires { ⌜ (r < 1024) × (4 * r + 3 < length (now facts)) ⌝ }
     requires { ⌜ Passed (formulaRows (now schema) s (now proof)) (now facts) r ⌝ }
-    ensures { λ v. ⌜ finding v ≡ rowRefusal (formulaRows (now (schema .entry)) s (now (proof .entry))) r ⌝ }
-    ensures { λ v. ⌜ (rowRefusal (formulaRows (now (schema .entry)) s (now (proof .entry))) r ≡ none → Passed (formulaRows (now (schema .entry)) s (now (proof .entry))) (now (facts .exit)) (r + 1)) ⌝ }
+    ensures { λ v. ⌜ v ≡ rowRefusal (formulaRows (now (schema .entry)) s (now (proof .entry))) r ⌝ }
+    ensures { λ v. ⌜ (rowRefusal (formulaRows (now (schema .entry)) s (now (proof .entry))) r ≡ Nothing → Passed (formulaRows (now (schema .entry)) s (now (proof .entry))) (now (facts .exit)) (r + 1)) ⌝ }
     ensures { λ v. ⌜ now (facts .exit) ≡ keptIf (rowRefusal (formulaRows (now (schema .entry)) s (now (proof .entry))) r) (now (facts .entry)) r (factsOf (tree (formulaRows (now (schema .entry)) s (now (proof .entry))) r)) ⌝ }
 {
     let found = row(schema, s, proof, r, facts);
@@ -305,8 +305,8 @@ fn step(schema: &[i32], s: usize, proof: &[i32], r: usize, facts: &mut [u32]) ->
 // What is found first among n rows. The table holds the numbers of each before it.
 fn each(schema: &[i32], s: usize, proof: &[i32], n: usize, facts: &mut [u32]) -> Finding
     requires { ⌜ (n ≤ 1024) × (4 * n ≤ length (now facts)) ⌝ }
-    ensures { λ v. ⌜ finding v ≡ scan (rowRefusal (formulaRows (now (schema .entry)) s (now (proof .entry)))) n ⌝ }
-    ensures { λ v. ⌜ (scan (rowRefusal (formulaRows (now (schema .entry)) s (now (proof .entry)))) n ≡ none → Passed (formulaRows (now (schema .entry)) s (now (proof .entry))) (now (facts .exit)) n) ⌝ }
+    ensures { λ v. ⌜ v ≡ scan (rowRefusal (formulaRows (now (schema .entry)) s (now (proof .entry)))) n ⌝ }
+    ensures { λ v. ⌜ (scan (rowRefusal (formulaRows (now (schema .entry)) s (now (proof .entry)))) n ≡ Nothing → Passed (formulaRows (now (schema .entry)) s (now (proof .entry))) (now (facts .exit)) n) ⌝ }
     ensures { λ v. ⌜ now (facts .exit) ≡ factsTable (formulaRows (now (schema .entry)) s (now (proof .entry))) (now (facts .entry)) n ⌝ }
 {
     let mut r = 0;
@@ -344,8 +344,8 @@ pub fn formulas(
     facts: &mut [u32],
 ) -> Finding
     requires { ⌜ (s ≤ n) × (n ≤ 1024) × (4 * n ≤ length (now facts)) ⌝ }
-    ensures { λ v. ⌜ finding v ≡ formulasRefusal (formulaRows (now (schema .entry)) s (now (proof .entry))) n s root least ⌝ }
-    ensures { λ v. ⌜ (formulasRefusal (formulaRows (now (schema .entry)) s (now (proof .entry))) n s root least ≡ none → Passed (formulaRows (now (schema .entry)) s (now (proof .entry))) (now (facts .exit)) n) ⌝ }
+    ensures { λ v. ⌜ v ≡ formulasRefusal (formulaRows (now (schema .entry)) s (now (proof .entry))) n s root least ⌝ }
+    ensures { λ v. ⌜ (formulasRefusal (formulaRows (now (schema .entry)) s (now (proof .entry))) n s root least ≡ Nothing → Passed (formulaRows (now (schema .entry)) s (now (proof .entry))) (now (facts .exit)) n) ⌝ }
     ensures { λ v. ⌜ now (facts .exit) ≡ formulasTable (formulaRows (now (schema .entry)) s (now (proof .entry))) (now (facts .entry)) n s root least ⌝ }
 {
     if !root_fits(s, root, least) {

@@ -13,8 +13,11 @@ use Rattle.stab.specs.Meaning.{Assignment, truth}
 use Rattle.stab.specs.Model.{listed, checkModel}
 use Rattle.stab.specs.Occurs.{Wire, OccursIn, Ascends, table, listing}
 use Rattle.stab.specs.Text.{padded}
-use Rattle.stab.specs.declared.Verdict.{Verdict}
 use Rattle.stab.specs.declared.Verdict.the-variants.{Accepted}
+use Rattle.stab.specs.declared.Finding.{Finding}
+use Rattle.stab.specs.declared.Refusal.{Refusal}
+use Rattle.stab.specs.declared.Place.{Place}
+use Rattle.stab.specs.declared.Finding.the-variants.{Found, Nothing}
 use Rattle.stab.proofs.Bools.{same-test}
 use Rattle.stab.proofs.Texts.Outcomes.{padded-none}
 use Rattle.stab.proofs.Wires.{occurring-exactly, occurring-ascends, same-listed, wires-accepted}
@@ -51,10 +54,10 @@ first-earliest Q ws h =
 -- ---- the answer
 
 -- where nothing is turned away
-searched-none : (Q : Query) → findRefusal Q ≡ none → (find Q ≡ None) ↔ ((σ : Assignment) → truth σ (nat (Q .n)) (formula Q) ≡ false)
+searched-none : (Q : Query) → findRefusal Q ≡ Nothing → (find Q ≡ None) ↔ ((σ : Assignment) → truth σ (nat (Q .n)) (formula Q) ≡ false)
 unfolding find foundBy modelOr
 searched-none Q clear =
-    let searched : find Q ≡ modelOr (Q .n) (firstModel Q) = ap (λ (x : Option Verdict). foundBy x Q) clear in
+    let searched : find Q ≡ modelOr (Q .n) (firstModel Q) = ap (λ (x : Finding). foundBy x Q) clear in
     Iff·trans (λ h. sym searched ∙ h, λ h. searched ∙ h) (go (firstModel Q) refl)
   where
     go : (x : Option (List Wire)) → firstModel Q ≡ x → (modelOr (Q .n) x ≡ None) ↔ ((σ : Assignment) → truth σ (nat (Q .n)) (formula Q) ≡ false)
@@ -65,7 +68,7 @@ searched-none Q clear =
     )
 
 -- "'None' is given exactly when no assignment to all pairs at all indices makes it true at that n": and nothing is turned away
-pub none-exactly : (Q : Query) → (find Q ≡ None) ↔ ((findRefusal Q ≡ none) × ((σ : Assignment) → truth σ (nat (Q .n)) (formula Q) ≡ false))
+pub none-exactly : (Q : Query) → (find Q ≡ None) ↔ ((findRefusal Q ≡ Nothing) × ((σ : Assignment) → truth σ (nat (Q .n)) (formula Q) ≡ false))
 none-exactly Q = (
   λ h. let clear = none-searched Q h in (clear, searched-none Q clear .0 h),
   λ k. searched-none Q (k .0) .1 (k .1),
@@ -82,9 +85,9 @@ unfolding foundTable table
 zeros Q h = ap (λ (ws : List Wire). padded (pos 0) (Q .room) (table ws)) h ∙ padded-none (pos 0) (Q .room)
 
 -- "Lent result memory is then all 0": after a refusal
-pub refused-zeros : (Q : Query) (v : Verdict) → findRefusal Q ≡ some v → foundTable Q ≡ replicate (Q .room) (pos 0)
+pub refused-zeros : (Q : Query) (why : Refusal) (p : Place) → findRefusal Q ≡ Found why p → foundTable Q ≡ replicate (Q .room) (pos 0)
 unfolding given
-refused-zeros Q v h = zeros Q (ap (λ (x : Option Verdict). givenBy x Q) h ∙ none-given Q v)
+refused-zeros Q why p h = zeros Q (ap (λ (x : Finding). givenBy x Q) h ∙ none-given Q why p)
 
 -- and with "none"
 pub none-zeros : (Q : Query) → find Q ≡ None → foundTable Q ≡ replicate (Q .room) (pos 0)
@@ -95,20 +98,20 @@ none-zeros Q h = zeros Q (go (findRefusal Q) h)
     searched none e = refl
     searched (some ws) e = let z : _≡_ {A = ℕ} 0 1 = cc in absurd (omega arith)
 
-    go : (x : Option Verdict) → foundBy x Q ≡ None → givenBy x Q ≡ []
-    go none e = searched (firstModel Q) e
-    go (some v) e = none-given Q v
+    go : (x : Finding) → foundBy x Q ≡ None → givenBy x Q ≡ []
+    go Nothing e = searched (firstModel Q) e
+    go (Found why p) e = none-given Q why p
 
 -- the table keeps its size
 pub table-room : (Q : Query) → length (foundTable Q) ≡ Q .room
 unfolding foundTable padded
 table-room Q = go (findRefusal Q) refl
   where
-    go : (x : Option Verdict) → findRefusal Q ≡ x → length (foundTable Q) ≡ Q .room
-    go none e =
+    go : (x : Finding) → findRefusal Q ≡ x → length (foundTable Q) ≡ Q .room
+    go Nothing e =
         let xs = table (given Q) in
         omega (arith, length-append xs (replicate (Q .room - length xs) (pos 0)), length-replicate (Q .room - length xs) (pos 0), table-length (given Q), given-few Q, find-clears Q .0 e .tableHeld)
-    go (some v) e = ap length (refused-zeros Q v e) ∙ length-replicate (Q .room) (pos 0)
+    go (Found why p) e = ap length (refused-zeros Q why p e) ∙ length-replicate (Q .room) (pos 0)
 
 -- ---- the model check
 

@@ -6,17 +6,16 @@ use mathlib.Core.Path.{_≡_, refl, sym, _∙_, ap, ap₂, subst}
 use mathlib.Core.Logic.{Iff·trans, inl, inr, ⊎-elim}
 use mathlib.Core.Bool.{Bool, true, false, false≢true}
 use mathlib.Core.List.{List, [], _∷_, _++_, append-nil, append-assoc, List·Memᴰ, List·Memᴰ·head, List·Memᴰ·tail, List·Memᴰ·cases-cons, List·Memᴰ·not-nil, Memᴰ·cast}
-use mathlib.Core.Option.{Option, none, some, Option·map, Option·none-ne-some, Option·some-ne-none, Option·some-injective, map-eq-none-iff, map-eq-some-iff}
+use mathlib.Core.Option.{Option, none, some, orElse, Option·map, Option·none-ne-some, Option·some-ne-none, Option·some-injective, map-eq-none-iff, map-eq-some-iff}
 use lib.Dec.{eqb}
 use lib.Signed.{<ℤ-irrefl}
 use lib.ListN.{length, length-drop, getD, drop}
 use lib.Seq.{drop-cons}
 use lib.Pow.{pow-pos}
-use Rattle.stab.specs.Basic.{if_then_else_, _otherwise_, scan}
+use Rattle.stab.specs.Basic.{if_then_else_, first}
 use Rattle.stab.specs.Occurs.{Wire, Before, Ascends}
 use Rattle.stab.proofs.Bools.{if-true, if-false, decide, same-test}
-use Rattle.stab.proofs.Findings.{otherwise-assoc}
-use Rattle.stab.proofs.Scans.{scan-none, none-scan, scan-found, scan-first, scan-same}
+use Rattle.stab.proofs.Firsts.{else-assoc, search-none, none-search, search-found, search-at, search-same}
 use Rattle.stab.proofs.Tests.{_tests_, _&_, or-tests, eqZ-tests}
 use Rattle.stab.proofs.Wires.Lists.{same-wire}
 use Rattle.found.specs.Find.{Query, wires, among, firstFrom, holdsWith, firstModel}
@@ -57,12 +56,12 @@ upper-half w ws m h =
 -- nothing below k passes
 pub least-none : (p : ℕ → Bool) (k : ℕ) → ((m : ℕ) → m < k → p m ≡ false) → leastBelow p k ≡ none
 unfolding leastBelow
-least-none p k h = scan-none _ k (λ m l. if-false (p m) _ _ (h m l))
+least-none p k h = search-none _ k (λ m l. if-false (p m) _ _ (h m l))
 
 -- m passes, and nothing below it
 pub least-is : (p : ℕ → Bool) (k m : ℕ) → m < k → p m ≡ true → ((j : ℕ) → j < m → p j ≡ false) → leastBelow p k ≡ some m
 unfolding leastBelow
-least-is p k m l t h = scan-found _ k m m l (scan-none _ m (λ j i. if-false (p j) _ _ (h j i))) (if-true (p m) _ _ t)
+least-is p k m l t h = search-found _ k m m l (search-none _ m (λ j i. if-false (p j) _ _ (h j i))) (if-true (p m) _ _ t)
 
 -- and the other way
 unpassed : (b : Bool) (m : ℕ) → _≡_ {A = Option ℕ} (if b then some m else none) none → b ≡ false
@@ -77,68 +76,68 @@ passed false i m e = absurd (Option·none-ne-some m e)
 
 pub none-least : (p : ℕ → Bool) (k : ℕ) → leastBelow p k ≡ none → (m : ℕ) → m < k → p m ≡ false
 unfolding leastBelow
-none-least p k h m l = unpassed (p m) m (none-scan _ k h m l)
+none-least p k h m l = unpassed (p m) m (none-search _ k h m l)
 
 pub is-least : (p : ℕ → Bool) (k m : ℕ) → leastBelow p k ≡ some m → (m < k) × (p m ≡ true) × ((j : ℕ) → j < m → p j ≡ false)
 unfolding leastBelow
 is-least p k m h =
-    let r = scan-first _ k m h in
+    let r = search-at _ k m h in
     let here = passed (p (r .0)) (r .0) m (r .3) in (
       omega (arith, r .1, here .1),
       subst (λ (i : ℕ). p i ≡ true) (here .1) (here .0),
-      λ j l. unpassed (p j) j (none-scan _ (r .0) (r .2) j (omega (arith, here .1))),
+      λ j l. unpassed (p j) j (none-search _ (r .0) (r .2) j (omega (arith, here .1))),
     )
 
 -- two tests that agree below k
 pub least-same : (p q : ℕ → Bool) (k : ℕ) → ((m : ℕ) → m < k → p m ≡ q m) → leastBelow p k ≡ leastBelow q k
 unfolding leastBelow
-least-same p q k h = scan-same _ _ k (λ m l e. ap (λ (t : Bool). if t then some m else none) (h m l))
+least-same p q k h = search-same _ _ k (λ m l. ap (λ (t : Bool). if t then some m else none) (h m l))
 
 -- what the least number gives
-least-gives : {A : Type 0} (p : ℕ → Bool) (g : ℕ → A) (k : ℕ) → scan (λ m. if p m then some (g m) else none) k ≡ Option·map g (leastBelow p k)
-unfolding leastBelow scan if_then_else_ _otherwise_
+least-gives : {A : Type 0} (p : ℕ → Bool) (g : ℕ → A) (k : ℕ) → first (λ m. if p m then some (g m) else none) k ≡ Option·map g (leastBelow p k)
+unfolding leastBelow first if_then_else_ orElse
 least-gives p g zero = refl
 least-gives {A} p g (suc k) =
-    ap₂ _otherwise_ (least-gives p g k) (gives-if (p k))
-    ∙ gives-otherwise (leastBelow p k) (if p k then some k else none)
+    ap₂ orElse (least-gives p g k) (gives-if (p k))
+    ∙ gives-else (leastBelow p k) (if p k then some k else none)
   where
     gives-if : (b : Bool) → _≡_ {A = Option A} (if b then some (g k) else none) (Option·map g (if b then some k else none))
     gives-if true = refl
     gives-if false = refl
 
-    gives-otherwise : (x y : Option ℕ) → (Option·map g x otherwise Option·map g y) ≡ Option·map g (x otherwise y)
-    gives-otherwise none y = refl
-    gives-otherwise (some m) y = refl
+    gives-else : (x y : Option ℕ) → orElse (Option·map g x) (Option·map g y) ≡ Option·map g (orElse x y)
+    gives-else none y = refl
+    gives-else (some m) y = refl
 
 -- ---- the first assignment
 
-otherwise-nothing : {A : Type 0} (x : Option A) → (x otherwise none) ≡ x
-unfolding _otherwise_
-otherwise-nothing none = refl
-otherwise-nothing (some a) = refl
+none-after : {A : Type 0} (x : Option A) → orElse x none ≡ x
+unfolding orElse
+none-after none = refl
+none-after (some a) = refl
 
-scan-split : {A : Type 0} (f : ℕ → Option A) (a b : ℕ) → scan f (a + b) ≡ (scan f a otherwise scan (λ k. f (a + k)) b)
-unfolding scan
-scan-split f a zero = ap (scan f) (add-zero a) ∙ sym (otherwise-nothing (scan f a))
-scan-split f a (suc b) =
-    ap (scan f) (add-suc a b)
-    ∙ ap (λ (x : Option _). x otherwise f (a + b)) (scan-split f a b)
-    ∙ otherwise-assoc (scan f a) (scan (λ k. f (a + k)) b) (f (a + b))
+first-split : {A : Type 0} (f : ℕ → Option A) (a b : ℕ) → first f (a + b) ≡ orElse (first f a) (first (λ k. f (a + k)) b)
+unfolding first
+first-split f a zero = ap (first f) (add-zero a) ∙ sym (none-after (first f a))
+first-split f a (suc b) =
+    ap (first f) (add-suc a b)
+    ∙ ap (λ (x : Option _). orElse x (f (a + b))) (first-split f a b)
+    ∙ else-assoc (first f a) (first (λ k. f (a + k)) b) (f (a + b))
 
 -- some pairs, where they pass
 passing : (List Wire → Bool) → List Wire → Option (List Wire)
 passing holds vs = if holds vs then some vs else none
 
-first-scanned : (holds : List Wire → Bool) (chosen ws : List Wire) → firstFrom holds chosen ws ≡ scan (λ m. passing holds (chosen ++ numbered ws m)) (2 ^ length ws)
-unfolding firstFrom scan _otherwise_ numbered passing
+first-scanned : (holds : List Wire → Bool) (chosen ws : List Wire) → firstFrom holds chosen ws ≡ first (λ m. passing holds (chosen ++ numbered ws m)) (2 ^ length ws)
+unfolding firstFrom first orElse numbered passing
 first-scanned holds chosen [] = ap (passing holds) (sym (append-nil chosen))
 first-scanned holds chosen (w ∷ ws) =
-    ap₂ _otherwise_ (first-scanned holds chosen ws) (first-scanned holds (chosen ++ w ∷ []) ws)
-    ∙ ap₂ _otherwise_
-    (scan-same _ _ (2 ^ length ws) (λ m l e. ap (λ (vs : List Wire). passing holds (chosen ++ vs)) (sym (lower-half w ws m l))))
-    (scan-same _ _ (2 ^ length ws) (λ m l e. ap (passing holds) (append-assoc chosen (w ∷ []) (numbered ws m) ∙ ap (λ (vs : List Wire). chosen ++ vs) (sym (upper-half w ws m l)))))
-    ∙ sym (scan-split _ (2 ^ length ws) (2 ^ length ws))
-    ∙ ap (scan _) (sym (two-pow-succ (length ws)))
+    ap₂ orElse (first-scanned holds chosen ws) (first-scanned holds (chosen ++ w ∷ []) ws)
+    ∙ ap₂ orElse
+    (search-same _ _ (2 ^ length ws) (λ m l. ap (λ (vs : List Wire). passing holds (chosen ++ vs)) (sym (lower-half w ws m l))))
+    (search-same _ _ (2 ^ length ws) (λ m l. ap (passing holds) (append-assoc chosen (w ∷ []) (numbered ws m) ∙ ap (λ (vs : List Wire). chosen ++ vs) (sym (upper-half w ws m l)))))
+    ∙ sym (first-split _ (2 ^ length ws) (2 ^ length ws))
+    ∙ ap (first _) (sym (two-pow-succ (length ws)))
 
 -- "the first assignment in that order" is that of the least number
 pub first-by-number : (holds : List Wire → Bool) (chosen ws : List Wire) → firstFrom holds chosen ws ≡ Option·map (λ m. chosen ++ numbered ws m) (leastBelow (λ m. holds (chosen ++ numbered ws m)) (2 ^ length ws))

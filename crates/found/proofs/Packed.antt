@@ -11,14 +11,15 @@ use Rattle.stab.specs.Answer.{Numbers, placeNumber, refusedNumbers, verdictNumb
 use Rattle.stab.specs.declared.Place.{Place}
 use Rattle.stab.specs.declared.Place.the-variants.{Whole, At}
 use Rattle.stab.specs.declared.Refusal.{Refusal}
-use Rattle.stab.specs.declared.Verdict.{Verdict}
-use Rattle.stab.specs.declared.Verdict.the-variants.{Accepted, Refused}
-use Rattle.stab.proofs.Exactness.Refusals.{Near, IsRefused}
+use Rattle.stab.specs.declared.Verdict.the-variants.{Refused}
+use Rattle.stab.specs.declared.Finding.{Finding}
+use Rattle.stab.specs.declared.Finding.the-variants.{Found, Nothing}
+use Rattle.stab.proofs.Exactness.Refusals.{FindsNear}
 use Rattle.stab.proofs.Packed.{number-range, near-packs, read-back}
 use Rattle.found.specs.Find.{Query, firstModel, findRefusal, modelOr, foundBy, find, foundNumbers, foundPacked, foundVerdict}
 use Rattle.found.specs.declared.ModelFound.{ModelFound}
 use Rattle.found.specs.declared.ModelFound.the-variants.{Model, None, Refused as FindRefused}
-use Rattle.found.proofs.Refusals.{find-refuses, never-accepted, found-model, given-few}
+use Rattle.found.proofs.Refusals.{find-near, found-model, given-few}
 
 -- the one number in four parts
 abbrev pub inParts : ModelFound → Numbers
@@ -36,23 +37,19 @@ packed-as r = ap oneNumber (parts-as r)
 
 -- ---- it packs
 
-found-by-packs : (Q : Query) (x : Option Verdict) → ((v : Verdict) → x ≡ some v → IsRefused v) → Packs (foundVerdict (foundBy x Q))
+found-by-packs : (Q : Query) (x : Finding) → FindsNear x → Packs (foundVerdict (foundBy x Q))
 unfolding foundBy modelOr
-found-by-packs Q none h = go (firstModel Q)
+found-by-packs Q Nothing h = go (firstModel Q)
   where
     go : (x : Option (List Wire)) → Packs (foundVerdict (modelOr (Q .n) x))
     go none = (omega arith, omega arith)
     go (some ws) = (omega arith, omega arith)
-found-by-packs Q (some (Accepted nodes links)) h = absurd (never-accepted (h (Accepted nodes links) refl))
-found-by-packs Q (some (Refused why p)) h =
-    let r = h (Refused why p) refl in
-    let same : p ≡ r .1 = cc (r .2) in
-    near-packs why p (subst Near (sym same) (r .3))
+found-by-packs Q (Found why p) h = near-packs why p (h why p refl)
 
 -- whatever is found packs, so a refusal's place does
 pub found-packs : (Q : Query) → Packs (foundVerdict (find Q))
 unfolding find
-found-packs Q = found-by-packs Q (findRefusal Q) (find-refuses Q)
+found-packs Q = found-by-packs Q (findRefusal Q) (find-near Q)
 
 -- a model is given with at most 16 pairs
 pub found-few : (Q : Query) (n : ℤ) (k : ℕ) → find Q ≡ Model n k → k ≤ 16

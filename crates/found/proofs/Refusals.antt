@@ -14,11 +14,11 @@ use Rattle.stab.specs.Occurs.{Wire}
 use Rattle.stab.specs.declared.Place.{Place}
 use Rattle.stab.specs.declared.Refusal.{Refusal}
 use Rattle.stab.specs.declared.Refusal.the-variants.{TableTooShort, TooMany, Width, Wires}
-use Rattle.stab.specs.declared.Verdict.{Verdict}
-use Rattle.stab.specs.declared.Verdict.the-variants.{Accepted, Refused}
+use Rattle.stab.specs.declared.Finding.{Finding}
+use Rattle.stab.specs.declared.Finding.the-variants.{Found, Nothing}
 use Rattle.stab.proofs.Tests.{_&_, le-tests, leZ-tests, _clears_, whole-clears, at-clears, _then_}
 use Rattle.stab.proofs.Exactness.Formulas.{formulas-clears}
-use Rattle.stab.proofs.Exactness.Refusals.{IsRefused, of-whole, of-at, _or-else_, once, of-formulas}
+use Rattle.stab.proofs.Exactness.Refusals.{FindsNear, of-whole, of-at, _or-else_, once, of-formulas}
 use Rattle.found.specs.Find.{Query, wires, firstModel, findRefusal, modelOr, foundBy, find, modelPairs, givenBy, given}
 use Rattle.found.specs.declared.ModelFound.the-variants.{Model, None, Refused as FindRefused}
 use Rattle.found.proofs.Numbers.{first-found, numbered-length}
@@ -53,10 +53,10 @@ find-clears Q =
       λ k. (k .tableHeld, (k .schemaHeld, (k .rowLimit, (k .formulas, (k .inRange, k .wireLimit))))),
     )
 
--- never an acceptance, and its place is within the limits
-pub find-refuses : (Q : Query) (v : Verdict) → findRefusal Q ≡ some v → IsRefused v
+-- the place of a refusal is within the limits
+pub find-near : (Q : Query) → FindsNear (findRefusal Q)
 unfolding findRefusal
-find-refuses Q =
+find-near Q =
     of-at _ _ 0 (omega arith) or-else
     of-whole _ _ or-else
     once (of-whole _ TooMany)
@@ -66,12 +66,6 @@ find-refuses Q =
     of-whole _ _ or-else
     of-whole _ _)
 
-pub never-accepted : {nodes links : ℕ} → IsRefused (Accepted nodes links) → ⊥
-never-accepted {nodes} {links} r =
-    let f : Accepted nodes links ≡ Refused _ _ = r .2 in
-    let z : _≡_ {A = ℕ} 0 1 = cc in
-    omega arith
-
 -- ---- what the answer says of the search
 
 by-search : (Q : Query) (n : ℤ) (k : ℕ) (x : Option (List Wire)) → modelOr (Q .n) x ≡ Model n k → (x ≡ some (modelPairs x)) × (n ≡ Q .n) × (k ≡ length (modelPairs x))
@@ -80,43 +74,40 @@ by-search Q n k none h = let z : _≡_ {A = ℕ} 0 1 = cc in absurd (omega arith
 by-search Q n k (some ws) h = (refl, cc, cc)
 
 -- where a model is given, nothing was turned away and the search ended with the pairs that are given
-pub found-model : (Q : Query) (n : ℤ) (k : ℕ) → find Q ≡ Model n k → (findRefusal Q ≡ none) × (firstModel Q ≡ some (given Q)) × (n ≡ Q .n) × (k ≡ length (given Q))
+pub found-model : (Q : Query) (n : ℤ) (k : ℕ) → find Q ≡ Model n k → (findRefusal Q ≡ Nothing) × (firstModel Q ≡ some (given Q)) × (n ≡ Q .n) × (k ≡ length (given Q))
 unfolding find foundBy given givenBy
 found-model Q n k h = go (findRefusal Q) h
   where
-    go : (x : Option Verdict) → foundBy x Q ≡ Model n k → (x ≡ none) × (firstModel Q ≡ some (givenBy x Q)) × (n ≡ Q .n) × (k ≡ length (givenBy x Q))
-    go none f = let s = by-search Q n k (firstModel Q) f in (refl, s .0, s .1, s .2)
-    go (some (Accepted nodes links)) f = let z : _≡_ {A = ℕ} 0 1 = cc in absurd (omega arith)
-    go (some (Refused why p)) f = let z : _≡_ {A = ℕ} 0 1 = cc in absurd (omega arith)
+    go : (x : Finding) → foundBy x Q ≡ Model n k → (x ≡ Nothing) × (firstModel Q ≡ some (givenBy x Q)) × (n ≡ Q .n) × (k ≡ length (givenBy x Q))
+    go Nothing f = let s = by-search Q n k (firstModel Q) f in (refl, s .0, s .1, s .2)
+    go (Found why p) f = let z : _≡_ {A = ℕ} 0 1 = cc in absurd (omega arith)
 
 -- a refusal is answered exactly if it is found
-pub found-refused : (Q : Query) (why : Refusal) (p : Place) → (find Q ≡ FindRefused why p) ↔ (findRefusal Q ≡ some (Refused why p))
+pub found-refused : (Q : Query) (why : Refusal) (p : Place) → (find Q ≡ FindRefused why p) ↔ (findRefusal Q ≡ Found why p)
 unfolding find foundBy modelOr
-found-refused Q why p = (go (findRefusal Q) (find-refuses Q), λ h. ap (λ (x : Option Verdict). foundBy x Q) h)
+found-refused Q why p = (go (findRefusal Q), λ h. ap (λ (x : Finding). foundBy x Q) h)
   where
     searched : (x : Option (List Wire)) → modelOr (Q .n) x ≡ FindRefused why p → ⊥
     searched none e = let z : _≡_ {A = ℕ} 0 1 = cc in omega arith
     searched (some ws) e = let z : _≡_ {A = ℕ} 0 1 = cc in omega arith
 
-    go : (x : Option Verdict) → ((v : Verdict) → x ≡ some v → IsRefused v) → foundBy x Q ≡ FindRefused why p → x ≡ some (Refused why p)
-    go none r e = absurd (searched (firstModel Q) e)
-    go (some (Accepted nodes links)) r e = absurd (never-accepted (r (Accepted nodes links) refl))
-    go (some (Refused w q)) r e = cc
+    go : (x : Finding) → foundBy x Q ≡ FindRefused why p → x ≡ Found why p
+    go Nothing e = absurd (searched (firstModel Q) e)
+    go (Found w q) e = cc
 
 -- "none" is answered only after a search
-pub none-searched : (Q : Query) → find Q ≡ None → findRefusal Q ≡ none
+pub none-searched : (Q : Query) → find Q ≡ None → findRefusal Q ≡ Nothing
 unfolding find foundBy
 none-searched Q h = go (findRefusal Q) h
   where
-    go : (x : Option Verdict) → foundBy x Q ≡ None → x ≡ none
-    go none e = refl
-    go (some (Accepted nodes links)) e = let z : _≡_ {A = ℕ} 0 1 = cc in absurd (omega arith)
-    go (some (Refused why p)) e = let z : _≡_ {A = ℕ} 0 1 = cc in absurd (omega arith)
+    go : (x : Finding) → foundBy x Q ≡ None → x ≡ Nothing
+    go Nothing e = refl
+    go (Found why p) e = let z : _≡_ {A = ℕ} 0 1 = cc in absurd (omega arith)
 
 -- no pair is given after a refusal
-pub none-given : (Q : Query) (v : Verdict) → givenBy (some v) Q ≡ []
+pub none-given : (Q : Query) (why : Refusal) (p : Place) → givenBy (Found why p) Q ≡ []
 unfolding givenBy
-none-given Q v = refl
+none-given Q why p = refl
 
 -- at most 16 pairs are given, whatever is asked
 pub given-few : (Q : Query) → length (given Q) ≤ 16
@@ -129,6 +120,6 @@ given-few Q = go (findRefusal Q) (find-clears Q .0)
         let r = first-found Q ws e in
         omega (arith, keeps .wireLimit, numbered-length (wires Q) (r .0), ap length (r .2))
 
-    go : (x : Option Verdict) → (x ≡ none → Keeps Q) → length (givenBy x Q) ≤ 16
-    go none keeps = searched (keeps refl) (firstModel Q) refl
-    go (some v) keeps = omega (arith, ap length (none-given Q v))
+    go : (x : Finding) → (x ≡ Nothing → Keeps Q) → length (givenBy x Q) ≤ 16
+    go Nothing keeps = searched (keeps refl) (firstModel Q) refl
+    go (Found why p) keeps = omega (arith, ap length (none-given Q why p))

@@ -3,7 +3,7 @@ use Prim.Native.Nat.{ℕ, _/_}
 use Prim.Native.String.{String}
 use mathlib.Core.Path.{_≡_, refl}
 use mathlib.Core.List.{List, [], _∷_, _++_}
-use mathlib.Core.Option.{Option, none, some}
+use mathlib.Core.Option.{orElse}
 use lib.IntN.{ℤ, pos, negsuc}
 use lib.ListN.{length, take, replicate}
 use Rattle.stab.specs.Occurs.{wireBefore, insert, gathered, inserted, occurring, table}
@@ -11,8 +11,8 @@ use Rattle.stab.specs.Text.{bytes, rowLine}
 use Rattle.stab.specs.Read.{Reading, read, stopped, SchemaText, readSchema}
 use Rattle.stab.specs.declared.Place.the-variants.{Whole, At}
 use Rattle.stab.specs.declared.Refusal.the-variants.{TableTooShort, Wires}
-use Rattle.stab.specs.declared.Verdict.{Verdict}
-use Rattle.stab.specs.declared.Verdict.the-variants.{Refused}
+use Rattle.stab.specs.declared.Finding.{Finding}
+use Rattle.stab.specs.declared.Finding.the-variants.{Found, Nothing}
 use Rattle.stab.proofs.Evaluate.{evaluated}
 use Rattle.found.specs.Find.{Query, formula, wires, among, firstFrom, holdsWith, firstModel, findRefusal, modelOr, foundBy, find, modelPairs, givenBy, given, foundTable, foundNumbers, foundPacked, foundResults}
 use Rattle.found.specs.declared.ModelFound.the-variants.{Model, None, Refused as FindRefused}
@@ -138,13 +138,13 @@ stated =
     (67117056 ∷ 67108864 ∷ 1099578736640 ∷ 16492674416640 ∷ []) ∷ []
 
 pub trials : computed ≡ stated
-unfolding evaluated wireBefore insert gathered inserted occurring table formula wires among firstFrom holdsWith firstModel findRefusal modelOr foundBy find modelPairs givenBy given foundTable foundNumbers foundPacked foundResults queryOf asked trueRows shown found every both one two someFromOne everyFromOne computed stated
+unfolding evaluated wireBefore insert gathered inserted occurring table formula wires among orElse firstFrom holdsWith firstModel findRefusal modelOr foundBy find modelPairs givenBy given foundTable foundNumbers foundPacked foundResults queryOf asked trueRows shown found every both one two someFromOne everyFromOne computed stated
 trials = refl
 
 -- 16 pairs are searched, 17 are not
-pub pairLimits : List (Option Verdict)
+pub pairLimits : List Finding
 pairLimits = findRefusal (asked "1 0" every (pos 15) 8192) ∷ findRefusal (asked "1 0" every (pos 16) 8192) ∷ []
 
-pub limit-trials : pairLimits ≡ (none ∷ some (Refused Wires Whole) ∷ [])
+pub limit-trials : pairLimits ≡ (Nothing ∷ Found Wires Whole ∷ [])
 unfolding evaluated wireBefore insert gathered inserted occurring formula wires findRefusal queryOf asked every pairLimits
 limit-trials = refl

@@ -4,7 +4,7 @@ use mathlib.Core.Path.{_≡_}
 use mathlib.Core.Logic.{_⊎_}
 use mathlib.Core.Bool.{Bool, true, false}
 use mathlib.Core.List.{List, [], _∷_, _++_}
-use mathlib.Core.Option.{Option, none, some}
+use mathlib.Core.Option.{Option, none, some, orElse}
 use lib.Dec.{leb}
 use lib.IntN.{ℤ, pos}
 use lib.Signed.{leZ}
@@ -20,6 +20,8 @@ use Rattle.stab.specs.declared.Place.the-variants.{Whole}
 use Rattle.stab.specs.declared.Refusal.the-variants.{TableTooShort, TooMany, Width, Wires}
 use Rattle.stab.specs.declared.Verdict.{Verdict}
 use Rattle.stab.specs.declared.Verdict.the-variants.{Accepted, Refused}
+use Rattle.stab.specs.declared.Finding.{Finding}
+use Rattle.stab.specs.declared.Finding.the-variants.{Found, Nothing}
 use Rattle.found.specs.declared.ModelFound.{ModelFound}
 use Rattle.found.specs.declared.ModelFound.the-variants.{Model, None, Refused as FindRefused}
 
@@ -51,7 +53,7 @@ among (w ∷ ws) s z = (eqZ (w .symbol) s and eqZ (w .index) z) or among ws s z
 -- schema true": the pairs chosen to be true so far, and those that are still to be given a value
 unfoldable pub firstFrom : (List Wire → Bool) → List Wire → List Wire → Option (List Wire)
 firstFrom holds chosen [] = if holds chosen then some chosen else none
-firstFrom holds chosen (w ∷ ws) = firstFrom holds chosen ws otherwise firstFrom holds (chosen ++ w ∷ []) ws
+firstFrom holds chosen (w ∷ ws) = orElse (firstFrom holds chosen ws) (firstFrom holds (chosen ++ w ∷ []) ws)
 
 -- the schema is true at n where just these pairs are true
 unfoldable pub holdsWith : Query → List Wire → Bool
@@ -65,7 +67,7 @@ firstModel Q = firstFrom (holdsWith Q) [] (wires Q)
 
 -- "Result tables .. fall first under 2 as in reading"; then 2, 5, 6, 7, 8, 6 as in checking a model; "n is limited as in 19"; "30,
 -- after 19, when more than 16 pairs occur"
-unfoldable pub findRefusal : Query → Option Verdict
+unfoldable pub findRefusal : Query → Finding
 findRefusal Q =
     atUnless (leb 8192 (Q .room)) TableTooShort 0 otherwise
     wholeUnless (holds (Q .schema) 4 (Q .schemaRows)) TableTooShort otherwise
@@ -80,11 +82,9 @@ modelOr n none = None
 modelOr n (some ws) = Model n (length ws)
 
 -- what is found, by what was found before the search
-unfoldable pub foundBy : Option Verdict → Query → ModelFound
-foundBy none Q = modelOr (Q .n) (firstModel Q)
-foundBy (some (Refused why p)) Q = FindRefused why p
--- no refusal is an acceptance
-foundBy (some (Accepted nodes links)) Q = FindRefused Wires Whole
+unfoldable pub foundBy : Finding → Query → ModelFound
+foundBy Nothing Q = modelOr (Q .n) (firstModel Q)
+foundBy (Found why p) Q = FindRefused why p
 
 unfoldable pub find : Query → ModelFound
 find Q = foundBy (findRefusal Q) Q
@@ -94,9 +94,9 @@ unfoldable pub modelPairs : Option (List Wire) → List Wire
 modelPairs none = []
 modelPairs (some ws) = ws
 
-unfoldable pub givenBy : Option Verdict → Query → List Wire
-givenBy none Q = modelPairs (firstModel Q)
-givenBy (some v) Q = []
+unfoldable pub givenBy : Finding → Query → List Wire
+givenBy Nothing Q = modelPairs (firstModel Q)
+givenBy (Found why p) Q = []
 
 unfoldable pub given : Query → List Wire
 given Q = givenBy (findRefusal Q) Q

@@ -6,7 +6,7 @@ use mathlib.Core.Option.{Option, none, some}
 use lib.Dec.{eqb}
 use lib.IntN.{ℤ, pos, _+ℤ_}
 use lib.ListN.{length}
-use Rattle.stab.specs.Basic.{if_then_else_, nat, scan}
+use Rattle.stab.specs.Basic.{if_then_else_, nat, first}
 use Rattle.stab.specs.Occurs.{Wire}
 
 -- the pairs that are true in assignment number m
@@ -16,7 +16,7 @@ numbered (w ∷ ws) m = if eqb (m / 2 ^ length ws % 2) 1 then w ∷ numbered ws 
 
 -- the least number below k that passes
 unfoldable pub leastBelow : (ℕ → Bool) → ℕ → Option ℕ
-leastBelow p k = scan (λ m. if p m then some m else none) k
+leastBelow p k = first (λ m. if p m then some m else none) k
 
 -- the least number below k that passes, or k
 unfoldable pub leastOr : Option ℕ → ℕ → ℕ

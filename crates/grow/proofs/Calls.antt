@@ -5,7 +5,6 @@ use native.Mathlib.Numerals.{add-one}
 use mathlib.Core.Path.{_≡_, refl, sym, _∙_, ap, ap₂, subst}
 use mathlib.Core.Bool.{Bool, true, false}
 use mathlib.Core.List.{List, [], _∷_, _++_}
-use mathlib.Core.Option.{Option, none, some}
 use lib.Dec.{ltb}
 use lib.IntN.{ℤ, pos}
 use lib.ListN.{length, take, length-append}
@@ -19,10 +18,10 @@ use Rattle.stab.specs.declared.Place.{Place}
 use Rattle.stab.specs.declared.Place.the-variants.{Whole}
 use Rattle.stab.specs.declared.Refusal.{Refusal}
 use Rattle.stab.specs.declared.Refusal.the-variants.{NoRow}
-use Rattle.stab.specs.declared.Verdict.{Verdict}
-use Rattle.stab.specs.declared.Verdict.the-variants.{Refused}
-use Rattle.stab.proofs.Bools.{none-unless, some-unless, otherwise-none, otherwise-some, otherwise-same}
-use Rattle.stab.proofs.Scans.{scan-none}
+use Rattle.stab.specs.declared.Finding.{Finding}
+use Rattle.stab.specs.declared.Finding.the-variants.{Nothing, Found}
+use Rattle.stab.proofs.Bools.{nothing-unless, found-unless, otherwise-nothing, otherwise-found, otherwise-same}
+use Rattle.stab.proofs.Scans.{scan-nothing}
 use Rattle.stab.proofs.Tests.{within-tests}
 use Rattle.stab.proofs.Exactness.Nodes.{parent-clears}
 use Rattle.branch.proofs.ParentLaws.{parents-known}
@@ -51,23 +50,23 @@ either false S T e = refl
 -- ---- refused calls
 
 -- the rows held are refused
-pub refused-growth : (T U : Tableau) (why : Refusal) (p : Place) → heldRefusal T ≡ some (Refused why p) → GrowthRefused why p false ≡ growthBy (some (Refused why p)) T U
+pub refused-growth : (T U : Tableau) (why : Refusal) (p : Place) → heldRefusal T ≡ Found why p → GrowthRefused why p false ≡ growthBy (Found why p) T U
 unfolding growthBy
-refused-growth T U why p e = ap (GrowthRefused why p) (sym (refused-open T _ e))
+refused-growth T U why p e = ap (GrowthRefused why p) (sym (refused-open T why p e))
 
 -- they pass, and the call is refused
-pub passed-growth : (T U : Tableau) (why : Refusal) (p : Place) → heldRefusal T ≡ none → GrowthRefused why p (complete (nodesOnly (T .nodes) (T .nodeRows))) ≡ growthBy (some (Refused why p)) T U
+pub passed-growth : (T U : Tableau) (why : Refusal) (p : Place) → heldRefusal T ≡ Nothing → GrowthRefused why p (complete (nodesOnly (T .nodes) (T .nodeRows))) ≡ growthBy (Found why p) T U
 unfolding growthBy
 passed-growth T U why p e = ap (GrowthRefused why p) (complete-alone T ∙ sym (closed-is T e))
 
-pub turned-away : (T : Tableau) (call : Call) (x : Option Verdict) (v : Verdict) → callRefusal T call ≡ (x otherwise some v) → after T call ≡ T
+pub turned-away : (T : Tableau) (call : Call) (x : Finding) (why : Refusal) (p : Place) → callRefusal T call ≡ (x otherwise Found why p) → after T call ≡ T
 unfolding _otherwise_
-turned-away T call none v e = refused-leaves T call v e
-turned-away T call (some u) v e = refused-leaves T call u e
+turned-away T call Nothing why p e = refused-leaves T call why p e
+turned-away T call (Found w q) why p e = refused-leaves T call w q e
 
-pub turned-answer : (T : Tableau) (call : Call) (x : Option Verdict) → callRefusal T call ≡ x → (r : Growth) → ((U : Tableau) → r ≡ growthBy x T U) → r ≡ answered T call
+pub turned-answer : (T : Tableau) (call : Call) (x : Finding) → callRefusal T call ≡ x → (r : Growth) → ((U : Tableau) → r ≡ growthBy x T U) → r ≡ answered T call
 unfolding answered
-turned-answer T call x e r h = h (changed T call) ∙ ap (λ (y : Option Verdict). growthBy y T (changed T call)) (sym e)
+turned-answer T call x e r h = h (changed T call) ∙ ap (λ (y : Finding). growthBy y T (changed T call)) (sym e)
 
 -- ---- accepted calls
 
@@ -77,44 +76,44 @@ unfolding node
 countable T H = record {
   few = H .tables .nodeLimit;
   leastFits = within-tests _ _ _ .1 (H .formulas .leastRange);
-  parents = parents-known T (T .nodeRows) (scan-none (parentRefusal T) (T .nodeRows) (λ j l. parent-clears T j .1 (H .parents j l)));
+  parents = parents-known T (T .nodeRows) (scan-nothing (parentRefusal T) (T .nodeRows) (λ j l. parent-clears T j .1 (H .parents j l)));
   rules = λ j l. fields-known T j (fields-passed T j (held-step T j (H .steps j l))) .rule;
 }
 
-pub accepted-answer : (T : Tableau) (call : Call) → callRefusal T call ≡ none → answered T call ≡ Held (changed T call .nodeRows) (count (isLink (changed T call .nodes)) (changed T call .nodeRows)) (complete (nodesOnly (changed T call .nodes) (changed T call .nodeRows)))
+pub accepted-answer : (T : Tableau) (call : Call) → callRefusal T call ≡ Nothing → answered T call ≡ Held (changed T call .nodeRows) (count (isLink (changed T call .nodes)) (changed T call .nodeRows)) (complete (nodesOnly (changed T call .nodes) (changed T call .nodeRows)))
 unfolding answered growthBy linkCount
 accepted-answer T call e =
     let U = changed T call in
-    ap (λ (x : Option Verdict). growthBy x T U) e
+    ap (λ (x : Finding). growthBy x T U) e
     ∙ ap (Held (U .nodeRows) (linkCount U)) (closed-is U (held-clears U .1 (passed T call e)) ∙ sym (complete-alone U))
 
-pub accepted-left : (T : Tableau) (call : Call) → callRefusal T call ≡ none → after T call ≡ changed T call
+pub accepted-left : (T : Tableau) (call : Call) → callRefusal T call ≡ Nothing → after T call ≡ changed T call
 unfolding after leftBy
-accepted-left T call e = ap (λ (x : Option Verdict). leftBy x T (changed T call)) e
+accepted-left T call e = ap (λ (x : Finding). leftBy x T (changed T call)) e
 
 -- ---- the first call
 
-pub begun-answer : (T : Tableau) → beginRefusal T ≡ none → beginAnswer T ≡ Held 0 0 false
+pub begun-answer : (T : Tableau) → beginRefusal T ≡ Nothing → beginAnswer T ≡ Held 0 0 false
 unfolding beginAnswer growthBy linkCount count begun holding
-begun-answer T e = ap (λ (x : Option Verdict). growthBy x (begun T) (begun T)) e ∙ ap (Held 0 0) (begun-open T)
+begun-answer T e = ap (λ (x : Finding). growthBy x (begun T) (begun T)) e ∙ ap (Held 0 0) (begun-open T)
 
-pub begun-refused : (T : Tableau) (why : Refusal) (p : Place) → beginRefusal T ≡ some (Refused why p) → beginAnswer T ≡ GrowthRefused why p false
+pub begun-refused : (T : Tableau) (why : Refusal) (p : Place) → beginRefusal T ≡ Found why p → beginAnswer T ≡ GrowthRefused why p false
 unfolding beginAnswer growthBy
-begun-refused T why p e = ap (λ (x : Option Verdict). growthBy x (begun T) (begun T)) e ∙ ap (GrowthRefused why p) (begun-open T)
+begun-refused T why p e = ap (λ (x : Finding). growthBy x (begun T) (begun T)) e ∙ ap (GrowthRefused why p) (begun-open T)
 
 -- ---- the last row taken back
 
-pub no-row : (T : Tableau) → T .nodeRows ≡ 0 → callRefusal T takeBack ≡ (heldRefusal T otherwise some (Refused NoRow Whole))
+pub no-row : (T : Tableau) → T .nodeRows ≡ 0 → callRefusal T takeBack ≡ (heldRefusal T otherwise Found NoRow Whole)
 unfolding callRefusal takeBackRefusal wholeUnless
-no-row T e = otherwise-same (heldRefusal T) _ _ (λ h. some-unless (ltb 0 (T .nodeRows)) _ (le-ltb 0 (T .nodeRows) (omega arith)))
+no-row T e = otherwise-same (heldRefusal T) _ _ (λ h. found-unless (ltb 0 (T .nodeRows)) _ _ (le-ltb 0 (T .nodeRows) (omega arith)))
 
-pub back-refused : (T : Tableau) (v : Verdict) → heldRefusal T ≡ some v → callRefusal T takeBack ≡ some v
+pub back-refused : (T : Tableau) (why : Refusal) (p : Place) → heldRefusal T ≡ Found why p → callRefusal T takeBack ≡ Found why p
 unfolding callRefusal takeBackRefusal
-back-refused T v e = otherwise-some (heldRefusal T) _ v e
+back-refused T why p e = otherwise-found (heldRefusal T) _ e
 
-pub back-accepted : (T : Tableau) → heldRefusal T ≡ none → 0 < T .nodeRows → callRefusal T takeBack ≡ none
+pub back-accepted : (T : Tableau) → heldRefusal T ≡ Nothing → 0 < T .nodeRows → callRefusal T takeBack ≡ Nothing
 unfolding callRefusal takeBackRefusal wholeUnless
-back-accepted T e h = otherwise-none (heldRefusal T) _ e ∙ none-unless (ltb 0 (T .nodeRows)) _ (lt-ltb 0 (T .nodeRows) h)
+back-accepted T e h = otherwise-nothing (heldRefusal T) _ e ∙ nothing-unless (ltb 0 (T .nodeRows)) _ _ (lt-ltb 0 (T .nodeRows) h)
 
 -- ---- a row laid behind the rows held, and the tables cleared past it
 
@@ -142,7 +141,7 @@ module _ (T : Tableau) (w : NodeRow) (room : roomFor T w ≡ true) where
       (subst (λ (k : ℕ). Countable (grown T w .nodes) k (T .least)) (sym (add-one (T .nodeRows))) (countable (grown T w) H))
 
   -- the row is accepted
-  module _ (ok : addRefusal T w ≡ none) where
+  module _ (ok : addRefusal T w ≡ Nothing) where
     pub laid-countable : (ns : List ℤ) → ns ≡ grown T w .nodes → Countable (padded (pos 0) (length ns) (take (9 * (T .nodeRows + 1)) ns)) (T .nodeRows + 1) (T .least)
     unfolding added holding
     laid-countable ns e =

@@ -5,7 +5,6 @@ use native.Mathlib.Omega.{arith}
 use mathlib.Core.Path.{_≡_, refl, sym, _∙_, ap, ap₂, subst}
 use mathlib.Core.Logic.{_⊎_, inl, inr, ⊎-elim}
 use mathlib.Core.Bool.{Bool, true, false}
-use mathlib.Core.Option.{Option, none, some}
 use lib.Dec.{eqb, leb}
 use lib.IntN.{ℤ, pos, pos-ne-negsuc}
 use lib.ListN.{length}
@@ -19,10 +18,10 @@ use Rattle.stab.specs.declared.Place.{Place}
 use Rattle.stab.specs.declared.Place.the-variants.{At}
 use Rattle.stab.specs.declared.Refusal.{Refusal}
 use Rattle.stab.specs.declared.Refusal.the-variants.{TableTooShort, TooMany, Set, Parent, Drawn, Fields, Target, Bound, Partner, Lowered, Children}
-use Rattle.stab.specs.declared.Verdict.{Verdict}
-use Rattle.stab.specs.declared.Verdict.the-variants.{Accepted, Refused}
-use Rattle.stab.proofs.Bools.{decide, and-both, none-unless, some-unless, otherwise-none, otherwise-some, otherwise-same}
-use Rattle.stab.proofs.Scans.{scan-none, scan-found}
+use Rattle.stab.specs.declared.Finding.{Finding}
+use Rattle.stab.specs.declared.Finding.the-variants.{Nothing, Found}
+use Rattle.stab.proofs.Bools.{decide, and-both, nothing-unless, found-unless, otherwise-nothing, otherwise-found, otherwise-same}
+use Rattle.stab.proofs.Scans.{scan-nothing, scan-found}
 use Rattle.stab.proofs.Whole.{eqZ-true, eqZ-not, pos-injective}
 use Rattle.stab.proofs.Trees.{below-nat, below-pos}
 use Rattle.stab.proofs.Tests.{below-tests}
@@ -35,15 +34,15 @@ use Rattle.grow.specs.Moved.{placed, moved}
 
 -- ---- the place of a child beyond
 
-moved-then : (n : ℕ) (b : Bool) (why : Refusal) (j : ℕ) (x y : Option Verdict) → placed n why (At j) ≡ At j → moved n x ≡ y → moved n (atUnless b why j otherwise x) ≡ (atUnless b why j otherwise y)
+moved-then : (n : ℕ) (b : Bool) (why : Refusal) (j : ℕ) (x y : Finding) → placed n why (At j) ≡ At j → moved n x ≡ y → moved n (atUnless b why j otherwise x) ≡ (atUnless b why j otherwise y)
 unfolding moved atUnless unless _otherwise_
 moved-then n true why j x y e f = f
-moved-then n false why j x y e f = ap (λ (p : Place). some (Refused why p)) e
+moved-then n false why j x y e f = ap (λ (p : Place). Found why p) e
 
 moved-last : (n : ℕ) (b : Bool) (why : Refusal) (j : ℕ) → placed n why (At j) ≡ At j → moved n (atUnless b why j) ≡ atUnless b why j
 unfolding moved atUnless unless
 moved-last n true why j e = refl
-moved-last n false why j e = ap (λ (p : Place). some (Refused why p)) e
+moved-last n false why j e = ap (λ (p : Place). Found why p) e
 
 moved-step : (T : Tableau) (n j : ℕ) → moved n (stepRefusal T j) ≡ stepRefusal T j
 unfolding stepRefusal placed if_then_else_
@@ -55,7 +54,7 @@ moved-step T n j =
     (moved-then n (partnersFit T j) Partner j _ _ refl
     (moved-last n (loweredFits T j) Lowered j refl)))))
 
-moved-children : (n p : ℕ) → moved n (some (Refused Children (At p))) ≡ some (Refused Children (At n))
+moved-children : (n p : ℕ) → moved n (Found Children (At p)) ≡ Found Children (At n)
 unfolding moved placed if_then_else_
 moved-children n p = refl
 
@@ -66,11 +65,11 @@ record Beyond (U : Tableau) (k : ℕ) : Type 0 where
   p : ℕ
   before : p < k
   beyond : childrenHeld U p ≡ false
-  found : beyondRefusal U k ≡ some (Refused Children (At k))
+  found : beyondRefusal U k ≡ Found Children (At k)
   others : (j : ℕ) → j < p → names (U .nodes) (pos j) k ≡ false
 
 record Within (U : Tableau) (k : ℕ) : Type 0 where
-  passed : beyondRefusal U k ≡ none
+  passed : beyondRefusal U k ≡ Nothing
   parent : (j : ℕ) → names (U .nodes) (pos j) k ≡ true → childrenHeld U j ≡ true
 
 parent-of : (U : Tableau) (k : ℕ) → KeepsParent U k → Within U k ⊎ Beyond U k
@@ -82,14 +81,14 @@ parent-of U (suc i) h =
     let b = below-tests (suc i) up .1 h in
     let named : (j : ℕ) → up ≡ pos j → nat up ≡ j = λ j r. pos-injective _ j (below-pos (suc i) up b ∙ r) in
     ⊎-elim
-    (λ e. inl (record { passed = none-unless _ _ e; parent = λ j m. subst (λ (q : ℕ). childrenHeld U q ≡ true) (named j (eqZ-true _ _ m)) e }))
+    (λ e. inl (record { passed = nothing-unless _ _ _ e; parent = λ j m. subst (λ (q : ℕ). childrenHeld U q ≡ true) (named j (eqZ-true _ _ m)) e }))
     (λ e.
     inr
     (record {
       p = nat up;
       before = below-nat (suc i) up b;
       beyond = e;
-      found = some-unless _ _ e;
+      found = found-unless _ _ _ e;
       others = λ j l. eqZ-not _ _ (λ r. let q = named j r in omega arith);
     }))
     (decide (childrenHeld U (nat up)))
@@ -97,14 +96,14 @@ parent-of U (suc i) h =
 -- ---- the last row
 
 -- where nothing is found of the rows before it
-scan-last : (f : ℕ → Option Verdict) (n : ℕ) → ((j : ℕ) → j < n → f j ≡ none) → scan f (suc n) ≡ f n
+scan-last : (f : ℕ → Finding) (n : ℕ) → ((j : ℕ) → j < n → f j ≡ Nothing) → scan f (suc n) ≡ f n
 unfolding scan
-scan-last f n h = otherwise-none (scan f n) (f n) (scan-none f n h)
+scan-last f n h = otherwise-nothing (scan f n) (f n) (scan-nothing f n h)
 
-otherwise-nothing : (x y : Option Verdict) → y ≡ none → (x otherwise y) ≡ x
+nothing-after : (x y : Finding) → y ≡ Nothing → (x otherwise y) ≡ x
 unfolding _otherwise_
-otherwise-nothing none y e = e
-otherwise-nothing (some v) y e = refl
+nothing-after Nothing y e = e
+nothing-after (Found why p) y e = refl
 
 module _ (T : Tableau) (H : Holds T) (w : NodeRow) (room : roomFor T w ≡ true) where
   abbrev U : Tableau
@@ -123,7 +122,7 @@ module _ (T : Tableau) (H : Holds T) (w : NodeRow) (room : roomFor T w ≡ true)
   unfolding withinLimits
   limits-kept = let t = tables-added T H w room in and-both _ _ (le-leb _ _ (t .rowLimit)) (and-both _ _ (le-leb _ _ (t .nodeLimit)) (le-leb _ _ (t .memberLimit)))
 
-  formulas-kept : presentFormulas U ≡ none
+  formulas-kept : presentFormulas U ≡ Nothing
   unfolding added holding rows rowCount
   formulas-kept = present-clears U .1 (H .formulas, H .fresh)
 
@@ -131,46 +130,46 @@ module _ (T : Tableau) (H : Holds T) (w : NodeRow) (room : roomFor T w ≡ true)
   unfolding heldNodeRefusal atUnless
   node-found k = ⊎-elim within beyond (parent-of U n k)
     where
-      held : (j : ℕ) → j < n → childrenHeld U j ≡ true → heldNodeRefusal U j ≡ none
+      held : (j : ℕ) → j < n → childrenHeld U j ≡ true → heldNodeRefusal U j ≡ Nothing
       held j h c = held-node U j (old-step T H w room j h) c
 
       within : Within U n → moved n (scan (heldNodeRefusal U) (suc n)) ≡ (beyondRefusal U n otherwise stepRefusal U n)
       within q =
           ap (moved n) (scan-last (heldNodeRefusal U) n (λ j h. held j h (all j h (names (U .nodes) (pos j) n) refl)) ∙ last)
           ∙ moved-step U n n
-          ∙ sym (otherwise-none (beyondRefusal U n) _ (q .passed))
+          ∙ sym (otherwise-nothing (beyondRefusal U n) _ (q .passed))
         where
           all : (j : ℕ) → j < n → (b : Bool) → names (U .nodes) (pos j) n ≡ b → childrenHeld U j ≡ true
           all j h true e = q .parent j e
           all j h false e = other-children T H w room j h e
 
           last : heldNodeRefusal U n ≡ stepRefusal U n
-          last = otherwise-nothing _ _ (none-unless (childrenHeld U n) _ (new-children T H w room k))
+          last = nothing-after _ _ (nothing-unless (childrenHeld U n) _ _ (new-children T H w room k))
 
       beyond : Beyond U n → moved n (scan (heldNodeRefusal U) (suc n)) ≡ (beyondRefusal U n otherwise stepRefusal U n)
       beyond q =
           let r = q .p in
           let h : r < n = q .before in
           ap (moved n)
-          (scan-found (heldNodeRefusal U) (suc n) r (Refused Children (At r)) (omega arith)
-          (scan-none (heldNodeRefusal U) r (λ j l. held j (omega arith) (other-children T H w room j (omega arith) (q .others j l))))
-          (otherwise-none (stepRefusal U r) _ (old-step T H w room r h) ∙ some-unless (childrenHeld U r) _ (q .beyond)))
+          (scan-found (heldNodeRefusal U) (suc n) r (omega arith)
+          (scan-nothing (heldNodeRefusal U) r (λ j l. held j (omega arith) (other-children T H w room j (omega arith) (q .others j l))))
+          (otherwise-nothing (stepRefusal U r) _ (old-step T H w room r h) ∙ found-unless (childrenHeld U r) _ _ (q .beyond)))
           ∙ moved-children n r
-          ∙ sym (otherwise-some (beyondRefusal U n) _ _ (q .found))
+          ∙ sym (otherwise-found (beyondRefusal U n) _ (q .found))
 
   -- 9 and 10 of the last row, then 11 to 17
   found-last : heldRefusal U ≡ (setRefusal U n otherwise (parentRefusal U n otherwise scan (heldNodeRefusal U) (suc n)))
   unfolding heldRefusal refusalBy wholeUnless added holding
   found-last =
-      otherwise-none _ _ (none-unless _ _ tables-hold)
-      ∙ otherwise-none _ _ (none-unless _ _ limits-kept)
-      ∙ otherwise-none _ _ formulas-kept
-      ∙ ap₂ (λ (x y : Option Verdict). x otherwise y)
+      otherwise-nothing _ _ (nothing-unless _ _ _ tables-hold)
+      ∙ otherwise-nothing _ _ (nothing-unless _ _ _ limits-kept)
+      ∙ otherwise-nothing _ _ formulas-kept
+      ∙ ap₂ (λ (x y : Finding). x otherwise y)
       (scan-last (setRefusal U) n (λ j h. set-clears U j .1 (old-set T H w room j h)))
-      (otherwise-none none _ refl
-      ∙ ap (λ (x : Option Verdict). x otherwise scan (heldNodeRefusal U) (suc n)) (scan-last (parentRefusal U) n (λ j h. parent-clears U j .1 (old-parent T H w room j h))))
+      (otherwise-nothing Nothing _ refl
+      ∙ ap (λ (x : Finding). x otherwise scan (heldNodeRefusal U) (suc n)) (scan-last (parentRefusal U) n (λ j h. parent-clears U j .1 (old-parent T H w room j h))))
 
-  moved-both : (x : Option Verdict) → moved n (setRefusal U n otherwise (parentRefusal U n otherwise x)) ≡ (setRefusal U n otherwise (parentRefusal U n otherwise moved n x))
+  moved-both : (x : Finding) → moved n (setRefusal U n otherwise (parentRefusal U n otherwise x)) ≡ (setRefusal U n otherwise (parentRefusal U n otherwise moved n x))
   unfolding setRefusal parentRefusal placed if_then_else_
   moved-both x = moved-then n _ Set n _ _ refl (moved-then n _ Parent n _ _ refl refl)
 

@@ -5,7 +5,6 @@ use mathlib.Core.Path.{_≡_, refl, sym, _∙_, ap, ap₂}
 use mathlib.Core.Logic.{⊎-elim}
 use mathlib.Core.Bool.{Bool, true, false}
 use mathlib.Core.List.{List, _++_}
-use mathlib.Core.Option.{Option, none, some}
 use lib.IntN.{ℤ, pos}
 use lib.ListN.{length, take, drop, length-append}
 use lib.Seq.{sets, sets-eq, length-sets, length-take-le}
@@ -17,9 +16,8 @@ use Rattle.stab.specs.declared.Place.{Place}
 use Rattle.stab.specs.declared.Place.the-variants.{Whole}
 use Rattle.stab.specs.declared.Refusal.{Refusal}
 use Rattle.stab.specs.declared.Refusal.the-variants.{Room}
-use Rattle.stab.specs.declared.Verdict.{Verdict}
-use Rattle.stab.specs.declared.Verdict.the-variants.{Refused}
-use Rattle.stab.proofs.Bools.{none-unless, some-unless, otherwise-none, otherwise-some, otherwise-same}
+use Rattle.stab.specs.declared.Finding.the-variants.{Nothing, Found}
+use Rattle.stab.proofs.Bools.{nothing-unless, found-unless, otherwise-nothing, otherwise-found, otherwise-same}
 use Rattle.stab.proofs.Scans.{below-suc}
 use Rattle.tidied.proofs.Tables.{numbersOf, nodeAt-front, nodeAt-next, slice-front, slice-take, set-within}
 use Rattle.growing.specs.Growing.{heldRefusal, NodeRow, nodeNumbers, holding, added, roomFor, addedRefusal, newRefusal, addRefusal, shortened}
@@ -183,26 +181,26 @@ module _ (T : Tableau) (w : NodeRow) (room : roomFor T w ≡ true) where
           members = sym (padded-length (length members) (take (nat (nodeAt nodes (suc n - 1) .start)) members) (omega (arith, d, start, b, fits T w room .3)) ∙ b);
         }
 
-    held-without : heldRefusal T ≡ none
+    held-without : heldRefusal T ≡ Nothing
     held-without = held-same agrees-shortened ∙ held-clears (shortened (grown T w)) .1 (holds-shortened (grown T w) G some-row)
 
   -- ---- what adding says
 
   new-is : newRefusal T w ≡ addedRefusal (added T w) n
   unfolding newRefusal wholeUnless
-  new-is = otherwise-none _ _ (none-unless (roomFor T w) _ room)
+  new-is = otherwise-nothing _ _ (nothing-unless (roomFor T w) _ _ room)
 
-  pub accepted : heldRefusal (grown T w) ≡ none → addRefusal T w ≡ none
+  pub accepted : heldRefusal (grown T w) ≡ Nothing → addRefusal T w ≡ Nothing
   unfolding addRefusal moved
   accepted e =
       let h = held-without (held-clears (grown T w) .0 e) in
-      otherwise-none (heldRefusal T) _ h ∙ new-is ∙ sym (found-new (held-clears T .0 h)) ∙ ap (moved n) e
+      otherwise-nothing (heldRefusal T) _ h ∙ new-is ∙ sym (found-new (held-clears T .0 h)) ∙ ap (moved n) e
 
-  pub refused : (why : Refusal) (p : Place) → heldRefusal (grown T w) ≡ some (Refused why p) → addRefusal T w ≡ (heldRefusal T otherwise some (Refused why (placed n why p)))
+  pub refused : (why : Refusal) (p : Place) → heldRefusal (grown T w) ≡ Found why p → addRefusal T w ≡ (heldRefusal T otherwise Found why (placed n why p))
   unfolding addRefusal moved
   refused why p e =
       otherwise-same (heldRefusal T) _ _ (λ h. new-is ∙ sym (found-new (held-clears T .0 h)) ∙ ap (moved n) e)
 
-pub no-room : (T : Tableau) (w : NodeRow) → roomFor T w ≡ false → addRefusal T w ≡ (heldRefusal T otherwise some (Refused Room Whole))
+pub no-room : (T : Tableau) (w : NodeRow) → roomFor T w ≡ false → addRefusal T w ≡ (heldRefusal T otherwise Found Room Whole)
 unfolding addRefusal newRefusal wholeUnless
-no-room T w h = otherwise-same (heldRefusal T) _ _ (λ e. otherwise-some _ _ _ (some-unless (roomFor T w) _ h))
+no-room T w h = otherwise-same (heldRefusal T) _ _ (λ e. otherwise-found _ _ (found-unless (roomFor T w) _ _ h))

@@ -2,20 +2,18 @@
 use Prim.Native.Nat.{ℕ, zero, suc, _<_, _≤_}
 use native.Mathlib.Omega.{arith}
 use mathlib.Core.Path.{_≡_, refl, sym, _∙_, ap, subst}
-use mathlib.Core.Option.{Option, none, some, Option·none-ne-some}
 use lib.Dec.{leb}
-use Rattle.stab.specs.Basic.{_otherwise_}
 use Rattle.stab.specs.Node.{Tableau, rows, rowCount}
 use Rattle.stab.specs.Check.{rowRefusal, repeatRefusal, freshRowRefusal, formulasBy, setRefusal, parentRefusal, stepRefusal, withinLimits, refusalBy, presentFormulas, wholeUnless, isLink, linkCount}
 use Rattle.stab.specs.Answer.{Numbers, refusedNumbers, verdictNumbers, oneNumber, packed, numbersIn, Packs}
 use Rattle.stab.specs.declared.Refusal.the-variants.{TooMany, Room}
-use Rattle.stab.specs.declared.Verdict.{Verdict}
-use Rattle.stab.specs.declared.Verdict.the-variants.{Accepted, Refused}
-use Rattle.stab.proofs.Bools.{unless-none}
+use Rattle.stab.specs.declared.Finding.{Finding}
+use Rattle.stab.specs.declared.Finding.the-variants.{Nothing, Found}
+use Rattle.stab.proofs.Bools.{unless-nothing, nothing≢found}
 use Rattle.stab.proofs.Scans.{count-le}
 use Rattle.stab.proofs.Tests.{_&_, le-tests, whole-clears}
 use Rattle.stab.proofs.Packed.{near-packs, read-back}
-use Rattle.stab.proofs.Exactness.Refusals.{FindsRefusals, of-whole, of-at, _or-else_, once, of-scan}
+use Rattle.stab.proofs.Exactness.Refusals.{FindsNear, of-whole, of-at, _or-else_, once, of-scan}
 use Rattle.growing.specs.Growing.{heldNodeRefusal, heldRefusal, NodeRow, roomFor, added, beyondRefusal, addedRefusal, newRefusal, addRefusal, takeBackRefusal, begun, beginRefusal, beginAnswer, growthBy, Call, add, takeBack, callRefusal, changed, answered, growthNumbers, growthPacked}
 use Rattle.growing.specs.declared.Growth.{Growth}
 use Rattle.growing.specs.declared.Growth.the-variants.{Held, Refused as GrowthRefused}
@@ -37,21 +35,21 @@ packed-is r = ap oneNumber (sym (numbers-are r))
 
 -- ---- whatever is found is a refusal at a place that packs
 
-of-nothing : FindsRefusals none
-of-nothing v e = absurd (Option·none-ne-some v e)
+of-nothing : FindsNear Nothing
+of-nothing why p e = absurd (nothing≢found e)
 
-of-present : (T : Tableau) → rowCount T ≤ 4096 → FindsRefusals (presentFormulas T)
+of-present : (T : Tableau) → rowCount T ≤ 4096 → FindsNear (presentFormulas T)
 unfolding presentFormulas formulasBy freshRowRefusal rowRefusal repeatRefusal
 of-present T l =
     of-whole _ _ or-else
     of-scan (freshRowRefusal (rows T) (T .schemaRows)) (rowCount T) l (λ r k. (of-at _ _ r k or-else of-at _ _ r k) or-else of-at _ _ r k) or-else
     of-whole _ _
 
-of-step : (T : Tableau) (j : ℕ) → j < 4096 → FindsRefusals (stepRefusal T j)
+of-step : (T : Tableau) (j : ℕ) → j < 4096 → FindsNear (stepRefusal T j)
 unfolding stepRefusal
 of-step T j l = of-at _ _ j l or-else of-at _ _ j l or-else of-at _ _ j l or-else of-at _ _ j l or-else of-at _ _ j l or-else of-at _ _ j l
 
-pub of-held : (T : Tableau) → FindsRefusals (heldRefusal T)
+pub of-held : (T : Tableau) → FindsNear (heldRefusal T)
 unfolding heldRefusal refusalBy setRefusal parentRefusal heldNodeRefusal withinLimits
 of-held T =
     of-whole _ _ or-else
@@ -65,32 +63,31 @@ of-held T =
     of-scan (parentRefusal T) (T .nodeRows) nodes (λ j l. of-at _ _ j l) or-else
     of-scan (heldNodeRefusal T) (T .nodeRows) nodes (λ j l. of-step T j l or-else of-at _ _ j l))
 
-of-beyond : (T : Tableau) (j : ℕ) → j < 4096 → FindsRefusals (beyondRefusal T j)
+of-beyond : (T : Tableau) (j : ℕ) → j < 4096 → FindsNear (beyondRefusal T j)
 unfolding beyondRefusal
 of-beyond T zero l = of-nothing
 of-beyond T (suc i) l = of-at _ _ (suc i) l
 
-pub of-new : (T : Tableau) (w : NodeRow) → FindsRefusals (newRefusal T w)
+pub of-new : (T : Tableau) (w : NodeRow) → FindsNear (newRefusal T w)
 unfolding newRefusal addedRefusal setRefusal parentRefusal wholeUnless
 of-new T w =
     once (of-whole (roomFor T w) Room)
     (λ h.
     let n = T .nodeRows in
-    let l : n < 4096 = omega (arith, fits T w (unless-none (roomFor T w) _ h) .0) in
+    let l : n < 4096 = omega (arith, fits T w (unless-nothing (roomFor T w) _ _ h) .0) in
     of-at _ _ n l or-else of-at _ _ n l or-else of-beyond (added T w) n l or-else of-step (added T w) n l)
 
-of-call : (T : Tableau) (call : Call) → FindsRefusals (callRefusal T call)
+of-call : (T : Tableau) (call : Call) → FindsNear (callRefusal T call)
 unfolding callRefusal addRefusal takeBackRefusal
 of-call T (add w) = of-held T or-else of-new T w
 of-call T takeBack = of-held T or-else of-whole _ _
 
 -- ---- the answers pack
 
-pub growth-packs : (x : Option Verdict) (S T : Tableau) → FindsRefusals x → (x ≡ none → T .nodeRows ≤ 1024) → Packs (asVerdict (growthBy x S T))
+pub growth-packs : (x : Finding) (S T : Tableau) → FindsNear x → (x ≡ Nothing → T .nodeRows ≤ 1024) → Packs (asVerdict (growthBy x S T))
 unfolding growthBy linkCount
-growth-packs none S T f few = (omega (arith, few refl), omega (arith, few refl, count-le (isLink (T .nodes)) (T .nodeRows)))
-growth-packs (some (Refused why p)) S T f few = let r = f (Refused why p) refl in subst Packs (sym (r .2)) (near-packs (r .0) (r .1) (r .3))
-growth-packs (some (Accepted nodes links)) S T f few = tt
+growth-packs Nothing S T f few = (omega (arith, few refl), omega (arith, few refl, count-le (isLink (T .nodes)) (T .nodeRows)))
+growth-packs (Found why p) S T f few = near-packs why p (f why p refl)
 
 pub begin-packs : (T : Tableau) → Packs (asVerdict (beginAnswer T))
 unfolding beginAnswer beginRefusal

@@ -3,7 +3,6 @@ use Prim.Native.Nat.{ℕ, suc, _*_, _<_, _≤_}
 use native.Mathlib.Omega.{arith}
 use mathlib.Core.Path.{_≡_, refl, sym, _∙_, ap, ap₂, subst}
 use mathlib.Core.Bool.{Bool, true}
-use mathlib.Core.Option.{Option, none, some}
 use lib.Dec.{leb}
 use lib.IntN.{ℤ, pos}
 use lib.ListN.{length}
@@ -16,9 +15,10 @@ use Rattle.stab.specs.Keeps.{KeepsSet, KeepsParent}
 use Rattle.stab.specs.declared.Refusal.{Refusal}
 use Rattle.stab.specs.declared.Refusal.the-variants.{TableTooShort, TooMany, Children}
 use Rattle.stab.specs.declared.Rule.{Rule}
-use Rattle.stab.specs.declared.Verdict.{Verdict}
-use Rattle.stab.proofs.Bools.{same-test, unless-none, none-unless, otherwise-same, otherwise-first-same}
-use Rattle.stab.proofs.Scans.{scan-same, none-scan}
+use Rattle.stab.specs.declared.Finding.{Finding}
+use Rattle.stab.specs.declared.Finding.the-variants.{Nothing}
+use Rattle.stab.proofs.Bools.{same-test, unless-nothing, nothing-unless, otherwise-same, otherwise-first-same}
+use Rattle.stab.proofs.Scans.{scan-same, nothing-scan}
 use Rattle.stab.proofs.Whole.{leZ-of}
 use Rattle.stab.proofs.Exactness.Nodes.{set-clears, parent-clears}
 use Rattle.growing.specs.Growing.{childrenHeld, heldNodeRefusal, heldRefusal}
@@ -38,12 +38,12 @@ alike-back A = record {
 }
 
 -- two tests that refuse alike
-at-same : (a b : Bool) (why : Refusal) (j : ℕ) → (atUnless a why j ≡ none → atUnless b why j ≡ none) → (atUnless b why j ≡ none → atUnless a why j ≡ none) → atUnless a why j ≡ atUnless b why j
+at-same : (a b : Bool) (why : Refusal) (j : ℕ) → (atUnless a why j ≡ Nothing → atUnless b why j ≡ Nothing) → (atUnless b why j ≡ Nothing → atUnless a why j ≡ Nothing) → atUnless a why j ≡ atUnless b why j
 unfolding atUnless
 at-same a b why j f g =
-    ap (λ (t : Bool). atUnless t why j) (same-test a b (λ e. unless-none b _ (f (none-unless a _ e))) (λ e. unless-none a _ (g (none-unless b _ e))))
+    ap (λ (t : Bool). atUnless t why j) (same-test a b (λ e. unless-nothing b _ _ (f (nothing-unless a _ _ e))) (λ e. unless-nothing a _ _ (g (nothing-unless b _ _ e))))
 
-otherwise-both : {x y z w : Option Verdict} → x ≡ y → (y ≡ none → z ≡ w) → (x otherwise z) ≡ (y otherwise w)
+otherwise-both : {x y z w : Finding} → x ≡ y → (y ≡ Nothing → z ≡ w) → (x otherwise z) ≡ (y otherwise w)
 otherwise-both {x} {y} {z} {w} e f = otherwise-first-same z e ∙ otherwise-same y z w f
 
 -- the rows held, all of them
@@ -96,7 +96,7 @@ module _ {S T : Tableau} (G : Agree S T) where
   node-same : (j : ℕ) → j < S .nodeRows → KeepsParent S j → heldNodeRefusal T j ≡ heldNodeRefusal S j
   unfolding heldNodeRefusal childrenHeld childCount
   node-same j h p =
-      ap₂ (λ (x : Option Verdict) (b : Bool). x otherwise atUnless b Children j) (step-same (G .alike) j h p)
+      ap₂ (λ (x : Finding) (b : Bool). x otherwise atUnless b Children j) (step-same (G .alike) j h p)
       (ap₂ leb (ap (λ (n : ℕ). childCountOf (T .nodes) n j) (G .nodeRows) ∙ counted-same (G .alike) j (S .nodeRows) (omega arith)) (ap (λ (r : Rule). r .children) (rule-same (G .alike) j h)))
 
   tables-same : tablesHold T ≡ tablesHold S
@@ -111,7 +111,7 @@ module _ {S T : Tableau} (G : Agree S T) where
   unfolding presentFormulas rows rowCount
   formulas-same = rw (G .alike .schema, G .alike .schemaRows, G .alike .proof, G .alike .proofRows, G .alike .root, G .alike .least)
 
-  scanned : (f g : ℕ → Option Verdict) → ((j : ℕ) → j < S .nodeRows → f j ≡ g j) → scan f (T .nodeRows) ≡ scan g (S .nodeRows)
+  scanned : (f g : ℕ → Finding) → ((j : ℕ) → j < S .nodeRows → f j ≡ g j) → scan f (T .nodeRows) ≡ scan g (S .nodeRows)
   scanned f g h = ap (scan f) (G .nodeRows) ∙ scan-same f g (S .nodeRows) (λ j l e. h j l)
 
   pub held-same : heldRefusal T ≡ heldRefusal S
@@ -123,4 +123,4 @@ module _ {S T : Tableau} (G : Agree S T) where
       (λ c. otherwise-both (scanned _ _ set-same)
       (λ d. otherwise-both refl
       (λ n. otherwise-both (scanned _ _ parent-same)
-      (λ e. scanned _ _ (λ j l. node-same j l (parent-clears S j .0 (none-scan (parentRefusal S) (S .nodeRows) e j l)))))))))
+      (λ e. scanned _ _ (λ j l. node-same j l (parent-clears S j .0 (nothing-scan (parentRefusal S) (S .nodeRows) e j l)))))))))

@@ -11,7 +11,6 @@ use stab::Refusal;
 use tableau::check;
 ghost use mathlib.Core.Path.{_≡_};
 ghost use mathlib.Core.List.{[], _∷_};
-ghost use mathlib.Core.Option.{some};
 ghost use Prim.Native.Nat.{_+_, _*_, _<_, _≤_, suc};
 ghost use lib.Dec.{leb, ltb};
 ghost use lib.IntN.{pos};
@@ -21,6 +20,7 @@ ghost use Rattle.stab.specs.Node.{Tableau};
 ghost use Rattle.stab.specs.Check.{isLink};
 ghost use Rattle.stab.specs.Text.{padded};
 ghost use Rattle.stab.specs.declared.Verdict.the-variants.{Refused};
+ghost use Rattle.stab.specs.declared.Finding.the-variants.{Nothing, Found};
 ghost use Rattle.branch.specs.Work.{tableau};
 ghost use Rattle.growing.specs.Complete.{complete};
 ghost use Rattle.growing.specs.Growing.{heldRefusal, growthBy, begun, beginAnswer, answered, after, takeBack};
@@ -74,7 +74,7 @@ pub fn turn_away(
     why: Refusal,
     place: Place,
 ) -> Growth
-    ensures { λ r. ⌜ ((U : Tableau) → r ≡ growthBy (heldRefusal (tableau (now (schema .entry)) «schema_rows» (now (proof .entry)) «proof_rows» root least (now (nodes .entry)) n (now (members .entry)) m) otherwise some (Refused why place)) (tableau (now (schema .entry)) «schema_rows» (now (proof .entry)) «proof_rows» root least (now (nodes .entry)) n (now (members .entry)) m) U) ⌝ }
+    ensures { λ r. ⌜ ((U : Tableau) → r ≡ growthBy (heldRefusal (tableau (now (schema .entry)) «schema_rows» (now (proof .entry)) «proof_rows» root least (now (nodes .entry)) n (now (members .entry)) m) otherwise Found why place) (tableau (now (schema .entry)) «schema_rows» (now (proof .entry)) «proof_rows» root least (now (nodes .entry)) n (now (members .entry)) m) U) ⌝ }
 {
     match check::held(
         schema,

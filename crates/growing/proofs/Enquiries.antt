@@ -16,9 +16,10 @@ use Rattle.stab.specs.Check.{wholeUnless, linkCount, check}
 use Rattle.stab.specs.Text.{padded}
 use Rattle.stab.specs.declared.Place.the-variants.{Whole}
 use Rattle.stab.specs.declared.Refusal.the-variants.{Waiting}
-use Rattle.stab.specs.declared.Verdict.{Verdict}
-use Rattle.stab.specs.declared.Verdict.the-variants.{Accepted, Refused}
-use Rattle.stab.proofs.Bools.{and-both, unless-none, none-unless, some-unless, otherwise-first, otherwise-second, otherwise-none, otherwise-some}
+use Rattle.stab.specs.declared.Verdict.the-variants.{Accepted}
+use Rattle.stab.specs.declared.Finding.{Finding}
+use Rattle.stab.specs.declared.Finding.the-variants.{Found, Nothing}
+use Rattle.stab.proofs.Bools.{and-both, unless-nothing, nothing-unless, found-unless, otherwise-first, otherwise-second, otherwise-nothing, otherwise-found}
 use Rattle.stab.proofs.Whole.{num, le-of}
 use Rattle.tidied.proofs.Sets.{few}
 use Rattle.growing.specs.Growing.{heldRefusal, NodeRow, holding, added, newRefusal, addRefusal, shortened, takeBackRefusal, growthBy, leftBy, begun, beginRefusal, rowsHeld, firstRows, done, add, takeBack, shownNumber}
@@ -30,7 +31,7 @@ use Rattle.growing.proofs.Grown.{added-holds, added-ok, add-holds, add-
 
 -- ---- a set that is accepted has room in the waiting row
 
-pub accepted-few : (T : Tableau) (w : NodeRow) → addRefusal T w ≡ none → length (w .members) ≤ 1024
+pub accepted-few : (T : Tableau) (w : NodeRow) → addRefusal T w ≡ Nothing → length (w .members) ≤ 1024
 accepted-few T w ok =
     let H = added-holds T w ok in
     let k = added-ok T w ok in
@@ -68,20 +69,20 @@ nothing-waits = refl
 -- the waiting memory, by the row that waits
 abbrev Waits : Editor → Option NodeRow → Type 0
 Waits E none = E .waiting ≡ nothingWaits
-Waits E (some w) = (E .waiting ≡ stored w) × (addRefusal (E .held) w ≡ none)
+Waits E (some w) = (E .waiting ≡ stored w) × (addRefusal (E .held) w ≡ Nothing)
 
 -- nothing can be committed where nothing waits
-no-commit : (E : Editor) → E .waiting ≡ nothingWaits → commitRefusal E ≡ none → ⊥
+no-commit : (E : Editor) → E .waiting ≡ nothingWaits → commitRefusal E ≡ Nothing → ⊥
 unfolding commitRefusal wholeUnless
 no-commit E e ok =
-    true≢false (sym (unless-none (waits (E .waiting)) _ (otherwise-first _ _ (otherwise-second (heldRefusal (E .held)) _ ok))) ∙ ap waits e ∙ nothing-waits)
+    true≢false (sym (unless-nothing (waits (E .waiting)) _ _ (otherwise-first _ _ (otherwise-second (heldRefusal (E .held)) _ ok))) ∙ ap waits e ∙ nothing-waits)
 
 -- the row that waits is committed as it was enquired about
 commits : (E : Editor) (w : NodeRow) → Waits E (some w) → commitRefusal E ≡ addRefusal (E .held) w
 unfolding commitRefusal wholeUnless addRefusal
 commits E w (e, ok) =
     let f : waits (E .waiting) ≡ true = ap waits e ∙ stored-waits w (accepted-few (E .held) w ok) in
-    ap (λ (x : Option Verdict). heldRefusal (E .held) otherwise x) (otherwise-none _ _ (none-unless (waits (E .waiting)) _ f) ∙ ap (newRefusal (E .held)) (ap waitingRow e ∙ stored-row w))
+    ap (λ (x : Finding). heldRefusal (E .held) otherwise x) (otherwise-nothing _ _ (nothing-unless (waits (E .waiting)) _ _ f) ∙ ap (newRefusal (E .held)) (ap waitingRow e ∙ stored-row w))
 
 committed-row : (E : Editor) (w : NodeRow) → Waits E (some w) → waitingRow (E .waiting) ≡ w
 committed-row E w (e, ok) = ap waitingRow e ∙ stored-row w
@@ -89,11 +90,11 @@ committed-row E w (e, ok) = ap waitingRow e ∙ stored-row w
 -- ---- one call
 
 -- where a commit succeeds, a row waits and is added
-commit-adds : (E : Editor) (p : Option NodeRow) → Waits E p → commitRefusal E ≡ none → (w : NodeRow) × (p ≡ some w) × (waitingRow (E .waiting) ≡ w) × (addRefusal (E .held) w ≡ none)
+commit-adds : (E : Editor) (p : Option NodeRow) → Waits E p → commitRefusal E ≡ Nothing → (w : NodeRow) × (p ≡ some w) × (waitingRow (E .waiting) ≡ w) × (addRefusal (E .held) w ≡ Nothing)
 commit-adds E none W ok = absurd (no-commit E W ok)
 commit-adds E (some w) W ok = (w, refl, committed-row E w W, W .1)
 
-call-holds : (E : Editor) (p : Option NodeRow) → Holds (E .held) → Waits E p → (call : EditorCall) → editorRefusal E call ≡ none → Holds (heldAfter E call)
+call-holds : (E : Editor) (p : Option NodeRow) → Holds (E .held) → Waits E p → (call : EditorCall) → editorRefusal E call ≡ Nothing → Holds (heldAfter E call)
 unfolding editorRefusal heldAfter
 call-holds E p H W (enquire w) ok = H
 call-holds E p H W commit ok =
@@ -101,7 +102,7 @@ call-holds E p H W commit ok =
 call-holds E p H W (grow (add w)) ok = add-holds (E .held) w ok
 call-holds E p H W (grow takeBack) ok = holds-shortened (E .held) (back-holds (E .held) ok) (some-row (E .held) ok)
 
-call-rows : (E : Editor) (p : Option NodeRow) → Waits E p → (call : EditorCall) → editorRefusal E call ≡ none → rowsHeld (heldAfter E call) ≡ doneEditing p call (rowsHeld (E .held))
+call-rows : (E : Editor) (p : Option NodeRow) → Waits E p → (call : EditorCall) → editorRefusal E call ≡ Nothing → rowsHeld (heldAfter E call) ≡ doneEditing p call (rowsHeld (E .held))
 unfolding editorRefusal heldAfter doneEditing done committed
 call-rows E p W (enquire w) ok = refl
 call-rows E p W commit ok =
@@ -113,7 +114,7 @@ call-rows E p W (grow (add w)) ok = add-rows (E .held) w ok
 call-rows E p W (grow takeBack) ok = back-rows (E .held) ok
 
 -- what waits after an accepted call, and after a refused one
-call-waits : (E : Editor) (call : EditorCall) → editorRefusal E call ≡ none → Waits (record { held = heldAfter E call; waiting = waitingAfter call }) (pendingAfter call)
+call-waits : (E : Editor) (call : EditorCall) → editorRefusal E call ≡ Nothing → Waits (record { held = heldAfter E call; waiting = waitingAfter call }) (pendingAfter call)
 unfolding editorRefusal heldAfter waitingAfter pendingAfter
 call-waits E (enquire w) ok = (refl, ok)
 call-waits E commit ok = refl
@@ -131,25 +132,25 @@ edited-holds : (E : Editor) (p : Option NodeRow) → Holds (E .held) → Waits E
 unfolding edited leftBy
 edited-holds E p H W call = by (editorRefusal E call) refl
   where
-    by : (x : Option Verdict) → editorRefusal E call ≡ x → Holds (leftBy x (E .held) (heldAfter E call))
-    by none e = call-holds E p H W call e
-    by (some v) e = H
+    by : (x : Finding) → editorRefusal E call ≡ x → Holds (leftBy x (E .held) (heldAfter E call))
+    by Nothing e = call-holds E p H W call e
+    by (Found why place) e = H
 
 edited-waits : (E : Editor) (p : Option NodeRow) → Waits E p → (call : EditorCall) → Waits (edited E call) (pendingBy (editorRefusal E call) p call)
 unfolding edited leftBy waitingBy pendingBy
 edited-waits E p W call = by (editorRefusal E call) refl
   where
-    by : (x : Option Verdict) → editorRefusal E call ≡ x → Waits (record { held = leftBy x (E .held) (heldAfter E call); waiting = waitingBy x (E .waiting) call }) (pendingBy x p call)
-    by none e = call-waits E call e
-    by (some v) e = refused-waits E p W call
+    by : (x : Finding) → editorRefusal E call ≡ x → Waits (record { held = leftBy x (E .held) (heldAfter E call); waiting = waitingBy x (E .waiting) call }) (pendingBy x p call)
+    by Nothing e = call-waits E call e
+    by (Found why place) e = refused-waits E p W call
 
 edited-rows : (E : Editor) (p : Option NodeRow) → Waits E p → (call : EditorCall) → rowsHeld (edited E call .held) ≡ doneEditingIf (editorRefusal E call) p call (rowsHeld (E .held))
 unfolding edited leftBy doneEditingIf
 edited-rows E p W call = by (editorRefusal E call) refl
   where
-    by : (x : Option Verdict) → editorRefusal E call ≡ x → rowsHeld (leftBy x (E .held) (heldAfter E call)) ≡ doneEditingIf x p call (rowsHeld (E .held))
-    by none e = call-rows E p W call e
-    by (some v) e = refl
+    by : (x : Finding) → editorRefusal E call ≡ x → rowsHeld (leftBy x (E .held) (heldAfter E call)) ≡ doneEditingIf x p call (rowsHeld (E .held))
+    by Nothing e = call-rows E p W call e
+    by (Found why place) e = refl
 
 -- ---- lists of calls
 
@@ -170,7 +171,7 @@ unfolding opened begun holding rowsHeld firstRows
 rows-edited T calls = all-left (opened T) none refl calls [] refl
 
 -- they pass the check, no node and missing children aside
-pub always-edited : (T : Tableau) → beginRefusal T ≡ none → (calls : List EditorCall) → heldRefusal (editedAll (opened T) calls .held) ≡ none
+pub always-edited : (T : Tableau) → beginRefusal T ≡ Nothing → (calls : List EditorCall) → heldRefusal (editedAll (opened T) calls .held) ≡ Nothing
 unfolding opened beginRefusal
 always-edited T ok calls =
     held-clears (editedAll (opened T) calls .held) .1 (all-held (opened T) none (held-clears (begun T) .0 ok) refl calls .0)
@@ -209,7 +210,7 @@ counts-edited E (grow takeBack) n l shown e = counts-left (takeBackRefusal (E .h
 
 -- a commit succeeds exactly when a row waits, "the row last enquired about, if that enquiry said yes and no commit or take-back succeeded
 -- since", and then gives what the enquiry gives
-pub commit-exactly : (T : Tableau) → beginRefusal T ≡ none → (calls : List EditorCall) → (commitRefusal (editedAll (opened T) calls) ≡ none) ↔ ((w : NodeRow) × (pending (opened T) none calls ≡ some w))
+pub commit-exactly : (T : Tableau) → beginRefusal T ≡ Nothing → (calls : List EditorCall) → (commitRefusal (editedAll (opened T) calls) ≡ Nothing) ↔ ((w : NodeRow) × (pending (opened T) none calls ≡ some w))
 unfolding opened beginRefusal
 commit-exactly T ok calls =
     let h = all-held (opened T) none (held-clears (begun T) .0 ok) refl calls .1 in (
@@ -217,25 +218,25 @@ commit-exactly T ok calls =
       λ (w, e). let g : Waits (editedAll (opened T) calls) (some w) = subst (Waits (editedAll (opened T) calls)) e h in commits (editedAll (opened T) calls) w g ∙ g .1,
     )
 
-pub commit-as-enquired : (T : Tableau) → beginRefusal T ≡ none → (calls : List EditorCall) (w : NodeRow) → pending (opened T) none calls ≡ some w → editorAnswer (editedAll (opened T) calls) commit ≡ editorAnswer (editedAll (opened T) calls) (enquire w)
+pub commit-as-enquired : (T : Tableau) → beginRefusal T ≡ Nothing → (calls : List EditorCall) (w : NodeRow) → pending (opened T) none calls ≡ some w → editorAnswer (editedAll (opened T) calls) commit ≡ editorAnswer (editedAll (opened T) calls) (enquire w)
 unfolding opened beginRefusal editorAnswer editorRefusal spokenOf
 commit-as-enquired T ok calls w e =
     let E = editedAll (opened T) calls in
     let g : Waits E (some w) = subst (Waits E) e (all-held (opened T) none (held-clears (begun T) .0 ok) refl calls .1) in
-    ap₂ (λ (x : Option Verdict) (v : NodeRow). growthBy x (E .held) (added (E .held) v)) (commits E w g) (committed-row E w g)
+    ap₂ (λ (x : Finding) (v : NodeRow). growthBy x (E .held) (added (E .held) v)) (commits E w g) (committed-row E w g)
 
 -- "26, by commit, when no such row waits"
-pub commit-26 : (T : Tableau) → beginRefusal T ≡ none → (calls : List EditorCall) → pending (opened T) none calls ≡ none → commitRefusal (editedAll (opened T) calls) ≡ some (Refused Waiting Whole)
+pub commit-26 : (T : Tableau) → beginRefusal T ≡ Nothing → (calls : List EditorCall) → pending (opened T) none calls ≡ none → commitRefusal (editedAll (opened T) calls) ≡ Found Waiting Whole
 unfolding opened beginRefusal commitRefusal wholeUnless
 commit-26 T ok calls e =
     let E = editedAll (opened T) calls in
     let h = all-held (opened T) none (held-clears (begun T) .0 ok) refl calls in
     let g : Waits E none = subst (Waits E) e (h .1) in
-    otherwise-none (heldRefusal (E .held)) _ (held-clears (E .held) .1 (h .0))
-    ∙ otherwise-some _ _ (Refused Waiting Whole) (some-unless (waits (E .waiting)) (Refused Waiting Whole) (ap waits g ∙ nothing-waits))
+    otherwise-nothing (heldRefusal (E .held)) _ (held-clears (E .held) .1 (h .0))
+    ∙ otherwise-found _ _ (found-unless (waits (E .waiting)) _ _ (ap waits g ∙ nothing-waits))
 
 -- "After 26 a waiting row is judged as by an enquiry, so one altered between calls gets its refusal."
 pub commit-judged : (E : Editor) → waits (E .waiting) ≡ true → commitRefusal E ≡ addRefusal (E .held) (waitingRow (E .waiting))
 unfolding commitRefusal wholeUnless addRefusal
 commit-judged E f =
-    ap (λ (x : Option Verdict). heldRefusal (E .held) otherwise x) (otherwise-none _ _ (none-unless (waits (E .waiting)) _ f))
+    ap (λ (x : Finding). heldRefusal (E .held) otherwise x) (otherwise-nothing _ _ (nothing-unless (waits (E .waiting)) _ _ f))

@@ -5,20 +5,23 @@ use mathlib.Core.Path.{_≡_, refl, sym, _∙_, ap, ap₂, subst}
 use mathlib.Core.Logic.{_↔_, ⊎-elim, Iff·trans}
 use mathlib.Core.Bool.{Bool, true, false, false≢true}
 use mathlib.Core.List.{List, [], _∷_, _++_}
-use mathlib.Core.Option.{Option, none, some, Option·none-ne-some}
 use lib.Dec.{leb, ltb}
 use lib.IntN.{ℤ, pos}
 use lib.ListN.{length, take, length-append}
 use lib.Seq.{take-append-le, take-all, take-length, take-append-seam}
 use borrow.Author.Tests.{le-leb, ltb-true, lt-ltb, eq-eqb}
-use Rattle.stab.specs.Basic.{if_then_else_, _and_, _otherwise_}
+use Rattle.stab.specs.Basic.{if_then_else_, _and_}
 use Rattle.stab.specs.Node.{Tableau, Node, node, set, childCount}
 use Rattle.stab.specs.Rule.{rule, childrenFit}
 use Rattle.stab.specs.Check.{wholeUnless, atUnless, stepRefusal, nodeRefusal, linkCount, check}
 use Rattle.stab.specs.Keeps.{KeepsNode}
 use Rattle.stab.specs.declared.Verdict.{Verdict}
 use Rattle.stab.specs.declared.Verdict.the-variants.{Accepted, Refused}
-use Rattle.stab.proofs.Bools.{same-test, and-left, and-right, and-both, otherwise-first, otherwise-second, otherwise-none, unless-none, none-unless}
+use Rattle.stab.specs.declared.Finding.{Finding}
+use Rattle.stab.specs.declared.Finding.the-variants.{Nothing, Found}
+use Rattle.stab.specs.declared.Refusal.{Refusal}
+use Rattle.stab.specs.declared.Place.{Place}
+use Rattle.stab.proofs.Bools.{same-test, and-left, and-right, and-both, otherwise-first, otherwise-second, otherwise-nothing, unless-nothing, nothing-unless, nothing≢found}
 use Rattle.stab.proofs.Scans.{below-suc}
 use Rattle.stab.proofs.Exactness.Steps.{step-clears}
 use Rattle.stab.proofs.Exactness.{accepts-exactly}
@@ -47,12 +50,12 @@ firstRows-length T (suc n) = length-append (firstRows T n) (rowOf T n ∷ []) �
 
 -- ---- accepted calls
 
-module _ (T : Tableau) (w : NodeRow) (ok : addRefusal T w ≡ none) where
+module _ (T : Tableau) (w : NodeRow) (ok : addRefusal T w ≡ Nothing) where
   pub added-holds : Holds T
   unfolding addRefusal
   added-holds = held-clears T .0 (otherwise-first _ _ ok)
 
-  pub added-ok : newRefusal T w ≡ none
+  pub added-ok : newRefusal T w ≡ Nothing
   unfolding addRefusal
   added-ok = otherwise-second (heldRefusal T) _ ok
 
@@ -71,14 +74,14 @@ module _ (T : Tableau) (w : NodeRow) (ok : addRefusal T w ≡ none) where
           ap₂ (λ (v : Node) (s : List ℤ). record { up = v .up; rule = v .rule; on = v .on; with = v .with; other = v .other; to = v .to; by = v .by; members = s })
           (added-new T added-holds w (room T added-holds w added-ok)) (added-last T added-holds w (room T added-holds w added-ok))
 
-module _ (T : Tableau) (ok : takeBackRefusal T ≡ none) where
+module _ (T : Tableau) (ok : takeBackRefusal T ≡ Nothing) where
   pub back-holds : Holds T
   unfolding takeBackRefusal
   back-holds = held-clears T .0 (otherwise-first _ _ ok)
 
   pub some-row : 0 < T .nodeRows
   unfolding takeBackRefusal wholeUnless
-  some-row = ltb-true 0 (T .nodeRows) (unless-none (ltb 0 (T .nodeRows)) _ (otherwise-second (heldRefusal T) _ ok))
+  some-row = ltb-true 0 (T .nodeRows) (unless-nothing (ltb 0 (T .nodeRows)) _ _ (otherwise-second (heldRefusal T) _ ok))
 
   -- the last one gone
   pub back-rows : rowsHeld (shortened T) ≡ withoutLast (rowsHeld T)
@@ -94,12 +97,12 @@ module _ (T : Tableau) (ok : takeBackRefusal T ≡ none) where
 
 -- ---- lists of calls
 
-pub passed : (T : Tableau) (call : Call) → callRefusal T call ≡ none → Holds (changed T call)
+pub passed : (T : Tableau) (call : Call) → callRefusal T call ≡ Nothing → Holds (changed T call)
 unfolding callRefusal changed
 passed T (add w) ok = add-holds T w ok
 passed T takeBack ok = holds-shortened T (back-holds T ok) (some-row T ok)
 
-passed-rows : (T : Tableau) (call : Call) → callRefusal T call ≡ none → rowsHeld (changed T call) ≡ done call (rowsHeld T)
+passed-rows : (T : Tableau) (call : Call) → callRefusal T call ≡ Nothing → rowsHeld (changed T call) ≡ done call (rowsHeld T)
 unfolding callRefusal changed done
 passed-rows T (add w) ok = add-rows T w ok
 passed-rows T takeBack ok = back-rows T ok
@@ -108,17 +111,17 @@ after-holds : (T : Tableau) → Holds T → (call : Call) → Holds (after T cal
 unfolding after leftBy
 after-holds T H call = by (callRefusal T call) refl
   where
-    by : (x : Option Verdict) → callRefusal T call ≡ x → Holds (leftBy x T (changed T call))
-    by none e = passed T call e
-    by (some v) e = H
+    by : (x : Finding) → callRefusal T call ≡ x → Holds (leftBy x T (changed T call))
+    by Nothing e = passed T call e
+    by (Found why p) e = H
 
 after-rows : (T : Tableau) (call : Call) → rowsHeld (after T call) ≡ doneIf (callRefusal T call) call (rowsHeld T)
 unfolding after leftBy doneIf
 after-rows T call = by (callRefusal T call) refl
   where
-    by : (x : Option Verdict) → callRefusal T call ≡ x → rowsHeld (leftBy x T (changed T call)) ≡ doneIf x call (rowsHeld T)
-    by none e = passed-rows T call e
-    by (some v) e = refl
+    by : (x : Finding) → callRefusal T call ≡ x → rowsHeld (leftBy x T (changed T call)) ≡ doneIf x call (rowsHeld T)
+    by Nothing e = passed-rows T call e
+    by (Found why p) e = refl
 
 all-hold : (T : Tableau) → Holds T → (calls : List Call) → Holds (afterAll T calls)
 unfolding afterAll
@@ -131,7 +134,7 @@ all-rows T [] ws e = e
 all-rows T (call ∷ calls) ws e = all-rows (after T call) calls _ (after-rows T call ∙ ap (doneIf (callRefusal T call) call) e)
 
 -- the rows held always pass the check, no node and missing children aside
-pub always-held : (T : Tableau) → beginRefusal T ≡ none → (calls : List Call) → heldRefusal (afterAll (begun T) calls) ≡ none
+pub always-held : (T : Tableau) → beginRefusal T ≡ Nothing → (calls : List Call) → heldRefusal (afterAll (begun T) calls) ≡ Nothing
 unfolding beginRefusal
 always-held T ok calls = held-clears (afterAll (begun T) calls) .1 (all-hold (begun T) (held-clears (begun T) .0 ok) calls)
 
@@ -141,9 +144,9 @@ unfolding begun holding rowsHeld firstRows
 rows-left T calls = all-rows (begun T) calls [] refl
 
 -- "A refused call leaves the tableau as it stood"
-pub refused-leaves : (T : Tableau) (call : Call) (v : Verdict) → callRefusal T call ≡ some v → after T call ≡ T
+pub refused-leaves : (T : Tableau) (call : Call) (why : Refusal) (p : Place) → callRefusal T call ≡ Found why p → after T call ≡ T
 unfolding after leftBy
-refused-leaves T call v e = ap (λ (x : Option Verdict). leftBy x T (changed T call)) e
+refused-leaves T call why p e = ap (λ (x : Finding). leftBy x T (changed T call)) e
 
 -- ---- closed
 
@@ -157,18 +160,17 @@ closed-counts T = (λ h. by (check T) refl h, λ e. ap isAccepted e)
     by (Refused why p) e h = absurd (false≢true h)
 
 -- "closed" speaks of the rows that a call leaves
-shown-is : (x : Option Verdict) (old new : Tableau) → shownNumber (growthBy x old new) ≡ (if closed (leftBy x old new) then 1 else 0)
+shown-is : (x : Finding) (old new : Tableau) → shownNumber (growthBy x old new) ≡ (if closed (leftBy x old new) then 1 else 0)
 unfolding shownNumber growthBy leftBy
-shown-is none old new = refl
-shown-is (some (Refused why p)) old new = refl
-shown-is (some (Accepted n l)) old new = refl
+shown-is Nothing old new = refl
+shown-is (Found why p) old new = refl
 
 shows : (b : Bool) → (_≡_ {A = ℕ} (if b then 1 else 0) 1) ↔ (b ≡ true)
 unfolding if_then_else_
 shows true = (λ e. refl, λ e. refl)
 shows false = (λ e. absurd (omega arith), λ e. absurd (false≢true e))
 
-pub closed-left : (x : Option Verdict) (old new : Tableau) →
+pub closed-left : (x : Finding) (old new : Tableau) →
     let U = leftBy x old new in
     (shownNumber (growthBy x old new) ≡ 1) ↔ (check U ≡ Accepted (U .nodeRows) (linkCount U))
 closed-left x old new =
@@ -187,10 +189,10 @@ pub closed-throughout : (T : Tableau) (calls : List Call) (call : Call) →
 closed-throughout T calls call = closed-exactly (afterAll (begun T) calls) call
 
 -- and after the first call
-pub left-same : (x : Option Verdict) (U : Tableau) → leftBy x U U ≡ U
+pub left-same : (x : Finding) (U : Tableau) → leftBy x U U ≡ U
 unfolding leftBy
-left-same none U = refl
-left-same (some v) U = refl
+left-same Nothing U = refl
+left-same (Found why p) U = refl
 
 pub closed-begun : (T : Tableau) → (shownNumber (beginAnswer T) ≡ 1) ↔ (check (begun T) ≡ Accepted (begun T .nodeRows) (linkCount (begun T)))
 unfolding beginAnswer
@@ -214,11 +216,10 @@ begun-shows-none T =
     ∙ ap (λ (b : Bool). if b then 1 else 0) (ap closed (left-same (beginRefusal T) (begun T)) ∙ begun-open T)
 
 -- an accepted call "gives place 0 and the node and link counts of the rows held"
-pub counts-left : (x : Option Verdict) (old new : Tableau) (n l : ℕ) (shown : Bool) → growthBy x old new ≡ Held n l shown → (n ≡ leftBy x old new .nodeRows) × (l ≡ linkCount (leftBy x old new))
+pub counts-left : (x : Finding) (old new : Tableau) (n l : ℕ) (shown : Bool) → growthBy x old new ≡ Held n l shown → (n ≡ leftBy x old new .nodeRows) × (l ≡ linkCount (leftBy x old new))
 unfolding growthBy leftBy
-counts-left none old new n l shown e = (cc, cc)
-counts-left (some (Refused why p)) old new n l shown e = let z : _≡_ {A = ℕ} 0 1 = cc in absurd (omega arith)
-counts-left (some (Accepted m k)) old new n l shown e = let z : _≡_ {A = ℕ} 0 1 = cc in absurd (omega arith)
+counts-left Nothing old new n l shown e = (cc, cc)
+counts-left (Found why p) old new n l shown e = let z : _≡_ {A = ℕ} 0 1 = cc in absurd (omega arith)
 
 pub counts-held : (T : Tableau) (call : Call) (n l : ℕ) (shown : Bool) → answered T call ≡ Held n l shown → (n ≡ after T call .nodeRows) × (l ≡ linkCount (after T call))
 unfolding answered after
@@ -237,7 +238,7 @@ unfolding childrenAll
 fit-all T zero h = refl
 fit-all T (suc n) h = and-both _ _ (fit-all T n (λ j l. h j (omega arith))) (h n (omega arith))
 
-pub closed-is : (T : Tableau) → heldRefusal T ≡ none → closed T ≡ complete T
+pub closed-is : (T : Tableau) → heldRefusal T ≡ Nothing → closed T ≡ complete T
 unfolding complete heldNodeRefusal nodeRefusal atUnless childrenFit
 closed-is T h = same-test _ _ (λ c. to (closed-counts T .0 c)) (λ c. closed-counts T .1 (from c))
   where
@@ -252,7 +253,7 @@ closed-is T h = same-test _ _ (λ c. to (closed-counts T .0 c)) (λ c. closed-co
     node-kept : complete T ≡ true → (j : ℕ) → j < T .nodeRows → KeepsNode T j
     node-kept c j l =
         let f = all-fit T (T .nodeRows) (and-right (ltb 0 (T .nodeRows)) _ c) j l in
-        let s = step-clears T j .0 (otherwise-none (stepRefusal T j) _ (otherwise-first _ _ (H .steps j l)) ∙ none-unless (childrenFit T j) _ f) in
+        let s = step-clears T j .0 (otherwise-nothing (stepRefusal T j) _ (otherwise-first _ _ (H .steps j l)) ∙ nothing-unless (childrenFit T j) _ _ f) in
         record { set = H .sets j l; parent = H .parents j l; drawn = s .0; step = s .1 }
 
     from : complete T ≡ true → check T ≡ Accepted (T .nodeRows) (linkCount T)
@@ -261,7 +262,7 @@ closed-is T h = same-test _ _ (λ c. to (closed-counts T .0 c)) (λ c. closed-co
         (record { older = record { tables = H .tables; formulas = H .formulas; hasNode = ltb-true 0 (T .nodeRows) (and-left _ _ c); nodes = node-kept c }; fresh = H .fresh }, refl, refl)
 
 -- rows that are refused are not closed
-closed-held : (T : Tableau) → closed T ≡ true → heldRefusal T ≡ none
+closed-held : (T : Tableau) → closed T ≡ true → heldRefusal T ≡ Nothing
 unfolding nodeRefusal childrenHeld
 closed-held T c =
     let k = accepts-exactly T (T .nodeRows) (linkCount T) .0 (closed-counts T .0 c) .0 in
@@ -277,9 +278,9 @@ closed-held T c =
           held-node T j (otherwise-first _ _ (step-clears T j .1 (v .drawn, v .step))) (le-leb (childCount T j) (rule T j .children) (omega (arith, v .step .children)));
     })
 
-pub refused-open : (T : Tableau) (v : Verdict) → heldRefusal T ≡ some v → closed T ≡ false
-refused-open T v e = by (closed T) refl
+pub refused-open : (T : Tableau) (why : Refusal) (p : Place) → heldRefusal T ≡ Found why p → closed T ≡ false
+refused-open T why p e = by (closed T) refl
   where
     by : (b : Bool) → closed T ≡ b → closed T ≡ false
-    by true c = absurd (Option·none-ne-some v (sym (closed-held T c) ∙ e))
+    by true c = absurd (nothing≢found (sym (closed-held T c) ∙ e))
     by false c = c

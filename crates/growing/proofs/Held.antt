@@ -5,21 +5,21 @@ use mathlib.Core.Path.{_≡_, refl, sym, _∙_, ap, ap₂, subst}
 use mathlib.Core.Logic.{_⊎_, inl, inr, ⊎-elim}
 use mathlib.Core.Bool.{Bool, true, false}
 use mathlib.Core.List.{List, [], _∷_, _++_, List·Memᴰ}
-use mathlib.Core.Option.{Option, none, some}
 use lib.Dec.{leb, ltb}
 use lib.IntN.{ℤ, pos, negℤ, _+ℤ_, pos-ne-negsuc}
 use lib.Signed.{leZ}
 use lib.ListN.{length, take, drop, replicate, length-append, length-replicate}
 use lib.Seq.{length-take-le}
 use borrow.Author.Tests.{leb-true, le-leb, ltb-true}
-use Rattle.stab.specs.Basic.{if_then_else_, eqZ, _and_, nat, count, _otherwise_}
+use Rattle.stab.specs.Basic.{if_then_else_, eqZ, _and_, nat, count}
 use Rattle.stab.specs.Node.{Tableau, Node, rows, rowCount, formula, nodeAt, node, setOf, set, setStart, setEnd, names, childCountOf, childCount}
 use Rattle.stab.specs.Rule.{rule, ruleOf}
 use Rattle.stab.specs.Check.{wholeUnless, atUnless, setRefusal, parentRefusal, stepRefusal}
 use Rattle.stab.specs.Keeps.{Below, OuterRow, KeepsSet, KeepsParent, KeepsTables}
 use Rattle.stab.specs.Text.{padded}
 use Rattle.stab.specs.declared.Rule.{Rule}
-use Rattle.stab.proofs.Bools.{decide, and-left, and-right, if-true, if-false, unless-none, none-unless, otherwise-first, otherwise-second, otherwise-none}
+use Rattle.stab.specs.declared.Finding.the-variants.{Nothing}
+use Rattle.stab.proofs.Bools.{decide, and-left, and-right, if-true, if-false, unless-nothing, nothing-unless, otherwise-first, otherwise-second, otherwise-nothing}
 use Rattle.stab.proofs.Whole.{atom, num, of-le, le-of, leZ-of, of-leZ, eqZ-true, eqZ-not, nat-pos, pos-injective}
 use Rattle.stab.proofs.Trees.{below-nat, below-pos}
 use Rattle.stab.proofs.Tests.{below-tests}
@@ -92,17 +92,17 @@ count-more p n = go (p n)
     go false = omega arith
 
 -- nothing is found of a node, missing children aside
-pub held-node : (T : Tableau) (j : ℕ) → stepRefusal T j ≡ none → childrenHeld T j ≡ true → heldNodeRefusal T j ≡ none
+pub held-node : (T : Tableau) (j : ℕ) → stepRefusal T j ≡ Nothing → childrenHeld T j ≡ true → heldNodeRefusal T j ≡ Nothing
 unfolding heldNodeRefusal atUnless
-held-node T j s c = otherwise-none (stepRefusal T j) _ s ∙ none-unless (childrenHeld T j) _ c
+held-node T j s c = otherwise-nothing (stepRefusal T j) _ s ∙ nothing-unless (childrenHeld T j) _ _ c
 
-pub held-step : (T : Tableau) (j : ℕ) → heldNodeRefusal T j ≡ none → stepRefusal T j ≡ none
+pub held-step : (T : Tableau) (j : ℕ) → heldNodeRefusal T j ≡ Nothing → stepRefusal T j ≡ Nothing
 unfolding heldNodeRefusal
 held-step T j h = otherwise-first _ _ h
 
-pub held-children : (T : Tableau) (j : ℕ) → heldNodeRefusal T j ≡ none → childrenHeld T j ≡ true
+pub held-children : (T : Tableau) (j : ℕ) → heldNodeRefusal T j ≡ Nothing → childrenHeld T j ≡ true
 unfolding heldNodeRefusal atUnless
-held-children T j h = unless-none (childrenHeld T j) _ (otherwise-second (stepRefusal T j) _ h)
+held-children T j h = unless-nothing (childrenHeld T j) _ _ (otherwise-second (stepRefusal T j) _ h)
 
 -- a node's parent is not a later node
 no-later : (T : Tableau) (i p : ℕ) → i ≤ p → KeepsParent T i → names (T .nodes) (pos p) i ≡ false
@@ -113,10 +113,10 @@ no-later T (suc i) p h k =
     eqZ-not _ _ (λ e. let l = below-nat (suc i) (nodeAt (T .nodes) (suc i) .up) b in let q = pos-injective _ p (below-pos (suc i) _ b ∙ e) in omega arith)
 
 -- where no child is beyond, the parent's children are not too many
-beyond-held : (U : Tableau) (k j : ℕ) → j < k → nodeAt (U .nodes) k .up ≡ pos j → beyondRefusal U k ≡ none → childrenHeld U j ≡ true
+beyond-held : (U : Tableau) (k j : ℕ) → j < k → nodeAt (U .nodes) k .up ≡ pos j → beyondRefusal U k ≡ Nothing → childrenHeld U j ≡ true
 unfolding beyondRefusal atUnless node nat
 beyond-held U zero j h e b = absurd (omega arith)
-beyond-held U (suc i) j h e b = subst (λ (z : ℤ). childrenHeld U (nat z) ≡ true) e (unless-none (childrenHeld U (nat (nodeAt (U .nodes) (suc i) .up))) _ b)
+beyond-held U (suc i) j h e b = subst (λ (z : ℤ). childrenHeld U (nat z) ≡ true) e (unless-nothing (childrenHeld U (nat (nodeAt (U .nodes) (suc i) .up))) _ _ b)
 
 -- ---- what room is
 
@@ -144,7 +144,7 @@ module _ (T : Tableau) (H : Holds T) where
     pub old-parent : (j : ℕ) → j < T .nodeRows → KeepsParent (added T w) j
     old-parent j h = parent-kept A j h (H .parents j h)
 
-    pub old-step : (j : ℕ) → j < T .nodeRows → stepRefusal (added T w) j ≡ none
+    pub old-step : (j : ℕ) → j < T .nodeRows → stepRefusal (added T w) j ≡ Nothing
     old-step j h = step-same A j h (H .parents j h) ∙ held-step T j (H .steps j h)
 
     -- the children that node j has with the new row
@@ -186,12 +186,12 @@ module _ (T : Tableau) (H : Holds T) where
 
   -- ---- and where it is accepted
 
-  module _ (w : NodeRow) (ok : newRefusal T w ≡ none) where
+  module _ (w : NodeRow) (ok : newRefusal T w ≡ Nothing) where
     pub room : roomFor T w ≡ true
     unfolding newRefusal wholeUnless
-    room = unless-none (roomFor T w) _ (otherwise-first _ _ ok)
+    room = unless-nothing (roomFor T w) _ _ (otherwise-first _ _ ok)
 
-    ok-row : addedRefusal (added T w) (T .nodeRows) ≡ none
+    ok-row : addedRefusal (added T w) (T .nodeRows) ≡ Nothing
     unfolding newRefusal
     ok-row = otherwise-second _ _ ok
 
@@ -203,12 +203,12 @@ module _ (T : Tableau) (H : Holds T) where
     unfolding addedRefusal
     new-parent = parent-clears (added T w) (T .nodeRows) .0 (otherwise-first _ _ (otherwise-second (setRefusal (added T w) (T .nodeRows)) _ ok-row))
 
-    new-beyond : beyondRefusal (added T w) (T .nodeRows) ≡ none
+    new-beyond : beyondRefusal (added T w) (T .nodeRows) ≡ Nothing
     unfolding addedRefusal
     new-beyond =
         otherwise-first _ _ (otherwise-second (parentRefusal (added T w) (T .nodeRows)) _ (otherwise-second (setRefusal (added T w) (T .nodeRows)) _ ok-row))
 
-    new-step : stepRefusal (added T w) (T .nodeRows) ≡ none
+    new-step : stepRefusal (added T w) (T .nodeRows) ≡ Nothing
     unfolding addedRefusal
     new-step =
         otherwise-second (beyondRefusal (added T w) (T .nodeRows)) _ (otherwise-second (parentRefusal (added T w) (T .nodeRows)) _ (otherwise-second (setRefusal (added T w) (T .nodeRows)) _ ok-row))
@@ -229,7 +229,7 @@ module _ (T : Tableau) (H : Holds T) where
       fresh = H .fresh;
       sets = λ j h. at-last j h (KeepsSet (added T w)) (old-set w room) new-set;
       parents = λ j h. at-last j h (KeepsParent (added T w)) (old-parent w room) new-parent;
-      steps = λ j h. at-last j h (λ i. heldNodeRefusal (added T w) i ≡ none) (λ i l. held-node (added T w) i (old-step w room i l) (old-children i l)) (held-node (added T w) (T .nodeRows) new-step (new-children w room new-parent));
+      steps = λ j h. at-last j h (λ i. heldNodeRefusal (added T w) i ≡ Nothing) (λ i l. held-node (added T w) i (old-step w room i l) (old-children i l)) (held-node (added T w) (T .nodeRows) new-step (new-children w room new-parent));
     }
       where
         at-last : (j : ℕ) → j < suc (T .nodeRows) → (P : ℕ → Type 0) → ((i : ℕ) → i < T .nodeRows → P i) → P (T .nodeRows) → P j

@@ -4,17 +4,16 @@ use native.Mathlib.Omega.{arith}
 use mathlib.Core.Path.{_≡_, refl, sym, _∙_, ap, ap₂, subst}
 use mathlib.Core.Bool.{Bool, true, false}
 use mathlib.Core.List.{List, [], _∷_}
-use mathlib.Core.Option.{Option, none, some}
 use lib.Dec.{eqb, leb}
 use lib.IntN.{ℤ, pos}
-use Rattle.stab.specs.Basic.{if_then_else_, _and_, _or_, _implies_, eqZ, nat, below, has, allOf, _otherwise_}
+use Rattle.stab.specs.Basic.{if_then_else_, _and_, _or_, _implies_, eqZ, nat, below, has, allOf}
 use Rattle.stab.specs.Formula.{Row, tree}
 use Rattle.stab.specs.Node.{Tableau, Node, Bound, rows, rowCount, isRow, row, formula, nodeAt, node, set, splitAt, boundOf, bound, rank, isExact}
 use Rattle.stab.specs.Rule.{rule, ruleOf, ofRule, given, oneOf, drawnFrom, drawn, kindFits, onStands, otherFits, linkFits, symbolFits, fieldsFit, targetFits, splitFits, unfoldFits, clashFits, voidFits, loopFits, boundFits, shortened, isInstance, partnersFit, isLowered, hasLowered, loweredFits}
 use Rattle.stab.specs.Check.{atUnless, stepRefusal}
 use Rattle.stab.specs.Keeps.{Below, KeepsParent}
 use Rattle.stab.specs.declared.Refusal.the-variants.{Drawn, Fields, Target, Bound as BoundWrong, Partner, Lowered}
-use Rattle.stab.proofs.Bools.{implies-use, otherwise-same, unless-none}
+use Rattle.stab.proofs.Bools.{implies-use, otherwise-same, unless-nothing}
 use Rattle.stab.proofs.Trees.{below-nat}
 use Rattle.stab.proofs.Tests.{below-tests}
 use Rattle.tidied.proofs.Agreeing.{Agrees, rank-same, bound-same}
@@ -140,5 +139,5 @@ module _ {T U : Tableau} {k : ℕ} (A : Alike T U k) where
       (otherwise-same _ _ _ (λ a.
       otherwise-same _ _ _ (λ b.
       otherwise-same _ _ _ (λ c.
-      let t = unless-none (targetFits T j) _ c in
+      let t = unless-nothing (targetFits T j) _ _ c in
       rw (bound-fits-same j h t, partners-same j h, lowered-same j h t) refl))))

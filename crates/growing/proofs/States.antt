@@ -5,18 +5,18 @@ use mathlib.Core.Path.{_≡_, refl, sym, _∙_, ap, ap₂, subst}
 use mathlib.Core.Logic.{_⊎_, inl, inr, ⊎-elim, Iff·trans}
 use mathlib.Core.Bool.{Bool, true, false}
 use mathlib.Core.List.{List, [], _∷_, _++_}
-use mathlib.Core.Option.{Option, none, some}
 use lib.Dec.{leb, ltb}
 use lib.IntN.{ℤ, pos, _+ℤ_}
 use lib.ListN.{length, getD, take, drop, replicate, length-append, length-take, List·getD-append}
 use lib.Seq.{getD-take, length-take-le, drop-at, take-at, take-append-le, take-all}
 use borrow.Author.Tests.{leb-true, ltb-true}
-use Rattle.stab.specs.Basic.{_and_, nat, scan, _otherwise_}
+use Rattle.stab.specs.Basic.{_and_, nat}
 use Rattle.stab.specs.Node.{Tableau, Node, rows, rowCount, nodeAt, node, setOf, set, setStart, setEnd}
 use Rattle.stab.specs.Check.{holds, setRefusal, parentRefusal, tablesHold, withinLimits, refusalBy, presentFormulas}
 use Rattle.stab.specs.Keeps.{KeepsFormulas, KeepsSet, KeepsParent, KeepsTables, Fresh}
 use Rattle.stab.specs.Text.{padded}
 use Rattle.stab.specs.declared.Refusal.the-variants.{TableTooShort, TooMany}
+use Rattle.stab.specs.declared.Finding.the-variants.{Nothing}
 use Rattle.stab.proofs.Bools.{and-left, and-right}
 use Rattle.stab.proofs.Tests.{_&_, le-tests, _clears_, whole-clears, _then_, scan-clears, itself}
 use Rattle.stab.proofs.Exactness.Formulas.{present-clears}
@@ -33,7 +33,7 @@ pub record Holds (T : Tableau) : Type 0 where
   pub fresh : Fresh T
   pub sets : (j : ℕ) → j < T .nodeRows → KeepsSet T j
   pub parents : (j : ℕ) → j < T .nodeRows → KeepsParent T j
-  pub steps : (j : ℕ) → j < T .nodeRows → heldNodeRefusal T j ≡ none
+  pub steps : (j : ℕ) → j < T .nodeRows → heldNodeRefusal T j ≡ Nothing
 
 pub held-clears : (T : Tableau) → heldRefusal T clears Holds T
 unfolding heldRefusal refusalBy tablesHold holds withinLimits
@@ -73,7 +73,7 @@ held-clears T =
           ),
     )
   where
-    nothing : _clears_ {A = Rattle.stab.specs.declared.Verdict.Verdict} none (Unit {0})
+    nothing : Nothing clears Unit {0}
     nothing = (λ e. tt, λ u. refl)
 
 -- ---- tables that hold some rows, 0 past them

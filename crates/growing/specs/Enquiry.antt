@@ -10,7 +10,8 @@ use Rattle.stab.specs.Node.{Tableau}
 use Rattle.stab.specs.Check.{wholeUnless}
 use Rattle.stab.specs.Text.{padded}
 use Rattle.stab.specs.declared.Refusal.the-variants.{Waiting}
-use Rattle.stab.specs.declared.Verdict.{Verdict}
+use Rattle.stab.specs.declared.Finding.{Finding}
+use Rattle.stab.specs.declared.Finding.the-variants.{Nothing, Found}
 use Rattle.growing.specs.Growing.{heldRefusal, NodeRow, added, newRefusal, addRefusal, shortened, takeBackRefusal, growthBy, leftBy, begun, done, Call, add, takeBack}
 use Rattle.growing.specs.declared.Growth.{Growth}
 
@@ -55,14 +56,14 @@ pub data EditorCall : Type 0 where
   grow : Call → EditorCall
 
 -- "26, by commit, when no such row waits. After 26 a waiting row is judged as by an enquiry"
-unfoldable pub commitRefusal : Editor → Option Verdict
+unfoldable pub commitRefusal : Editor → Finding
 commitRefusal E =
     heldRefusal (E .held) otherwise
     wholeUnless (waits (E .waiting)) Waiting otherwise
     newRefusal (E .held) (waitingRow (E .waiting))
 
 -- "An enquiry answers as adding would"
-unfoldable pub editorRefusal : Editor → EditorCall → Option Verdict
+unfoldable pub editorRefusal : Editor → EditorCall → Finding
 editorRefusal E (enquire w) = addRefusal (E .held) w
 editorRefusal E commit = commitRefusal E
 editorRefusal E (grow (add w)) = addRefusal (E .held) w
@@ -97,9 +98,9 @@ waitingRefused W (enquire w) = nothingWaits
 waitingRefused W commit = W
 waitingRefused W (grow call) = W
 
-unfoldable pub waitingBy : Option Verdict → List ℤ → EditorCall → List ℤ
-waitingBy none W call = waitingAfter call
-waitingBy (some v) W call = waitingRefused W call
+unfoldable pub waitingBy : Finding → List ℤ → EditorCall → List ℤ
+waitingBy Nothing W call = waitingAfter call
+waitingBy (Found why p) W call = waitingRefused W call
 
 -- one call: the state after it
 unfoldable pub edited : Editor → EditorCall → Editor
@@ -137,9 +138,9 @@ pendingRefused p (enquire w) = none
 pendingRefused p commit = p
 pendingRefused p (grow call) = p
 
-unfoldable pub pendingBy : Option Verdict → Option NodeRow → EditorCall → Option NodeRow
-pendingBy none p call = pendingAfter call
-pendingBy (some v) p call = pendingRefused p call
+unfoldable pub pendingBy : Finding → Option NodeRow → EditorCall → Option NodeRow
+pendingBy Nothing p call = pendingAfter call
+pendingBy (Found why place) p call = pendingRefused p call
 
 -- what a successful call does to a list of rows, where p is the row that waits
 unfoldable pub committed : Option NodeRow → List NodeRow → List NodeRow
@@ -151,9 +152,9 @@ doneEditing p (enquire w) ws = ws
 doneEditing p commit ws = committed p ws
 doneEditing p (grow call) ws = done call ws
 
-unfoldable pub doneEditingIf : Option Verdict → Option NodeRow → EditorCall → List NodeRow → List NodeRow
-doneEditingIf none p call ws = doneEditing p call ws
-doneEditingIf (some v) p call ws = ws
+unfoldable pub doneEditingIf : Finding → Option NodeRow → EditorCall → List NodeRow → List NodeRow
+doneEditingIf Nothing p call ws = doneEditing p call ws
+doneEditingIf (Found why place) p call ws = ws
 
 -- the row that waits after some calls, and the rows that the successful ones leave
 unfoldable pub pending : Editor → Option NodeRow → List EditorCall → Option NodeRow

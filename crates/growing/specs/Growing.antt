@@ -2,7 +2,6 @@
 use Prim.Native.Nat.{ℕ, zero, suc, _+_, _*_, _-_}
 use mathlib.Core.Bool.{Bool, true, false}
 use mathlib.Core.List.{List, [], _∷_, _++_}
-use mathlib.Core.Option.{Option, none, some}
 use lib.Dec.{leb, ltb}
 use lib.IntN.{ℤ, pos}
 use lib.ListN.{length, take}
@@ -16,6 +15,8 @@ use Rattle.stab.specs.declared.Place.the-variants.{Whole}
 use Rattle.stab.specs.declared.Refusal.the-variants.{Children, Room, NoRow}
 use Rattle.stab.specs.declared.Verdict.{Verdict}
 use Rattle.stab.specs.declared.Verdict.the-variants.{Accepted, Refused}
+use Rattle.stab.specs.declared.Finding.{Finding}
+use Rattle.stab.specs.declared.Finding.the-variants.{Nothing, Found}
 use Rattle.growing.specs.declared.Growth.{Growth}
 use Rattle.growing.specs.declared.Growth.the-variants.{Held, Refused as GrowthRefused}
 
@@ -28,11 +29,11 @@ unfoldable pub childrenHeld : Tableau → ℕ → Bool
 childrenHeld T j = leb (childCount T j) (rule T j .children)
 
 -- what the check finds of a node, missing children aside
-unfoldable pub heldNodeRefusal : Tableau → ℕ → Option Verdict
+unfoldable pub heldNodeRefusal : Tableau → ℕ → Finding
 heldNodeRefusal T j = stepRefusal T j otherwise atUnless (childrenHeld T j) Children j
 
-unfoldable pub heldRefusal : Tableau → Option Verdict
-heldRefusal T = refusalBy presentFormulas (λ U. none) heldNodeRefusal T
+unfoldable pub heldRefusal : Tableau → Finding
+heldRefusal T = refusalBy presentFormulas (λ U. Nothing) heldNodeRefusal T
 
 -- ---- "A node row is then added at the end"
 
@@ -84,19 +85,19 @@ roomFor T w =
 
 -- "a child beyond the number that its parent's rule has gives 17, here before 11 and with the added row as its place": for row j, in
 -- the state that holds it; the first row has no parent
-unfoldable pub beyondRefusal : Tableau → ℕ → Option Verdict
-beyondRefusal T zero = none
+unfoldable pub beyondRefusal : Tableau → ℕ → Finding
+beyondRefusal T zero = Nothing
 beyondRefusal T (suc i) = atUnless (childrenHeld T (nat (node T (suc i) .up))) Children (suc i)
 
 -- "An added row passes 9 to 16": row j, in the state that holds it
-unfoldable pub addedRefusal : Tableau → ℕ → Option Verdict
+unfoldable pub addedRefusal : Tableau → ℕ → Finding
 addedRefusal T j = setRefusal T j otherwise parentRefusal T j otherwise beyondRefusal T j otherwise stepRefusal T j
 
 -- what is found when w is to be added, once the rows held have passed
-unfoldable pub newRefusal : Tableau → NodeRow → Option Verdict
+unfoldable pub newRefusal : Tableau → NodeRow → Finding
 newRefusal T w = wholeUnless (roomFor T w) Room otherwise addedRefusal (added T w) (T .nodeRows)
 
-unfoldable pub addRefusal : Tableau → NodeRow → Option Verdict
+unfoldable pub addRefusal : Tableau → NodeRow → Finding
 addRefusal T w = heldRefusal T otherwise newRefusal T w
 
 -- ---- "or the last one is taken back"
@@ -109,7 +110,7 @@ shortened T =
     holding T (take (9 * n) (T .nodes)) n (take m (T .members)) m
 
 -- "25 when there is no row to take back"
-unfoldable pub takeBackRefusal : Tableau → Option Verdict
+unfoldable pub takeBackRefusal : Tableau → Finding
 takeBackRefusal T = heldRefusal T otherwise wholeUnless (ltb 0 (T .nodeRows)) NoRow
 
 -- ---- "Formula rows are given first": no node is held then, and the tables are 0
@@ -118,7 +119,7 @@ unfoldable pub begun : Tableau → Tableau
 begun T = holding T [] 0 [] 0
 
 -- "under 2, 5, 6, 7 and 8", and No. 9's 27
-unfoldable pub beginRefusal : Tableau → Option Verdict
+unfoldable pub beginRefusal : Tableau → Finding
 beginRefusal T = heldRefusal (begun T)
 
 -- ---- what a call answers, and the state that it leaves
@@ -133,22 +134,20 @@ closed T = isAccepted (check T)
 
 -- "An accepted one gives place 0 and the node and link counts of the rows held"; "closed" speaks of the rows held after every call,
 -- "refused ones included". A refused call leaves the old rows, an accepted one the new.
-unfoldable pub growthBy : Option Verdict → Tableau → Tableau → Growth
-growthBy none old new = Held (new .nodeRows) (linkCount new) (closed new)
-growthBy (some (Refused why p)) old new = GrowthRefused why p (closed old)
--- no refusal is an acceptance
-growthBy (some (Accepted nodes links)) old new = GrowthRefused NoRow Whole (closed old)
+unfoldable pub growthBy : Finding → Tableau → Tableau → Growth
+growthBy Nothing old new = Held (new .nodeRows) (linkCount new) (closed new)
+growthBy (Found why p) old new = GrowthRefused why p (closed old)
 
 -- "A refused call leaves the tableau as it stood"
-unfoldable pub leftBy : Option Verdict → Tableau → Tableau → Tableau
-leftBy none old new = new
-leftBy (some v) old new = old
+unfoldable pub leftBy : Finding → Tableau → Tableau → Tableau
+leftBy Nothing old new = new
+leftBy (Found why p) old new = old
 
 pub data Call : Type 0 where
   add : NodeRow → Call
   takeBack : Call
 
-unfoldable pub callRefusal : Tableau → Call → Option Verdict
+unfoldable pub callRefusal : Tableau → Call → Finding
 callRefusal T (add w) = addRefusal T w
 callRefusal T takeBack = takeBackRefusal T
 
@@ -203,9 +202,9 @@ unfoldable pub done : Call → List NodeRow → List NodeRow
 done (add w) ws = ws ++ w ∷ []
 done takeBack ws = withoutLast ws
 
-unfoldable pub doneIf : Option Verdict → Call → List NodeRow → List NodeRow
-doneIf none call ws = done call ws
-doneIf (some v) call ws = ws
+unfoldable pub doneIf : Finding → Call → List NodeRow → List NodeRow
+doneIf Nothing call ws = done call ws
+doneIf (Found why p) call ws = ws
 
 -- what the accepted ones of some calls leave of these rows
 unfoldable pub leave : Tableau → List Call → List NodeRow → List NodeRow

@@ -5,7 +5,6 @@ use mathlib.Core.Path.{_≡_, sym, _∙_, ap, subst}
 use mathlib.Core.Logic.{⊎-elim}
 use mathlib.Core.Bool.{true, false}
 use mathlib.Core.List.{List, []}
-use mathlib.Core.Option.{Option, none, some}
 use lib.Dec.{leb, ltb}
 use lib.IntN.{ℤ, pos}
 use lib.ListN.{length}
@@ -13,20 +12,20 @@ use borrow.Author.Tests.{leb-true, le-leb, lt-leb, ltb-false}
 use Rattle.stab.specs.Basic.{nat, eqZ, _otherwise_}
 use Rattle.stab.specs.Formula.{smallEnough}
 use Rattle.stab.specs.Node.{Tableau, rows, rowCount}
-use Rattle.stab.specs.Check.{wholeUnless, atUnless, check}
+use Rattle.stab.specs.Check.{wholeUnless, atUnless, refusal}
 use Rattle.stab.specs.Keeps.{KeepsOlder}
 use Rattle.stab.specs.Text.{padded}
 use Rattle.stab.specs.declared.Place.{Place}
 use Rattle.stab.specs.declared.Place.the-variants.{Whole, At}
 use Rattle.stab.specs.declared.Refusal.{Refusal}
 use Rattle.stab.specs.declared.Refusal.the-variants.{TableTooShort, Leasts, Joint}
-use Rattle.stab.specs.declared.Verdict.{Verdict}
-use Rattle.stab.specs.declared.Verdict.the-variants.{Refused}
-use Rattle.stab.proofs.Bools.{decide, and-left, and-right, and-both, and-first-true, and-first-false, and-second-false, none-unless, some-unless, otherwise-none, otherwise-some}
+use Rattle.stab.specs.declared.Finding.{Finding}
+use Rattle.stab.specs.declared.Finding.the-variants.{Nothing, Found}
+use Rattle.stab.proofs.Bools.{decide, and-left, and-right, and-both, and-first-true, and-first-false, and-second-false, nothing-unless, found-unless, otherwise-nothing, otherwise-found, nothing≢found}
 use Rattle.stab.proofs.Formed.{formed-tests}
 use Rattle.stab.proofs.Tests.{below-tests}
 use Rattle.tidied.specs.Tidied.{foldingOf, tidied}
-use Rattle.joint.specs.Joint.{schemaCount, orRow, jointSchema, untidied, joint, jointFits, Rooms, refusalOf, joinRefusal, joinedBy, join, joinedTable, joinedSchema, joinedProof, joinedNodes, joinedMembers}
+use Rattle.joint.specs.Joint.{schemaCount, orRow, jointSchema, untidied, joint, jointFits, Rooms, joinRefusal, joinedBy, join, joinedTable, joinedSchema, joinedProof, joinedNodes, joinedMembers}
 use Rattle.joint.specs.declared.Joined.{Joined}
 use Rattle.joint.specs.declared.Joined.the-variants.{Record, Refused as JoinRefused}
 use Rattle.jointrows.specs.Kept.{plain, Joinable}
@@ -106,65 +105,65 @@ module _ (A B : Tableau) where
 -- ---- what is found
 
 -- what a later part finds is found by what takes its place
-otherwise-carries : (x y z : Option Verdict) (v : Verdict) → (y ≡ some v → z ≡ some v) → (x otherwise y) ≡ some v → (x otherwise z) ≡ some v
+otherwise-carries : (x y z : Finding) (why : Refusal) (p : Place) → (y ≡ Found why p → z ≡ Found why p) → (x otherwise y) ≡ Found why p → (x otherwise z) ≡ Found why p
 unfolding _otherwise_
-otherwise-carries none y z v f h = f h
-otherwise-carries (some w) y z v f h = h
+otherwise-carries Nothing y z why p f h = f h
+otherwise-carries (Found w q) y z why p f h = h
 
-limit-carries : (A B : Tableau) (v : Verdict) → wholeUnless (fitsBefore A B) Joint ≡ some v → wholeUnless (jointFits (joint A B)) Joint ≡ some v
+limit-carries : (A B : Tableau) (why : Refusal) (p : Place) → wholeUnless (fitsBefore A B) Joint ≡ Found why p → wholeUnless (jointFits (joint A B)) Joint ≡ Found why p
 unfolding wholeUnless
-limit-carries A B v h =
+limit-carries A B why p h =
     ⊎-elim
-    (λ t. absurd (mathlib.Core.Option.Option·none-ne-some v (sym (none-unless (fitsBefore A B) (Refused Joint Whole) t) ∙ h)))
-    (λ t. some-unless _ (Refused Joint Whole) (over-before A B t) ∙ sym (some-unless (fitsBefore A B) (Refused Joint Whole) t) ∙ h)
+    (λ t. absurd (nothing≢found (sym (nothing-unless (fitsBefore A B) _ _ t) ∙ h)))
+    (λ t. found-unless _ _ _ (over-before A B t) ∙ sym (found-unless (fitsBefore A B) _ _ t) ∙ h)
     (decide (fitsBefore A B))
 
 module _ (R : Rooms) (A B : Tableau) where
-  pub short-found : roomy R ≡ false → joinRefusal R A B ≡ some (Refused TableTooShort (At 0))
+  pub short-found : roomy R ≡ false → joinRefusal R A B ≡ Found TableTooShort (At 0)
   unfolding joinRefusal atUnless
-  short-found h = otherwise-some _ _ (Refused TableTooShort (At 0)) (some-unless _ (Refused TableTooShort (At 0)) h)
+  short-found h = otherwise-found _ _ (found-unless _ _ _ h)
 
-  pub found-before : roomy R ≡ true → (v : Verdict) → foundBefore A B ≡ some v → joinRefusal R A B ≡ some v
+  pub found-before : roomy R ≡ true → (why : Refusal) (p : Place) → foundBefore A B ≡ Found why p → joinRefusal R A B ≡ Found why p
   unfolding joinRefusal atUnless foundBefore
-  found-before f v h =
-      otherwise-none _ _ (none-unless _ (Refused TableTooShort (At 0)) f)
-      ∙ otherwise-carries (refusalOf (check A)) _ _ v
-      (otherwise-carries (refusalOf (check B)) _ _ v (otherwise-carries (wholeUnless (eqZ (A .least) (B .least)) Leasts) _ _ v (limit-carries A B v))) h
+  found-before f why p h =
+      otherwise-nothing _ _ (nothing-unless _ _ _ f)
+      ∙ otherwise-carries (refusal A) _ _ why p
+      (otherwise-carries (refusal B) _ _ why p (otherwise-carries (wholeUnless (eqZ (A .least) (B .least)) Leasts) _ _ why p (limit-carries A B why p))) h
 
-  limit-left : roomy R ≡ true → foundBefore A B ≡ none → joinRefusal R A B ≡ wholeUnless (jointFits (joint A B)) Joint
+  limit-left : roomy R ≡ true → foundBefore A B ≡ Nothing → joinRefusal R A B ≡ wholeUnless (jointFits (joint A B)) Joint
   unfolding joinRefusal atUnless
   limit-left f h =
-      otherwise-none _ _ (none-unless _ (Refused TableTooShort (At 0)) f)
-      ∙ otherwise-none _ _ (first-passes A B h)
-      ∙ otherwise-none _ _ (second-passes A B h)
-      ∙ otherwise-none _ _ (leasts-pass A B h)
+      otherwise-nothing _ _ (nothing-unless _ _ _ f)
+      ∙ otherwise-nothing _ _ (first-passes A B h)
+      ∙ otherwise-nothing _ _ (second-passes A B h)
+      ∙ otherwise-nothing _ _ (leasts-pass A B h)
 
   -- ---- the answer and the tables
 
   module _ {r : Joined} {schema proof nodes members : List ℤ} where
-    answered : {found : Option Verdict} → joinRefusal R A B ≡ found → r ≡ joinedBy found (joint A B) → schema ≡ joinedTable found (R .schema) (joint A B .schema) → proof ≡ joinedTable found (R .proof) (joint A B .proof) → nodes ≡ joinedTable found (R .nodes) (joint A B .nodes) → members ≡ joinedTable found (R .members) (joint A B .members) → Answers R A B r schema proof nodes members
+    answered : {found : Finding} → joinRefusal R A B ≡ found → r ≡ joinedBy found (joint A B) → schema ≡ joinedTable found (R .schema) (joint A B .schema) → proof ≡ joinedTable found (R .proof) (joint A B .proof) → nodes ≡ joinedTable found (R .nodes) (joint A B .nodes) → members ≡ joinedTable found (R .members) (joint A B .members) → Answers R A B r schema proof nodes members
     unfolding join joinedSchema joinedProof joinedNodes joinedMembers
     answered e a b c d f = record {
-      answer = a ∙ sym (ap (λ (o : Option Verdict). joinedBy o (joint A B)) e);
-      schemaTable = b ∙ sym (ap (λ (o : Option Verdict). joinedTable o (R .schema) (joint A B .schema)) e);
-      proofTable = c ∙ sym (ap (λ (o : Option Verdict). joinedTable o (R .proof) (joint A B .proof)) e);
-      nodeTable = d ∙ sym (ap (λ (o : Option Verdict). joinedTable o (R .nodes) (joint A B .nodes)) e);
-      memberTable = f ∙ sym (ap (λ (o : Option Verdict). joinedTable o (R .members) (joint A B .members)) e);
+      answer = a ∙ sym (ap (λ (o : Finding). joinedBy o (joint A B)) e);
+      schemaTable = b ∙ sym (ap (λ (o : Finding). joinedTable o (R .schema) (joint A B .schema)) e);
+      proofTable = c ∙ sym (ap (λ (o : Finding). joinedTable o (R .proof) (joint A B .proof)) e);
+      nodeTable = d ∙ sym (ap (λ (o : Finding). joinedTable o (R .nodes) (joint A B .nodes)) e);
+      memberTable = f ∙ sym (ap (λ (o : Finding). joinedTable o (R .members) (joint A B .members)) e);
     }
 
-    pub refused-by : {why : Refusal} {p : Place} → joinRefusal R A B ≡ some (Refused why p) → r ≡ JoinRefused why p → schema ≡ padded (pos 0) (R .schema) [] → proof ≡ padded (pos 0) (R .proof) [] → nodes ≡ padded (pos 0) (R .nodes) [] → members ≡ padded (pos 0) (R .members) [] → Answers R A B r schema proof nodes members
+    pub refused-by : {why : Refusal} {p : Place} → joinRefusal R A B ≡ Found why p → r ≡ JoinRefused why p → schema ≡ padded (pos 0) (R .schema) [] → proof ≡ padded (pos 0) (R .proof) [] → nodes ≡ padded (pos 0) (R .nodes) [] → members ≡ padded (pos 0) (R .members) [] → Answers R A B r schema proof nodes members
     unfolding joinedBy joinedTable
     refused-by e a b c d f = answered e a b c d f
 
     -- 29
-    pub too-large : roomy R ≡ true → foundBefore A B ≡ none → jointFits (joint A B) ≡ false → r ≡ JoinRefused Joint Whole → schema ≡ padded (pos 0) (R .schema) [] → proof ≡ padded (pos 0) (R .proof) [] → nodes ≡ padded (pos 0) (R .nodes) [] → members ≡ padded (pos 0) (R .members) [] → Answers R A B r schema proof nodes members
+    pub too-large : roomy R ≡ true → foundBefore A B ≡ Nothing → jointFits (joint A B) ≡ false → r ≡ JoinRefused Joint Whole → schema ≡ padded (pos 0) (R .schema) [] → proof ≡ padded (pos 0) (R .proof) [] → nodes ≡ padded (pos 0) (R .nodes) [] → members ≡ padded (pos 0) (R .members) [] → Answers R A B r schema proof nodes members
     unfolding wholeUnless
-    too-large f n h = refused-by (limit-left f n ∙ some-unless (jointFits (joint A B)) (Refused Joint Whole) h)
+    too-large f n h = refused-by (limit-left f n ∙ found-unless (jointFits (joint A B)) _ _ h)
 
     -- the joined record
-    pub record-made : roomy R ≡ true → foundBefore A B ≡ none → jointFits (joint A B) ≡ true → r ≡ Record (pos (orRow A B)) (A .least) (schemaCount A B) (foldingOf (untidied A B) .count) (suc (A .nodeRows + B .nodeRows)) (length (joint A B .members)) → schema ≡ padded (pos 0) (R .schema) (jointSchema A B) → proof ≡ padded (pos 0) (R .proof) (foldingOf (untidied A B) .table) → nodes ≡ padded (pos 0) (R .nodes) (joint A B .nodes) → members ≡ padded (pos 0) (R .members) (joint A B .members) → Answers R A B r schema proof nodes members
+    pub record-made : roomy R ≡ true → foundBefore A B ≡ Nothing → jointFits (joint A B) ≡ true → r ≡ Record (pos (orRow A B)) (A .least) (schemaCount A B) (foldingOf (untidied A B) .count) (suc (A .nodeRows + B .nodeRows)) (length (joint A B .members)) → schema ≡ padded (pos 0) (R .schema) (jointSchema A B) → proof ≡ padded (pos 0) (R .proof) (foldingOf (untidied A B) .table) → nodes ≡ padded (pos 0) (R .nodes) (joint A B .nodes) → members ≡ padded (pos 0) (R .members) (joint A B .members) → Answers R A B r schema proof nodes members
     unfolding wholeUnless joinedBy joinedTable joint tidied untidied
-    record-made f n h a b c d e = answered (limit-left f n ∙ none-unless (jointFits (joint A B)) (Refused Joint Whole) h) a b c d e
+    record-made f n h a b c d e = answered (limit-left f n ∙ nothing-unless (jointFits (joint A B)) _ _ h) a b c d e
 
     pub answers : Answers R A B r schema proof nodes members → (r ≡ join R A B) × ((schema ≡ joinedSchema R A B) × ((proof ≡ joinedProof R A B) × ((nodes ≡ joinedNodes R A B) × (members ≡ joinedMembers R A B))))
     answers a = (a .answer, (a .schemaTable, (a .proofTable, (a .nodeTable, a .memberTable))))

@@ -1,4 +1,5 @@
 // One record for either fault: two accepted records joined into one, under the or of their roots.
+ghost use Rattle.stab.specs.declared.Finding.the-variants.{Nothing, Found};
 use joint::Joined;
 use jointnodes::fill_nodes;
 use jointrefusal::refusal;
@@ -9,7 +10,6 @@ use stab::Place;
 use stab::Refusal;
 ghost use mathlib.Core.Path.{_≡_};
 ghost use mathlib.Core.Bool.{true};
-ghost use mathlib.Core.Option.{none};
 ghost use Rattle.branch.specs.Work.{tableau};
 ghost use Rattle.joint.specs.Joint.{joinedSchema, joinedProof, joinedNodes, joinedMembers};
 ghost use Rattle.joint.specs.Joint.{join as joinOf};
@@ -44,7 +44,7 @@ fn filled(
     out_members: &mut [i32],
 ) -> Joined
     requires { ⌜ roomy (rooms (now «out_schema») (now «out_proof») (now «out_nodes») (now «out_members»)) ≡ true ⌝ }
-    requires { ⌜ foundBefore (tableau (now «first_schema») «first_schema_rows» (now «first_proof») «first_proof_rows» «first_root» «first_least» (now «first_nodes») «first_node_rows» (now «first_members») «first_member_count») (tableau (now «second_schema») «second_schema_rows» (now «second_proof») «second_proof_rows» «second_root» «second_least» (now «second_nodes») «second_node_rows» (now «second_members») «second_member_count») ≡ none ⌝ }
+    requires { ⌜ foundBefore (tableau (now «first_schema») «first_schema_rows» (now «first_proof») «first_proof_rows» «first_root» «first_least» (now «first_nodes») «first_node_rows» (now «first_members») «first_member_count») (tableau (now «second_schema») «second_schema_rows» (now «second_proof») «second_proof_rows» «second_root» «second_least» (now «second_nodes») «second_node_rows» (now «second_members») «second_member_count») ≡ Nothing ⌝ }
     ensures { λ r. ⌜ Answers (rooms (now («out_schema» .entry)) (now («out_proof» .entry)) (now («out_nodes» .entry)) (now («out_members» .entry))) (tableau (now («first_schema» .entry)) «first_schema_rows» (now («first_proof» .entry)) «first_proof_rows» «first_root» «first_least» (now («first_nodes» .entry)) «first_node_rows» (now («first_members» .entry)) «first_member_count») (tableau (now («second_schema» .entry)) «second_schema_rows» (now («second_proof» .entry)) «second_proof_rows» «second_root» «second_least» (now («second_nodes» .entry)) «second_node_rows» (now («second_members» .entry)) «second_member_count») r (now («out_schema» .exit)) (now («out_proof» .exit)) (now («out_nodes» .exit)) (now («out_members» .exit)) ⌝ }
 {
     let or_row = first_schema_rows + second_schema_rows;

@@ -4,7 +4,6 @@ use native.Mathlib.Omega.{arith}
 use mathlib.Core.Path.{_≡_, refl, sym, _∙_, ap, ap₂, subst}
 use mathlib.Core.Bool.{Bool, true, false}
 use mathlib.Core.List.{List}
-use mathlib.Core.Option.{none}
 use lib.Dec.{leb}
 use lib.IntN.{ℤ, pos}
 use lib.ListN.{length, take}
@@ -15,11 +14,11 @@ use Rattle.stab.specs.Meaning.{Assignment, op, value, truth}
 use Rattle.stab.specs.Node.{Tableau, Node, rows, rowCount, formula, nodeAt, node}
 use Rattle.stab.specs.Rule.{ofRule}
 use Rattle.stab.specs.Text.{padded}
-use Rattle.stab.specs.Check.{wholeUnless, atUnless, check, isLink, linkCount}
+use Rattle.stab.specs.Check.{wholeUnless, atUnless, check, isLink, linkCount, refusal}
 use Rattle.stab.specs.Keeps.{KeepsTables, KeepsOlder, Keeps}
-use Rattle.stab.specs.declared.Verdict.{Verdict}
-use Rattle.stab.specs.declared.Verdict.the-variants.{Accepted, Refused}
-use Rattle.stab.proofs.Bools.{and-left, and-right, otherwise-first, otherwise-second, unless-none}
+use Rattle.stab.specs.declared.Verdict.the-variants.{Accepted}
+use Rattle.stab.specs.declared.Finding.the-variants.{Nothing}
+use Rattle.stab.proofs.Bools.{and-left, and-right, otherwise-first, otherwise-second, unless-nothing}
 use Rattle.stab.proofs.Whole.{eqZ-true}
 use Rattle.stab.proofs.Trees.{tree-agrees, below-nat}
 use Rattle.stab.proofs.Tests.{below-tests}
@@ -32,7 +31,7 @@ use Rattle.tidied.proofs.Agreeing.{count-same}
 use Rattle.tidied.proofs.Tables as Tidy
 use Rattle.tidied.proofs.Tidying.{KeepsRules, rules-of, rules-kept, tidied-fresh, fold, same-links}
 use Rattle.tidied.proofs.Longer.{padded-begins, longer-accepted}
-use Rattle.joint.specs.Joint.{schemaCount, orRow, jointSchema, jointProof, untidied, joint, jointFits, Rooms, refusalOf, joinRefusal, joinedTable, joinedSchema, joinedProof, joinedNodes, joinedMembers}
+use Rattle.joint.specs.Joint.{schemaCount, orRow, jointSchema, jointProof, untidied, joint, jointFits, Rooms, joinRefusal, joinedTable, joinedSchema, joinedProof, joinedNodes, joinedMembers}
 use Rattle.joint.proofs.Lists.{movedOf, count-add}
 use Rattle.joint.proofs.Rows.{schema-length, first-count}
 use Rattle.joint.proofs.Nodes.{node-zero, node-first, node-second}
@@ -159,23 +158,19 @@ module _ (A B : Tableau) where
 
 -- ---- the theorems
 
-accepted-none : (v : Verdict) (n l : ℕ) → v ≡ Accepted n l → refusalOf v ≡ none
-unfolding refusalOf
-accepted-none v n l e = ap refusalOf e
-
-module _ (R : Rooms) (A B : Tableau) (nA lA nB lB : ℕ) (first : check A ≡ Accepted nA lA) (second : check B ≡ Accepted nB lB) (join-made : joinRefusal R A B ≡ none) where
+module _ (R : Rooms) (A B : Tableau) (nA lA nB lB : ℕ) (first : check A ≡ Accepted nA lA) (second : check B ≡ Accepted nB lB) (join-made : joinRefusal R A B ≡ Nothing) where
   same-least : A .least ≡ B .least
   unfolding joinRefusal wholeUnless
   same-least =
       eqZ-true _ _
-      (unless-none (eqZ (A .least) (B .least)) _
-      (otherwise-first _ _ (otherwise-second (refusalOf (check B)) _ (otherwise-second (refusalOf (check A)) _ (otherwise-second _ _ join-made)))))
+      (unless-nothing (eqZ (A .least) (B .least)) _ _
+      (otherwise-first _ _ (otherwise-second (refusal B) _ (otherwise-second (refusal A) _ (otherwise-second _ _ join-made)))))
 
   made-fits : jointFits (joint A B) ≡ true
   unfolding joinRefusal wholeUnless
   made-fits =
-      unless-none (jointFits (joint A B)) _
-      (otherwise-second _ _ (otherwise-second (refusalOf (check B)) _ (otherwise-second (refusalOf (check A)) _ (otherwise-second _ _ join-made))))
+      unless-nothing (jointFits (joint A B)) _ _
+      (otherwise-second _ _ (otherwise-second (refusal B) _ (otherwise-second (refusal A) _ (otherwise-second _ _ join-made))))
 
   keepsA : Keeps A
   keepsA = accepts-exactly A nA lA .0 first .0

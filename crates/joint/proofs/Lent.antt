@@ -3,62 +3,41 @@ use Prim.Native.Nat.{ℕ, _+_, _≤_}
 use native.Mathlib.Omega.{arith}
 use mathlib.Core.Path.{_≡_, refl, ap}
 use mathlib.Core.Bool.{Bool, true, false}
-use mathlib.Core.Option.{Option, none, some}
 use lib.Dec.{leb}
 use borrow.Author.Tests.{leb-true}
-use Rattle.stab.specs.Basic.{_and_, eqZ, _otherwise_, unless}
+use Rattle.stab.specs.Basic.{_and_, eqZ}
 use Rattle.stab.specs.Node.{Tableau, rowCount}
-use Rattle.stab.specs.Check.{wholeUnless, atUnless, check}
+use Rattle.stab.specs.Check.{wholeUnless, atUnless, refusal}
 use Rattle.stab.specs.Answer.{Numbers, refusedNumbers, verdictNumbers, packed, answerIn, placeIn, numbersIn, Packs}
 use Rattle.stab.specs.declared.Place.the-variants.{Whole, At}
 use Rattle.stab.specs.declared.Refusal.the-variants.{TableTooShort, Leasts, Joint}
 use Rattle.stab.specs.declared.Verdict.{Verdict}
 use Rattle.stab.specs.declared.Verdict.the-variants.{Accepted, Refused}
-use Rattle.stab.proofs.Bools.{and-left, and-right, unless-none, otherwise-second}
-use Rattle.stab.proofs.Packed.{check-packs, read-back}
-use Rattle.joint.specs.Joint.{joint, jointFits, Rooms, refusalOf, joinRefusal, joinedBy, join, joinedNumbers, joinedPacked, JoinedFits}
+use Rattle.stab.specs.declared.Finding.{Finding}
+use Rattle.stab.specs.declared.Finding.the-variants.{Nothing, Found}
+use Rattle.stab.proofs.Bools.{and-left, and-right, unless-nothing, otherwise-second}
+use Rattle.stab.proofs.Packed.{near-packs, read-back}
+use Rattle.stab.proofs.Exactness.Refusals.{FindsNear, of-whole, of-at, _or-else_, of-refusal}
+use Rattle.joint.specs.Joint.{joint, jointFits, Rooms, joinRefusal, joinedBy, join, joinedNumbers, joinedPacked, JoinedFits}
 use Rattle.joint.specs.declared.Joined.{Joined}
 use Rattle.joint.specs.declared.Joined.the-variants.{Record, Refused as JoinRefused}
 
--- ---- what is found packs
-
-abbrev PacksFound : Option Verdict → Type 0
-PacksFound none = Unit {0}
-PacksFound (some v) = Packs v
-
-unless-packs : (b : Bool) (v : Verdict) → Packs v → PacksFound (unless b v)
-unfolding unless
-unless-packs true v p = tt
-unless-packs false v p = p
-
-refusal-packs : (v : Verdict) → Packs v → PacksFound (refusalOf v)
-unfolding refusalOf
-refusal-packs (Accepted n l) p = tt
-refusal-packs (Refused why q) p = p
-
-otherwise-packs : (x y : Option Verdict) → PacksFound x → PacksFound y → PacksFound (x otherwise y)
-unfolding _otherwise_
-otherwise-packs none y p q = q
-otherwise-packs (some v) y p q = p
+-- ---- the place of what is found is within the limits
 
 module _ (R : Rooms) (A B : Tableau) where
-  found-packs : PacksFound (joinRefusal R A B)
-  unfolding joinRefusal atUnless wholeUnless
-  found-packs =
-      otherwise-packs _ _ (unless-packs _ (Refused TableTooShort (At 0)) (omega arith))
-      (otherwise-packs _ _ (refusal-packs (check A) (check-packs A))
-      (otherwise-packs _ _ (refusal-packs (check B) (check-packs B))
-      (otherwise-packs _ _ (unless-packs (eqZ (A .least) (B .least)) (Refused Leasts Whole) tt) (unless-packs (jointFits (joint A B)) (Refused Joint Whole) tt))))
+  found-near : FindsNear (joinRefusal R A B)
+  unfolding joinRefusal
+  found-near = of-at _ _ 0 (omega arith) or-else of-refusal A or-else of-refusal B or-else of-whole _ _ or-else of-whole _ _
 
   -- ---- the counts of the joined record
 
-  fits : joinRefusal R A B ≡ none → jointFits (joint A B) ≡ true
+  fits : joinRefusal R A B ≡ Nothing → jointFits (joint A B) ≡ true
   unfolding joinRefusal wholeUnless
   fits e =
-      unless-none (jointFits (joint A B)) _
-      (otherwise-second _ _ (otherwise-second (refusalOf (check B)) _ (otherwise-second (refusalOf (check A)) _ (otherwise-second _ _ e))))
+      unless-nothing (jointFits (joint A B)) _ _
+      (otherwise-second _ _ (otherwise-second (refusal B) _ (otherwise-second (refusal A) _ (otherwise-second _ _ e))))
 
-  counts : jointFits (joint A B) ≡ true → JoinedFits (joinedBy none (joint A B))
+  counts : jointFits (joint A B) ≡ true → JoinedFits (joinedBy Nothing (joint A B))
   unfolding jointFits joinedBy rowCount
   counts h =
       let rest = and-right (leb (joint A B .schemaRows + joint A B .proofRows) 1024) _ h in
@@ -67,12 +46,11 @@ module _ (R : Rooms) (A B : Tableau) where
 
   pub join-fits : JoinedFits (join R A B)
   unfolding join
-  join-fits = by (joinRefusal R A B) refl found-packs
+  join-fits = by (joinRefusal R A B) refl
     where
-      by : (o : Option Verdict) → joinRefusal R A B ≡ o → PacksFound o → JoinedFits (joinedBy o (joint A B))
-      by none e p = counts (fits e)
-      by (some (Refused why q)) e p = unfold joinedBy in p
-      by (some (Accepted n l)) e p = unfold joinedBy in tt
+      by : (x : Finding) → joinRefusal R A B ≡ x → JoinedFits (joinedBy x (joint A B))
+      by Nothing e = counts (fits e)
+      by (Found why p) e = unfold joinedBy in near-packs why p (found-near why p e)
 
 -- ---- answer and place are read back from the number
 

@@ -2,7 +2,6 @@
 use Prim.Native.Nat.{ℕ, zero, suc, _+_, _-_, _≤_}
 use mathlib.Core.Bool.{Bool, true, false}
 use mathlib.Core.List.{List, [], _∷_, _++_}
-use mathlib.Core.Option.{Option, none, some}
 use lib.Dec.{leb, ltb}
 use lib.IntN.{ℤ, pos, negℤ, _+ℤ_}
 use lib.Signed.{leZ}
@@ -10,12 +9,13 @@ use lib.ListN.{length, take}
 use Rattle.stab.specs.Basic.{if_then_else_, _and_, eqZ, nat, _otherwise_}
 use Rattle.stab.specs.Formula.{Row, rowAt, smallEnough}
 use Rattle.stab.specs.Node.{Tableau, Node, rows, rowCount, node}
-use Rattle.stab.specs.Check.{wholeUnless, atUnless, check, verdict}
+use Rattle.stab.specs.Check.{wholeUnless, atUnless, refusal}
 use Rattle.stab.specs.Text.{padded}
 use Rattle.stab.specs.Answer.{refusalNumber, placeNumber, oneNumber, Packs}
 use Rattle.stab.specs.declared.Refusal.the-variants.{TableTooShort, Leasts, Joint}
-use Rattle.stab.specs.declared.Verdict.{Verdict}
-use Rattle.stab.specs.declared.Verdict.the-variants.{Accepted, Refused}
+use Rattle.stab.specs.declared.Verdict.the-variants.{Refused}
+use Rattle.stab.specs.declared.Finding.{Finding}
+use Rattle.stab.specs.declared.Finding.the-variants.{Nothing, Found}
 use Rattle.tidied.specs.Tidied.{through, renumbered, columns, tidied}
 use Rattle.joint.specs.declared.Joined.{Joined}
 use Rattle.joint.specs.declared.Joined.the-variants.{Record, Refused as JoinRefused}
@@ -129,33 +129,27 @@ pub record Rooms : Type 0 where
   pub nodes : ℕ
   pub members : ℕ
 
-unfoldable pub refusalOf : Verdict → Option Verdict
-refusalOf (Accepted nodes links) = none
-refusalOf (Refused why p) = some (Refused why p)
-
 -- "Result tables .. fall first under 2 as in reading"; "A faulty input is refused with its own number and place, the first's before the
 -- second's"; "28 if the least values differ; 29 if the tidied join's rows, nodes, members, size or depth pass 01's limits"
-unfoldable pub joinRefusal : Rooms → Tableau → Tableau → Option Verdict
+unfoldable pub joinRefusal : Rooms → Tableau → Tableau → Finding
 joinRefusal R A B =
     atUnless (leb 4096 (R .schema) and leb 4096 (R .proof) and leb 9216 (R .nodes) and leb 8192 (R .members)) TableTooShort 0 otherwise
-    refusalOf (check A) otherwise
-    refusalOf (check B) otherwise
+    refusal A otherwise
+    refusal B otherwise
     wholeUnless (eqZ (A .least) (B .least)) Leasts otherwise
     wholeUnless (jointFits (joint A B)) Joint
 
-unfoldable pub joinedBy : Option Verdict → Tableau → Joined
-joinedBy none J = Record (J .root) (J .least) (J .schemaRows) (J .proofRows) (J .nodeRows) (J .memberCount)
-joinedBy (some (Refused why p)) J = JoinRefused why p
--- no refusal is an acceptance
-joinedBy (some (Accepted nodes links)) J = JoinRefused Joint Rattle.stab.specs.declared.Place.the-variants.Whole
+unfoldable pub joinedBy : Finding → Tableau → Joined
+joinedBy Nothing J = Record (J .root) (J .least) (J .schemaRows) (J .proofRows) (J .nodeRows) (J .memberCount)
+joinedBy (Found why p) J = JoinRefused why p
 
 unfoldable pub join : Rooms → Tableau → Tableau → Joined
 join R A B = joinedBy (joinRefusal R A B) (joint A B)
 
 -- lent memory of n numbers: 0 past the last, all 0 after a refusal
-unfoldable pub joinedTable : Option Verdict → ℕ → List ℤ → List ℤ
-joinedTable none n xs = padded (pos 0) n xs
-joinedTable (some v) n xs = padded (pos 0) n []
+unfoldable pub joinedTable : Finding → ℕ → List ℤ → List ℤ
+joinedTable Nothing n xs = padded (pos 0) n xs
+joinedTable (Found why p) n xs = padded (pos 0) n []
 
 -- the four lent tables
 unfoldable pub joinedSchema : Rooms → Tableau → Tableau → List ℤ

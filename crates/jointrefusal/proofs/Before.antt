@@ -3,44 +3,38 @@ use Prim.Native.Nat.{_+_, _<_, _≤_}
 use native.Mathlib.Omega.{arith}
 use mathlib.Core.Path.{_≡_, refl, ap, _∙_}
 use mathlib.Core.Bool.{true}
-use mathlib.Core.Option.{Option, none}
 use lib.Dec.{leb, ltb}
 use borrow.Author.Tests.{ltb-true}
 use Rattle.stab.specs.Basic.{_and_, nat, eqZ}
 use Rattle.stab.specs.Formula.{Formula, size, depth, formulaRows, tree, smallEnough}
 use Rattle.stab.specs.Node.{Tableau, rows, rowCount, formula}
-use Rattle.stab.specs.Check.{wholeUnless, check, formulasRefusal}
+use Rattle.stab.specs.Check.{wholeUnless, formulasRefusal, refusal, linkCount}
 use Rattle.stab.specs.Keeps.{KeepsOlder, Keeps}
 use Rattle.stab.specs.declared.Place.the-variants.{Whole}
 use Rattle.stab.specs.declared.Refusal.the-variants.{Leasts, Joint}
-use Rattle.stab.specs.declared.Verdict.{Verdict}
-use Rattle.stab.specs.declared.Verdict.the-variants.{Accepted, Refused}
-use Rattle.stab.proofs.Bools.{and-left, and-right, unless-none, otherwise-first, otherwise-second}
+use Rattle.stab.specs.declared.Finding.the-variants.{Nothing}
+use Rattle.stab.proofs.Bools.{and-left, and-right, unless-nothing, otherwise-first, otherwise-second}
 use Rattle.stab.proofs.Exactness.{accepts-exactly}
 use Rattle.stab.proofs.Exactness.Formulas.{formulas-clears}
 use Rattle.tidied.proofs.Tidying.{rules-of}
-use Rattle.joint.specs.Joint.{orRow, joint, refusalOf}
+use Rattle.joint.specs.Joint.{orRow, joint}
 use Rattle.joint.proofs.Accepted.{or-tidied}
 use Rattle.joint.proofs.Joining.{or-tree}
+use Rattle.stab.proofs.Exactness.Refusals.{finds-accepted}
 use Rattle.jointrefusal.specs.Before.{orSmall, fitsBefore, foundBefore}
 
 -- ---- one record
 
 -- what is not refused is accepted, and keeps the rules
-accepted-keeps : (T : Tableau) (v : Verdict) → check T ≡ v → refusalOf v ≡ none → Keeps T
-unfolding refusalOf
-accepted-keeps T (Accepted n l) e h = accepts-exactly T n l .0 e .0
-accepted-keeps T (Refused why p) e h = absurd (mathlib.Core.Option.Option·some-ne-none (Refused why p) h)
-
-pub keeps : (T : Tableau) → refusalOf (check T) ≡ none → Keeps T
-keeps T h = accepted-keeps T (check T) refl h
+pub keeps : (T : Tableau) → refusal T ≡ Nothing → Keeps T
+keeps T h = accepts-exactly T (T .nodeRows) (linkCount T) .0 (finds-accepted T h) .0
 
 pub few-rows : (A : Tableau) → KeepsOlder A → A .schemaRows + A .proofRows ≤ 1024
 unfolding rowCount
 few-rows A K = K .tables .rowLimit
 
 -- the schema rows pass by themselves
-pub schema-passes : (A : Tableau) → KeepsOlder A → formulasRefusal (formulaRows (A .schema) (A .schemaRows) (A .proof)) (A .schemaRows) (A .schemaRows) (A .root) (A .least) ≡ none
+pub schema-passes : (A : Tableau) → KeepsOlder A → formulasRefusal (formulaRows (A .schema) (A .schemaRows) (A .proof)) (A .schemaRows) (A .schemaRows) (A .root) (A .least) ≡ Nothing
 unfolding rows rowCount
 schema-passes A K =
     formulas-clears (formulaRows (A .schema) (A .schemaRows) (A .proof)) (A .schemaRows) (A .schemaRows) (A .root) (A .least) .1
@@ -57,24 +51,24 @@ or-is A B KA KB e =
 
 -- ---- nothing is found
 
-module _ (A B : Tableau) (h : foundBefore A B ≡ none) where
-  pub first-passes : refusalOf (check A) ≡ none
+module _ (A B : Tableau) (h : foundBefore A B ≡ Nothing) where
+  pub first-passes : refusal A ≡ Nothing
   unfolding foundBefore
   first-passes = otherwise-first _ _ h
 
-  pub second-passes : refusalOf (check B) ≡ none
+  pub second-passes : refusal B ≡ Nothing
   unfolding foundBefore
-  second-passes = otherwise-first _ _ (otherwise-second (refusalOf (check A)) _ h)
+  second-passes = otherwise-first _ _ (otherwise-second (refusal A) _ h)
 
-  pub leasts-pass : wholeUnless (eqZ (A .least) (B .least)) Leasts ≡ none
+  pub leasts-pass : wholeUnless (eqZ (A .least) (B .least)) Leasts ≡ Nothing
   unfolding foundBefore
-  leasts-pass = otherwise-first _ _ (otherwise-second (refusalOf (check B)) _ (otherwise-second (refusalOf (check A)) _ h))
+  leasts-pass = otherwise-first _ _ (otherwise-second (refusal B) _ (otherwise-second (refusal A) _ h))
 
   before-fits : fitsBefore A B ≡ true
   unfolding foundBefore wholeUnless
   before-fits =
-      unless-none _ (Refused Joint Whole)
-      (otherwise-second (wholeUnless (eqZ (A .least) (B .least)) Leasts) _ (otherwise-second (refusalOf (check B)) _ (otherwise-second (refusalOf (check A)) _ h)))
+      unless-nothing _ _ _
+      (otherwise-second (wholeUnless (eqZ (A .least) (B .least)) Leasts) _ (otherwise-second (refusal B) _ (otherwise-second (refusal A) _ h)))
 
   pub first-keeps : Keeps A
   first-keeps = keeps A first-passes

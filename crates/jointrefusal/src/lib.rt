@@ -11,11 +11,9 @@ ghost use mathlib.Core.Path.{_≡_};
 ghost use mathlib.Core.List.{[]};
 ghost use lib.IntN.{pos};
 ghost use lib.ListN.{length};
-ghost use Rattle.stab.specs.Check.{finding};
-ghost use Rattle.stab.specs.Check.{check as checked};
+ghost use Rattle.stab.specs.Check.{refusal as refusalIn};
 ghost use Rattle.stab.specs.Text.{padded};
 ghost use Rattle.branch.specs.Work.{tableau};
-ghost use Rattle.joint.specs.Joint.{refusalOf};
 ghost use Rattle.joint.specs.declared.Joined.the-variants.{Refused as JoinRefused};
 ghost use Rattle.jointrefusal.specs.Before.{foundBefore};
 
@@ -32,7 +30,7 @@ fn fault(
     members: &[i32],
     member_count: usize,
 ) -> Finding
-    ensures { λ r. ⌜ finding r ≡ refusalOf (checked (tableau (now (schema .entry)) «schema_rows» (now (proof .entry)) «proof_rows» root least (now (nodes .entry)) «node_rows» (now (members .entry)) «member_count»)) ⌝ }
+    ensures { λ r. ⌜ r ≡ refusalIn (tableau (now (schema .entry)) «schema_rows» (now (proof .entry)) «proof_rows» root least (now (nodes .entry)) «node_rows» (now (members .entry)) «member_count») ⌝ }
 {
     match check(
         schema,
@@ -75,7 +73,7 @@ pub fn refusal(
     second_members: &[i32],
     second_member_count: usize,
 ) -> Finding
-    ensures { λ r. ⌜ finding r ≡ foundBefore (tableau (now («first_schema» .entry)) «first_schema_rows» (now («first_proof» .entry)) «first_proof_rows» «first_root» «first_least» (now («first_nodes» .entry)) «first_node_rows» (now («first_members» .entry)) «first_member_count») (tableau (now («second_schema» .entry)) «second_schema_rows» (now («second_proof» .entry)) «second_proof_rows» «second_root» «second_least» (now («second_nodes» .entry)) «second_node_rows» (now («second_members» .entry)) «second_member_count») ⌝ }
+    ensures { λ r. ⌜ r ≡ foundBefore (tableau (now («first_schema» .entry)) «first_schema_rows» (now («first_proof» .entry)) «first_proof_rows» «first_root» «first_least» (now («first_nodes» .entry)) «first_node_rows» (now («first_members» .entry)) «first_member_count») (tableau (now («second_schema» .entry)) «second_schema_rows» (now («second_proof» .entry)) «second_proof_rows» «second_root» «second_least» (now («second_nodes» .entry)) «second_node_rows» (now («second_members» .entry)) «second_member_count») ⌝ }
 {
     let found = fault(
         first_schema,

@@ -2,13 +2,13 @@
 use formula::rows::Facts;
 use formula::rows::known;
 ghost use mathlib.Core.Path.{_≡_};
-ghost use mathlib.Core.Option.{none};
 ghost use Prim.Native.Nat.{_+_, _≤_, max};
 ghost use lib.Dec.{ltb};
 ghost use Rattle.stab.specs.Basic.{_and_, nat};
 ghost use Rattle.stab.specs.Formula as F;
 ghost use Rattle.stab.specs.Formula.{formulaRows, tree};
 ghost use Rattle.stab.specs.Check.{formulasRefusal};
+ghost use Rattle.stab.specs.declared.Finding.the-variants.{Nothing};
 ghost use Rattle.jointrefusal.specs.Before.{orSmall};
 
 fn larger(a: u32, b: u32) -> u32
@@ -19,7 +19,7 @@ fn larger(a: u32, b: u32) -> u32
 
 // The numbers of the root, where the schema rows are well formed and small.
 fn root_facts(schema: &[i32], s: usize, proof: &[i32], root: i32, least: i32) -> Facts
-    requires { ⌜ (s ≤ 1024) × (formulasRefusal (formulaRows (now schema) s (now proof)) s s root least ≡ none) ⌝ }
+    requires { ⌜ (s ≤ 1024) × (formulasRefusal (formulaRows (now schema) s (now proof)) s s root least ≡ Nothing) ⌝ }
     ensures { λ v. ⌜ (v .size ≡ F.size (tree (formulaRows (now (schema .entry)) s (now (proof .entry))) (nat root))) × (v .depth ≡ F.depth (tree (formulaRows (now (schema .entry)) s (now (proof .entry))) (nat root))) ⌝ }
     ensures { λ v. ⌜ (v .size ≤ 4096) × (v .depth ≤ 64) ⌝ }
 {
@@ -41,8 +41,8 @@ fn or_fits(
     second_root: i32,
     second_least: i32,
 ) -> bool
-    requires { ⌜ («first_rows» ≤ 1024) × (formulasRefusal (formulaRows (now «first_schema») «first_rows» (now «first_proof»)) «first_rows» «first_rows» «first_root» «first_least» ≡ none) ⌝ }
-    requires { ⌜ («second_rows» ≤ 1024) × (formulasRefusal (formulaRows (now «second_schema») «second_rows» (now «second_proof»)) «second_rows» «second_rows» «second_root» «second_least» ≡ none) ⌝ }
+    requires { ⌜ («first_rows» ≤ 1024) × (formulasRefusal (formulaRows (now «first_schema») «first_rows» (now «first_proof»)) «first_rows» «first_rows» «first_root» «first_least» ≡ Nothing) ⌝ }
+    requires { ⌜ («second_rows» ≤ 1024) × (formulasRefusal (formulaRows (now «second_schema») «second_rows» (now «second_proof»)) «second_rows» «second_rows» «second_root» «second_least» ≡ Nothing) ⌝ }
     ensures { λ v. ⌜ v ≡ orSmall (tree (formulaRows (now («first_schema» .entry)) «first_rows» (now («first_proof» .entry))) (nat «first_root»)) (tree (formulaRows (now («second_schema» .entry)) «second_rows» (now («second_proof» .entry))) (nat «second_root»)) ⌝ }
 {
     let f = root_facts(
@@ -80,8 +80,8 @@ pub fn both_fit(
     second_least: i32,
     second_nodes: usize,
 ) -> bool
-    requires { ⌜ («first_rows» ≤ 1024) × («first_nodes» ≤ 1024) × (formulasRefusal (formulaRows (now «first_schema») «first_rows» (now «first_proof»)) «first_rows» «first_rows» «first_root» «first_least» ≡ none) ⌝ }
-    requires { ⌜ («second_rows» ≤ 1024) × («second_nodes» ≤ 1024) × (formulasRefusal (formulaRows (now «second_schema») «second_rows» (now «second_proof»)) «second_rows» «second_rows» «second_root» «second_least» ≡ none) ⌝ }
+    requires { ⌜ («first_rows» ≤ 1024) × («first_nodes» ≤ 1024) × (formulasRefusal (formulaRows (now «first_schema») «first_rows» (now «first_proof»)) «first_rows» «first_rows» «first_root» «first_least» ≡ Nothing) ⌝ }
+    requires { ⌜ («second_rows» ≤ 1024) × («second_nodes» ≤ 1024) × (formulasRefusal (formulaRows (now «second_schema») «second_rows» (now «second_proof»)) «second_rows» «second_rows» «second_root» «second_least» ≡ Nothing) ⌝ }
     ensures { λ v. ⌜ v ≡ (ltb («first_rows» + «second_rows») 1024 and ltb («first_nodes» + «second_nodes») 1024 and orSmall (tree (formulaRows (now («first_schema» .entry)) «first_rows» (now («first_proof» .entry))) (nat «first_root»)) (tree (formulaRows (now («second_schema» .entry)) «second_rows» (now («second_proof» .entry))) (nat «second_root»))) ⌝ }
 {
     if 1024 <= first_rows + second_rows {

@@ -175,15 +175,15 @@ pub fn bound_fits(
     ensures { λ r. ⌜ r ≡ boundFits (lent (now (schema .entry)) (now (proof .entry)) (now (nodes .entry)) [] h) j ⌝ }
 {
     let l = kept::kept_at(work, 4 * j + worked::L);
-    let h = kept::kept_at(work, 4 * j + worked::H);
+    let top = kept::kept_at(work, 4 * j + worked::H);
     let on = node::natural_of(nodes, j, node::ON);
     let with = node::natural_of(nodes, j, node::WITH);
     match node::natural_of(nodes, j, node::RULE) {
-        2 => split_fits(nodes, j, l, h),
+        2 => split_fits(nodes, j, l, top),
         3 | 4 => reaches(schema, h.schema_rows, proof, on, l),
-        6 => clash_fits(schema, h.schema_rows, proof, on, with, is_exact(l, h), l),
-        7 => void_fits(schema, h.schema_rows, proof, on, h),
-        8 => target_allows(nodes, work, j, l, h),
+        6 => clash_fits(schema, h.schema_rows, proof, on, with, is_exact(l, top), l),
+        7 => void_fits(schema, h.schema_rows, proof, on, top),
+        8 => target_allows(nodes, work, j, l, top),
         _ => true,
     }
 }

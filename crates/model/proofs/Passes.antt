@@ -4,7 +4,6 @@ use native.Mathlib.Omega.{arith}
 use mathlib.Core.Path.{_≡_, sym, _∙_, ap}
 use mathlib.Core.Bool.{Bool, true, false}
 use mathlib.Core.List.{List}
-use mathlib.Core.Option.{Option, none, some}
 use lib.Dec.{leb}
 use lib.IntN.{ℤ, pos, negℤ}
 use lib.ListN.{length}
@@ -13,16 +12,15 @@ use borrow.Author.Tests.{leb-true, le-leb}
 use Rattle.stab.specs.Basic.{_and_, nat, below, _otherwise_, scan}
 use Rattle.stab.specs.Formula.{Row, rowAt}
 use Rattle.stab.specs.Model.{Model, pairRefusal, modelRefusal, satisfied, assignment, schemaRow}
-use Rattle.stab.specs.Check.{finding, wholeUnless, holds, rootFits, formulasBy, formulasRefusal, verdict}
+use Rattle.stab.specs.Check.{wholeUnless, holds, rootFits, formulasBy, formulasRefusal, verdict}
 use Rattle.stab.specs.declared.Place.{Place}
 use Rattle.stab.specs.declared.Place.the-variants.{Whole}
 use Rattle.stab.specs.declared.Refusal.{Refusal}
 use Rattle.stab.specs.declared.Refusal.the-variants.{TableTooShort}
 use Rattle.stab.specs.declared.Finding.{Finding}
 use Rattle.stab.specs.declared.Finding.the-variants.{Nothing, Found}
-use Rattle.stab.specs.declared.Verdict.{Verdict}
 use Rattle.stab.specs.declared.Verdict.the-variants.{Accepted, Refused}
-use Rattle.stab.proofs.Bools.{and-left, and-right, same-test, none-unless, unless-none, some-unless, otherwise-first, otherwise-second, otherwise-none, otherwise-some}
+use Rattle.stab.proofs.Bools.{and-left, and-right, same-test, nothing-unless, unless-nothing, found-unless, otherwise-first, otherwise-second, otherwise-nothing, otherwise-found}
 use Rattle.stab.proofs.Findings.{otherwise-assoc}
 use Rattle.stab.proofs.Trees.{below-nat}
 use Rattle.stab.proofs.Whole.{atom, le-of, of-le, plus-nat, minus-nat}
@@ -46,26 +44,24 @@ n-small least n h = leb-true (nat n) 9999 (sym (high-is 9999 n) ∙ and-right (l
 -- ---- refusals of the whole record
 
 module _ (ok : Bool) (why : Refusal) where
-  pub whole-none : ok ≡ true → wholeUnless ok why ≡ none
+  pub whole-none : ok ≡ true → wholeUnless ok why ≡ Nothing
   unfolding wholeUnless
-  whole-none h = none-unless ok _ h
+  whole-none h = nothing-unless ok _ _ h
 
-  whole-some : ok ≡ false → wholeUnless ok why ≡ some (Refused why Whole)
+  whole-some : ok ≡ false → wholeUnless ok why ≡ Found why Whole
   unfolding wholeUnless
-  whole-some h = some-unless ok _ h
+  whole-some h = found-unless ok _ _ h
 
   -- the test fails, and its refusal is what is found
-  pub found-last : (r : Finding) → r ≡ Found why Whole → ok ≡ false → finding r ≡ wholeUnless ok why
-  unfolding finding
-  found-last r e h = ap finding e ∙ sym (whole-some h)
+  pub found-last : (r : Finding) → r ≡ Found why Whole → ok ≡ false → r ≡ wholeUnless ok why
+  found-last r e h = e ∙ sym (whole-some h)
 
-  pub found-here : (rest : Option Verdict) (r : Finding) → r ≡ Found why Whole → ok ≡ false → finding r ≡ (wholeUnless ok why otherwise rest)
-  unfolding finding
-  found-here rest r e h = ap finding e ∙ sym (otherwise-some (wholeUnless ok why) rest (Refused why Whole) (whole-some h))
+  pub found-here : (rest : Finding) (r : Finding) → r ≡ Found why Whole → ok ≡ false → r ≡ (wholeUnless ok why otherwise rest)
+  found-here rest r e h = e ∙ sym (otherwise-found (wholeUnless ok why) rest (whole-some h))
 
   -- the test passes, and what is found is found later
-  pub found-later : (rest x : Option Verdict) → ok ≡ true → x ≡ rest → x ≡ (wholeUnless ok why otherwise rest)
-  found-later rest x h e = e ∙ sym (otherwise-none (wholeUnless ok why) rest (whole-none h))
+  pub found-later : (rest x : Finding) → ok ≡ true → x ≡ rest → x ≡ (wholeUnless ok why otherwise rest)
+  found-later rest x h e = e ∙ sym (otherwise-nothing (wholeUnless ok why) rest (whole-none h))
 
 -- three numbers at once
 pub same₃ : {B : Type 0} (f : ℤ → ℤ → ℤ → B) {x x′ y y′ z z′ : ℤ} → x ≡ x′ → y ≡ y′ → z ≡ z′ → f x y z ≡ f x′ y′ z′
@@ -73,10 +69,10 @@ same₃ f p q r = λ i. f (p i) (q i) (r i)
 
 -- ---- what passed
 
-module _ (rows : ℕ → Row) (s : ℕ) (root least : ℤ) (h : formulasRefusal rows s s root least ≡ none) where
+module _ (rows : ℕ → Row) (s : ℕ) (root least : ℤ) (h : formulasRefusal rows s s root least ≡ Nothing) where
   pub passed-root : nat root < s
   unfolding formulasRefusal formulasBy wholeUnless rootFits
-  passed-root = below-nat s root (and-left (below s root) _ (unless-none (rootFits s root least) _ (otherwise-first _ _ h)))
+  passed-root = below-nat s root (and-left (below s root) _ (unless-nothing (rootFits s root least) _ _ (otherwise-first _ _ h)))
 
 -- ---- the whole check
 
@@ -84,14 +80,14 @@ pub model-is : (M : Model) → modelRefusal M ≡ (tablesRefusal (M .schema) (M 
 unfolding modelRefusal tablesRefusal truthRefusal satisfied assignment schemaRow
 model-is M = sym (otherwise-assoc _ _ _)
 
-module _ (s k : ℕ) (schema pairs : List ℤ) (h : tablesRefusal schema s pairs k ≡ none) where
+module _ (s k : ℕ) (schema pairs : List ℤ) (h : tablesRefusal schema s pairs k ≡ Nothing) where
   tables-held : (holds schema 4 s and holds pairs 2 k) ≡ true
   unfolding tablesRefusal wholeUnless
-  tables-held = unless-none _ _ (otherwise-first _ _ h)
+  tables-held = unless-nothing _ _ _ (otherwise-first _ _ h)
 
   tables-few : (leb s 1024 and leb k 4096) ≡ true
   unfolding tablesRefusal wholeUnless
-  tables-few = unless-none _ _ (otherwise-second (wholeUnless (holds schema 4 s and holds pairs 2 k) TableTooShort) _ h)
+  tables-few = unless-nothing _ _ _ (otherwise-second (wholeUnless (holds schema 4 s and holds pairs 2 k) TableTooShort) _ h)
 
   pub schema-held : 4 * s ≤ length schema
   unfolding holds
@@ -104,10 +100,10 @@ module _ (s k : ℕ) (schema pairs : List ℤ) (h : tablesRefusal schema s pairs
   pairs-few = leb-true k 4096 (and-right (leb s 1024) _ tables-few)
 
 -- the verdict of what was found
-pub accepted-is : (x : Option Verdict) (f : Finding) → finding f ≡ x → f ≡ Nothing → Accepted 0 0 ≡ verdict x (Accepted 0 0)
-unfolding finding verdict
-accepted-is x f e h = ap (λ (y : Option Verdict). verdict y (Accepted 0 0)) (sym (ap finding h) ∙ e)
+pub accepted-is : (x : Finding) (f : Finding) → f ≡ x → f ≡ Nothing → Accepted 0 0 ≡ verdict x (Accepted 0 0)
+unfolding verdict
+accepted-is x f e h = ap (λ (y : Finding). verdict y (Accepted 0 0)) (sym (h) ∙ e)
 
-pub refused-is : (x : Option Verdict) (f : Finding) (why : Refusal) (p : Place) → finding f ≡ x → f ≡ Found why p → Refused why p ≡ verdict x (Accepted 0 0)
-unfolding finding verdict
-refused-is x f why p e h = ap (λ (y : Option Verdict). verdict y (Accepted 0 0)) (sym (ap finding h) ∙ e)
+pub refused-is : (x : Finding) (f : Finding) (why : Refusal) (p : Place) → f ≡ x → f ≡ Found why p → Refused why p ≡ verdict x (Accepted 0 0)
+unfolding verdict
+refused-is x f why p e h = ap (λ (y : Finding). verdict y (Accepted 0 0)) (sym (h) ∙ e)

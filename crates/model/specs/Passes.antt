@@ -1,7 +1,6 @@
 -- The model check in parts: the refusals before the formula rows, and those after the pairs.
 use Prim.Native.Nat.{ℕ, _+_, _≤_, _<_}
 use mathlib.Core.List.{List}
-use mathlib.Core.Option.{Option}
 use lib.Dec.{leb}
 use lib.IntN.{ℤ, pos}
 use lib.Signed.{leZ}
@@ -11,18 +10,18 @@ use Rattle.stab.specs.Meaning.{truth}
 use Rattle.stab.specs.Model.{listed}
 use Rattle.stab.specs.Check.{wholeUnless, holds}
 use Rattle.stab.specs.declared.Refusal.the-variants.{TableTooShort, TooMany, Width, False}
-use Rattle.stab.specs.declared.Verdict.{Verdict}
+use Rattle.stab.specs.declared.Finding.{Finding}
 use Rattle.formula.specs.Facts.{AllFormed}
 use Rattle.pairs.specs.Pairs.{Sorted}
 
 -- 2 and 5
-unfoldable pub tablesRefusal : List ℤ → ℕ → List ℤ → ℕ → Option Verdict
+unfoldable pub tablesRefusal : List ℤ → ℕ → List ℤ → ℕ → Finding
 tablesRefusal schema s pairs k =
     wholeUnless (holds schema 4 s and holds pairs 2 k) TableTooShort otherwise
     wholeUnless (leb s 1024 and leb k 4096) TooMany
 
 -- 19 and 20
-unfoldable pub truthRefusal : List ℤ → ℤ → ℤ → ℤ → List ℤ → ℕ → Option Verdict
+unfoldable pub truthRefusal : List ℤ → ℤ → ℤ → ℤ → List ℤ → ℕ → Finding
 truthRefusal schema root least n pairs k =
     wholeUnless (leZ least n and leZ n (pos 9999)) Width otherwise
     wholeUnless (truth (listed pairs k) (nat n) (tree (rowAt schema) (nat root))) False

@@ -8,13 +8,12 @@ use value::formula_value;
 ghost use mathlib.Core.Path.{_≡_};
 ghost use Prim.Native.Nat.{ℕ, _*_, _≤_};
 ghost use lib.IntN.{pos};
-ghost use mathlib.Core.Option.{none};
 ghost use lib.Signed.{leZ};
 ghost use lib.ListN.{length};
 ghost use Rattle.stab.specs.Basic.{_and_};
 ghost use Rattle.stab.specs.Formula.{rowAt};
-ghost use Rattle.stab.specs.Check.{finding, formulasRefusal};
-ghost use Rattle.stab.specs.declared.Finding.the-variants.{Found};
+ghost use Rattle.stab.specs.Check.{formulasRefusal};
+ghost use Rattle.stab.specs.declared.Finding.the-variants.{Nothing, Found};
 ghost use Rattle.stab.specs.declared.Place.the-variants.{Whole};
 ghost use Rattle.stab.specs.declared.Verdict.the-variants.{Accepted};
 ghost use Rattle.stab.specs.Model.{modelRefusal, checkModel};
@@ -35,7 +34,7 @@ pub fn whole(why: Refusal) -> Finding
 
 // Refusals 2 and 5.
 fn tables_pass(schema: &[i32], schema_rows: usize, pairs: &[i32], pair_rows: usize) -> Finding
-    ensures { λ r. ⌜ finding r ≡ tablesRefusal (now (schema .entry)) «schema_rows» (now (pairs .entry)) «pair_rows» ⌝ }
+    ensures { λ r. ⌜ r ≡ tablesRefusal (now (schema .entry)) «schema_rows» (now (pairs .entry)) «pair_rows» ⌝ }
 {
     if !signed::holds(schema, 4, schema_rows) {
         return whole(Refusal::TableTooShort);
@@ -62,8 +61,8 @@ pub fn schema_pass(
     facts: &mut [u32],
 ) -> Finding
     requires { ⌜ («schema_rows» ≤ 1024) × (4 * «schema_rows» ≤ length (now schema)) × (4 * «schema_rows» ≤ length (now facts)) ⌝ }
-    ensures { λ r. ⌜ finding r ≡ formulasRefusal (rowAt (now (schema .entry))) «schema_rows» «schema_rows» root least ⌝ }
-    ensures { λ r. ⌜ (formulasRefusal (rowAt (now (schema .entry))) «schema_rows» «schema_rows» root least ≡ none → Passed (rowAt (now (schema .entry))) (now (facts .exit)) «schema_rows») ⌝ }
+    ensures { λ r. ⌜ r ≡ formulasRefusal (rowAt (now (schema .entry))) «schema_rows» «schema_rows» root least ⌝ }
+    ensures { λ r. ⌜ (formulasRefusal (rowAt (now (schema .entry))) «schema_rows» «schema_rows» root least ≡ Nothing → Passed (rowAt (now (schema .entry))) (now (facts .exit)) «schema_rows») ⌝ }
     ensures { λ r. ⌜ now (facts .exit) ≡ formulasTable (rowAt (now (schema .entry))) (now (facts .entry)) «schema_rows» «schema_rows» root least ⌝ }
 {
     let end = 4 * schema_rows;
@@ -81,8 +80,8 @@ pub fn schema_pass(
 // The same where their numbers are not asked for.
 fn formulas_pass(schema: &[i32], schema_rows: usize, root: i32, least: i32) -> Finding
     requires { ⌜ («schema_rows» ≤ 1024) × (4 * «schema_rows» ≤ length (now schema)) ⌝ }
-    ensures { λ r. ⌜ finding r ≡ formulasRefusal (rowAt (now (schema .entry))) «schema_rows» «schema_rows» root least ⌝ }
-    ensures { λ r. ⌜ (formulasRefusal (rowAt (now (schema .entry))) «schema_rows» «schema_rows» root least ≡ none → AllFormed (rowAt (now (schema .entry))) «schema_rows») ⌝ }
+    ensures { λ r. ⌜ r ≡ formulasRefusal (rowAt (now (schema .entry))) «schema_rows» «schema_rows» root least ⌝ }
+    ensures { λ r. ⌜ (formulasRefusal (rowAt (now (schema .entry))) «schema_rows» «schema_rows» root least ≡ Nothing → AllFormed (rowAt (now (schema .entry))) «schema_rows») ⌝ }
 {
     let mut facts = [0u32; 4096];
     schema_pass(schema, schema_rows, root, least, &mut facts)
@@ -108,7 +107,7 @@ fn truth_pass(
     pair_rows: usize,
 ) -> Finding
     requires { ⌜ RootReadable (now schema) root (now pairs) «pair_rows» ⌝ }
-    ensures { λ r. ⌜ finding r ≡ truthRefusal (now (schema .entry)) root least n (now (pairs .entry)) «pair_rows» ⌝ }
+    ensures { λ r. ⌜ r ≡ truthRefusal (now (schema .entry)) root least n (now (pairs .entry)) «pair_rows» ⌝ }
 {
     if !width_fits(least, n) {
         return whole(Refusal::Width);
@@ -131,7 +130,7 @@ fn model_pass(
     pairs: &[i32],
     pair_rows: usize,
 ) -> Finding
-    ensures { λ r. ⌜ finding r ≡ modelRefusal (record { schema = now (schema .entry); schemaRows = «schema_rows»; root = root; least = least; n = n; pairs = now (pairs .entry); pairRows = «pair_rows» }) ⌝ }
+    ensures { λ r. ⌜ r ≡ modelRefusal (record { schema = now (schema .entry); schemaRows = «schema_rows»; root = root; least = least; n = n; pairs = now (pairs .entry); pairRows = «pair_rows» }) ⌝ }
 {
     let found = tables_pass(schema, schema_rows, pairs, pair_rows);
     let Finding::Nothing = found else {

@@ -16,9 +16,9 @@ use Rattle.stab.specs.Text.{padded}
 use Rattle.stab.specs.declared.Place.the-variants.{Whole}
 use Rattle.stab.specs.declared.Refusal.{Refusal}
 use Rattle.stab.specs.declared.Refusal.the-variants.{TableTooShort, NotListed}
-use Rattle.stab.specs.declared.Verdict.{Verdict}
-use Rattle.stab.specs.declared.Verdict.the-variants.{Refused}
-use Rattle.stab.proofs.Bools.{decide, and-both, and-first-false, none-unless, some-unless, otherwise-none, otherwise-some}
+use Rattle.stab.specs.declared.Finding.{Finding}
+use Rattle.stab.specs.declared.Finding.the-variants.{Found, Nothing}
+use Rattle.stab.proofs.Bools.{decide, and-both, and-first-false, nothing-unless, found-unless, otherwise-nothing, otherwise-found}
 use Rattle.signed.specs.Numbers.{cleared}
 use Rattle.signed.proofs.Tables.{cleared-padded}
 use Rattle.small.specs.Small.{onList, nextTable, nextRefusal, nextOr, nextBy, nextSmall, numbersOr, nextNumbers, nextSmallTable}
@@ -47,28 +47,28 @@ module _ (n : ℕ) (t : List ℤ) (room : ℕ) where
 
   -- ---- what is refused
 
-  pub too-short : (holds t 4 n and leb (4 * n) room) ≡ false → nextRefusal n t room ≡ some (Refused TableTooShort Whole)
+  pub too-short : (holds t 4 n and leb (4 * n) room) ≡ false → nextRefusal n t room ≡ Found TableTooShort Whole
   unfolding nextRefusal wholeUnless
-  too-short h = otherwise-some _ _ _ (some-unless _ _ h)
+  too-short h = otherwise-found _ _ (found-unless _ _ _ h)
 
-  pub not-listed : Holds → onList n t ≡ false → nextRefusal n t room ≡ some (Refused NotListed Whole)
+  pub not-listed : Holds → onList n t ≡ false → nextRefusal n t room ≡ Found NotListed Whole
   unfolding nextRefusal wholeUnless
-  not-listed k h = otherwise-none _ _ (none-unless _ _ k) ∙ some-unless (onList n t) _ h
+  not-listed k h = otherwise-nothing _ _ (nothing-unless _ _ _ k) ∙ found-unless (onList n t) _ _ h
 
-  not-refused : Holds → onList n t ≡ true → nextRefusal n t room ≡ none
+  not-refused : Holds → onList n t ≡ true → nextRefusal n t room ≡ Nothing
   unfolding nextRefusal wholeUnless
-  not-refused k h = otherwise-none _ _ (none-unless _ _ k) ∙ none-unless (onList n t) _ h
+  not-refused k h = otherwise-nothing _ _ (nothing-unless _ _ _ k) ∙ nothing-unless (onList n t) _ _ h
 
   -- ---- the answer and the result table
 
   abbrev pub Answered : NextSmall → List ℤ → Type 0
   Answered r u = (r ≡ nextSmall n t room) × (u ≡ nextSmallTable n t room)
 
-  pub refused-so : (why : Refusal) (r : NextSmall) (u : List ℤ) → nextRefusal n t room ≡ some (Refused why Whole) → r ≡ NextRefused why Whole → u ≡ padded (pos 0) room [] → Answered r u
+  pub refused-so : (why : Refusal) (r : NextSmall) (u : List ℤ) → nextRefusal n t room ≡ Found why Whole → r ≡ NextRefused why Whole → u ≡ padded (pos 0) room [] → Answered r u
   unfolding nextSmall nextBy nextSmallTable nextNumbers
   refused-so why r u h p q = (
-    p ∙ ap (λ (x : Option Verdict). nextBy x (nextTable n t)) (sym h),
-    q ∙ ap (λ (x : Option Verdict). padded (pos 0) room (nextNumbers x (nextTable n t))) (sym h),
+    p ∙ ap (λ (x : Finding). nextBy x (nextTable n t)) (sym h),
+    q ∙ ap (λ (x : Finding). padded (pos 0) room (nextNumbers x (nextTable n t))) (sym h),
   )
 
   module _ (k : Holds) (h : onList n t ≡ true) (v u : List ℤ) (same : length v ≡ room) where
@@ -77,7 +77,7 @@ module _ (n : ℕ) (t : List ℤ) (room : ℕ) where
     table-so e l q = (
       ap₂ nextBy (sym (not-refused k h)) (sym e),
       q ∙ cleared-padded v (4 * n) room l same
-          ∙ ap₂ (λ (x : Option Verdict) (y : Option (List ℤ)). padded (pos 0) room (nextNumbers x y)) (sym (not-refused k h)) (sym e),
+          ∙ ap₂ (λ (x : Finding) (y : Option (List ℤ)). padded (pos 0) room (nextNumbers x y)) (sym (not-refused k h)) (sym e),
     )
 
     pub last-so : nextTable n t ≡ none → u ≡ cleared v 0 → Answered Last u
@@ -85,5 +85,5 @@ module _ (n : ℕ) (t : List ℤ) (room : ℕ) where
     last-so e q = (
       ap₂ nextBy (sym (not-refused k h)) (sym e),
       q ∙ cleared-padded v 0 room (omega arith) same
-          ∙ ap₂ (λ (x : Option Verdict) (y : Option (List ℤ)). padded (pos 0) room (nextNumbers x y)) (sym (not-refused k h)) (sym e),
+          ∙ ap₂ (λ (x : Finding) (y : Option (List ℤ)). padded (pos 0) room (nextNumbers x y)) (sym (not-refused k h)) (sym e),
     )

@@ -5,15 +5,17 @@ use mathlib.Core.Path.{_≡_, refl, sym, _∙_}
 use mathlib.Core.Logic.{⊎-elim}
 use mathlib.Core.Bool.{Bool, true, false}
 use mathlib.Core.List.{List, List·Memᴰ}
-use mathlib.Core.Option.{Option, none, some, Option·some-ne-none}
 use lib.IntN.{ℤ, pos}
 use borrow.Author.Tests.{le-leb}
-use Rattle.stab.specs.Basic.{if_then_else_, _and_, eqZ, within, nat, below, scan, _otherwise_, unless, allOf}
+use Rattle.stab.specs.Basic.{if_then_else_, _and_, eqZ, within, nat, below, scan, unless, allOf}
 use Rattle.stab.specs.Formula.{Row, rowAt, Kind, constant, literal, junction, iteration, unknown, kindOf, Formula, partIf, part, decode, treeN, tree, size, depth, isOuter, wellFormed, smallEnough}
 use Rattle.stab.specs.Check.{atUnless, wholeUnless, rowRefusal, rootFits, formulasBy, formulasRefusal}
-use Rattle.stab.specs.declared.Verdict.{Verdict}
-use Rattle.stab.proofs.Bools.{decide, and-left, and-both, none-unless, unless-none, otherwise-none, otherwise-first, otherwise-second}
-use Rattle.stab.proofs.Scans.{scan-none, none-scan, all-use}
+use Rattle.stab.specs.declared.Finding.{Finding}
+use Rattle.stab.specs.declared.Refusal.{Refusal}
+use Rattle.stab.specs.declared.Place.{Place}
+use Rattle.stab.specs.declared.Finding.the-variants.{Found, Nothing}
+use Rattle.stab.proofs.Bools.{decide, and-left, and-both, nothing-unless, unless-nothing, otherwise-nothing, otherwise-first, otherwise-second, found≢nothing}
+use Rattle.stab.proofs.Scans.{scan-nothing, nothing-scan, all-use}
 use Rattle.stab.proofs.Trees.{below-of}
 use Rattle.small.specs.Small.{smallAs, isSmall, allSmall, onList, overEach, rowOf, literalRows, junctionRows, iterationRows, rowsFor}
 use Rattle.small.specs.Fits.{columns, RowsFit}
@@ -95,7 +97,7 @@ unfolding within _and_
 least-fits = refl
 
 module _ (n : ℕ) (t : List ℤ) (a : 1 ≤ n) (b : n ≤ 3) where
-  abbrev pub passes : Option Verdict
+  abbrev pub passes : Finding
   passes = formulasRefusal (rowAt t) n n (pos (n - 1)) (pos 0)
 
   root-fits : rootFits n (pos (n - 1)) (pos 0) ≡ true
@@ -107,28 +109,28 @@ module _ (n : ℕ) (t : List ℤ) (a : 1 ≤ n) (b : n ≤ 3) where
   small-rows zero f = refl
   small-rows (suc m) f = and-both _ _ (small-rows m (λ r l. f r (omega arith))) (f m (omega arith))
 
-  pub passes-listed : RowsFit n t → passes ≡ none → onList n t ≡ true
+  pub passes-listed : RowsFit n t → passes ≡ Nothing → onList n t ≡ true
   unfolding formulasRefusal formulasBy wholeUnless rowRefusal atUnless isSmall onList nat
   passes-listed f h =
-      let rest = otherwise-second (unless (rootFits n (pos (n - 1)) (pos 0)) _) _ h in
-      let rows = none-scan (rowRefusal (rowAt t)) n (otherwise-first _ _ rest) in
-      let outer = unless-none (isOuter (tree (rowAt t) (n - 1))) _ (otherwise-second (scan (rowRefusal (rowAt t)) n) _ rest) in
+      let rest = otherwise-second (unless (rootFits n (pos (n - 1)) (pos 0)) _ _) _ h in
+      let rows = nothing-scan (rowRefusal (rowAt t)) n (otherwise-first _ _ rest) in
+      let outer = unless-nothing (isOuter (tree (rowAt t) (n - 1))) _ _ (otherwise-second (scan (rowRefusal (rowAt t)) n) _ rest) in
       and-both _ _ (le-leb 1 n a)
       (and-both _ _ (le-leb n 3 b)
       (and-both _ _
       (small-rows n (λ r l.
-      and-both (wellFormed (rowAt t) r) _ (unless-none (wellFormed (rowAt t) r) _ (otherwise-first _ _ (rows r l))) (fitting-small (rowAt t r) r (omega arith) (f r l))))
+      and-both (wellFormed (rowAt t) r) _ (unless-nothing (wellFormed (rowAt t) r) _ _ (otherwise-first _ _ (rows r l))) (fitting-small (rowAt t r) r (omega arith) (f r l))))
       outer))
 
-  pub listed-passes : onList n t ≡ true → passes ≡ none
+  pub listed-passes : onList n t ≡ true → passes ≡ Nothing
   unfolding formulasRefusal formulasBy wholeUnless rowRefusal atUnless isSmall nat
   listed-passes h =
-      otherwise-none _ _ (none-unless (rootFits n (pos (n - 1)) (pos 0)) _ root-fits)
-      ∙ otherwise-none _ _
-      (scan-none (rowRefusal (rowAt t)) n (λ r l.
-      otherwise-none _ _ (none-unless (wellFormed (rowAt t) r) _ (and-left (wellFormed (rowAt t) r) _ (small-use (rowAt t) n r (listed-small n t h) l)))
-      ∙ none-unless (smallEnough (rowAt t) r) _ (few-small (rowAt t) r (omega arith))))
-      ∙ none-unless (isOuter (tree (rowAt t) (n - 1))) _ (listed-outer n t h)
+      otherwise-nothing _ _ (nothing-unless (rootFits n (pos (n - 1)) (pos 0)) _ _ root-fits)
+      ∙ otherwise-nothing _ _
+      (scan-nothing (rowRefusal (rowAt t)) n (λ r l.
+      otherwise-nothing _ _ (nothing-unless (wellFormed (rowAt t) r) _ _ (and-left (wellFormed (rowAt t) r) _ (small-use (rowAt t) n r (listed-small n t h) l)))
+      ∙ nothing-unless (smallEnough (rowAt t) r) _ _ (few-small (rowAt t) r (omega arith))))
+      ∙ nothing-unless (isOuter (tree (rowAt t) (n - 1))) _ _ (listed-outer n t h)
 
-  pub fails-unlisted : (v : Verdict) → passes ≡ some v → onList n t ≡ false
-  fails-unlisted v h = ⊎-elim (λ e. absurd (Option·some-ne-none v (sym h ∙ listed-passes e))) (λ e. e) (decide (onList n t))
+  pub fails-unlisted : (why : Refusal) (p : Place) → passes ≡ Found why p → onList n t ≡ false
+  fails-unlisted why p h = ⊎-elim (λ e. absurd (found≢nothing (sym h ∙ listed-passes e))) (λ e. e) (decide (onList n t))

@@ -6,7 +6,6 @@ use mathlib.Core.Path.{_≡_, refl, sym, _∙_, ap, ap₂, subst}
 use mathlib.Core.Logic.{⊎-elim}
 use mathlib.Core.Bool.{Bool, true, false}
 use mathlib.Core.List.{List}
-use mathlib.Core.Option.{none, some}
 use lib.Dec.{ltb, eqb}
 use lib.IntN.{ℤ, pos, negℤ, _+ℤ_}
 use lib.Signed.{leZ, ltZ}
@@ -16,10 +15,10 @@ use Rattle.stab.specs.Model.{pairSymbol, pairIndex, pairInRange, pairBefore, pa
 use Rattle.stab.specs.Check.{atUnless}
 use Rattle.stab.specs.declared.Place.the-variants.{At}
 use Rattle.stab.specs.declared.Refusal.the-variants.{Pair}
-use Rattle.stab.specs.declared.Verdict.the-variants.{Refused}
-use Rattle.stab.proofs.Bools.{and-left, and-right, and-both, or-cases, or-left, or-right, or-false, if-true, if-false, decide, same-test, none-unless, unless-none, some-unless, or-first-false}
+use Rattle.stab.specs.declared.Finding.the-variants.{Nothing, Found}
+use Rattle.stab.proofs.Bools.{and-left, and-right, and-both, or-cases, or-left, or-right, or-false, if-true, if-false, decide, same-test, nothing-unless, unless-nothing, found-unless, or-first-false}
 use Rattle.stab.proofs.Whole.{atom, num, _⊕_, _⊖_, lt-of, of-lt, of-not-lt, of-eq, plus-nat, nat-pos, eqZ-true, eqZ-of, minus-nat}
-use Rattle.stab.proofs.Scans.{below-suc, none-scan, scan-more, scan-found}
+use Rattle.stab.proofs.Scans.{below-suc, nothing-scan, scan-more, scan-found}
 use Rattle.pairs.specs.Index.{unbiased}
 use Rattle.pairs.specs.Pairs.{AllInRange, Sorted, keyAt, keysBelow}
 use Rattle.pairs.specs.Word.{wordAt}
@@ -299,31 +298,31 @@ module _ (t : List ℤ) (n a x w : ℕ) (s : Sorted t n) (q : x + w ≤ 131072) 
 
 -- ---- the pass over the pairs
 
-pair-none : (t : List ℤ) (k : ℕ) → (pairInRange t k and pairFollows t k) ≡ true → pairRefusal t k ≡ none
+pair-none : (t : List ℤ) (k : ℕ) → (pairInRange t k and pairFollows t k) ≡ true → pairRefusal t k ≡ Nothing
 unfolding pairRefusal atUnless
-pair-none t k h = none-unless _ _ h
+pair-none t k h = nothing-unless _ _ _ h
 
-none-pair : (t : List ℤ) (k : ℕ) → pairRefusal t k ≡ none → (pairInRange t k and pairFollows t k) ≡ true
+none-pair : (t : List ℤ) (k : ℕ) → pairRefusal t k ≡ Nothing → (pairInRange t k and pairFollows t k) ≡ true
 unfolding pairRefusal atUnless
-none-pair t k h = unless-none _ _ h
+none-pair t k h = unless-nothing _ _ _ h
 
-pair-some : (t : List ℤ) (k : ℕ) → (pairInRange t k and pairFollows t k) ≡ false → pairRefusal t k ≡ some (Refused Pair (At k))
+pair-some : (t : List ℤ) (k : ℕ) → (pairInRange t k and pairFollows t k) ≡ false → pairRefusal t k ≡ Found Pair (At k)
 unfolding pairRefusal atUnless
-pair-some t k h = some-unless _ _ h
+pair-some t k h = found-unless _ _ _ h
 
 -- pairs that are not turned away are sorted
-pub scan-sorted : (t : List ℤ) (n : ℕ) → scan (pairRefusal t) n ≡ none → Sorted t n
+pub scan-sorted : (t : List ℤ) (n : ℕ) → scan (pairRefusal t) n ≡ Nothing → Sorted t n
 scan-sorted t n h =
     record {
-      inRange = λ k p. and-left (pairInRange t k) _ (none-pair t k (none-scan (pairRefusal t) n h k p));
-      follows = λ k p. and-right (pairInRange t k) _ (none-pair t k (none-scan (pairRefusal t) n h k p));
+      inRange = λ k p. and-left (pairInRange t k) _ (none-pair t k (nothing-scan (pairRefusal t) n h k p));
+      follows = λ k p. and-right (pairInRange t k) _ (none-pair t k (nothing-scan (pairRefusal t) n h k p));
     }
 
-pub pairs-more : (t : List ℤ) (k : ℕ) → scan (pairRefusal t) k ≡ none → (pairInRange t k and pairFollows t k) ≡ true → scan (pairRefusal t) (k + 1) ≡ none
+pub pairs-more : (t : List ℤ) (k : ℕ) → scan (pairRefusal t) k ≡ Nothing → (pairInRange t k and pairFollows t k) ≡ true → scan (pairRefusal t) (k + 1) ≡ Nothing
 pairs-more t k h p = scan-more (pairRefusal t) k h (pair-none t k p)
 
-pub pairs-found : (t : List ℤ) (n k : ℕ) → k < n → scan (pairRefusal t) k ≡ none → (pairInRange t k and pairFollows t k) ≡ false → scan (pairRefusal t) n ≡ some (Refused Pair (At k))
-pairs-found t n k l h p = scan-found (pairRefusal t) n k _ l h (pair-some t k p)
+pub pairs-found : (t : List ℤ) (n k : ℕ) → k < n → scan (pairRefusal t) k ≡ Nothing → (pairInRange t k and pairFollows t k) ≡ false → scan (pairRefusal t) n ≡ Found Pair (At k)
+pairs-found t n k l h p = scan-found (pairRefusal t) n k l h (pair-some t k p)
 
 -- one more pair in range
 pub in-range-more : (t : List ℤ) (k : ℕ) → AllInRange t k → pairInRange t k ≡ true → AllInRange t (k + 1)

@@ -10,7 +10,6 @@ ghost use lib.IntN.{pos, negℤ, _+ℤ_};
 ghost use mathlib.Core.Bool.{true};
 ghost use lib.ListN.{getD};
 ghost use Rattle.stab.specs.Basic.{_and_, within, scan};
-ghost use Rattle.stab.specs.Check.{finding};
 ghost use Rattle.stab.specs.Model.{listed, pairInRange, pairFollows, pairRefusal};
 ghost use Rattle.pairs.specs.Index.{unbiased, Movable};
 ghost use Rattle.pairs.specs.Pairs.{AllInRange, Sorted, keyAt, keysBelow};
@@ -116,7 +115,7 @@ fn pair_fits(pairs: &[i32], k: usize) -> bool
 // The first of the pairs that is out of order or range.
 pub fn pairs_pass(pairs: &[i32], count: usize) -> Finding
     requires { ⌜ count ≤ 4096 ⌝ }
-    ensures { λ r. ⌜ finding r ≡ scan (pairRefusal (now (pairs .entry))) count ⌝ }
+    ensures { λ r. ⌜ r ≡ scan (pairRefusal (now (pairs .entry))) count ⌝ }
 {
     let mut k = 0;
     while k < count {

@@ -3,33 +3,32 @@ use Prim.Native.Nat.{ℕ, _<_}
 use mathlib.Core.Path.{_≡_, sym, _∙_}
 use mathlib.Core.Logic.{⊎-elim}
 use mathlib.Core.Bool.{true, false}
-use mathlib.Core.Option.{none, some}
 use lib.Dec.{leb, ltb}
 use borrow.Author.Tests.{leb-true, le-leb, ltb-false, lt-ltb, le-ltb}
 use Rattle.stab.specs.Formula.{Row}
 use Rattle.stab.specs.Check.{atUnless, repeatRefusal}
 use Rattle.stab.specs.declared.Place.the-variants.{At}
 use Rattle.stab.specs.declared.Refusal.the-variants.{Repeated}
-use Rattle.stab.specs.declared.Verdict.the-variants.{Refused}
-use Rattle.stab.proofs.Bools.{decide, and-left, and-right, and-first-true, or-left, or-right, or-false, not-of-false, not-of-true, none-unless, some-unless}
+use Rattle.stab.specs.declared.Finding.the-variants.{Nothing, Found}
+use Rattle.stab.proofs.Bools.{decide, and-left, and-right, and-first-true, or-left, or-right, or-false, not-of-false, not-of-true, nothing-unless, found-unless}
 use Rattle.repeats.specs.Repeated.{repeated}
 
 module _ (rows : ℕ → Row) (from r : ℕ) where
-  pub repeat-found : repeated rows from r ≡ true → repeatRefusal rows from r ≡ some (Refused Repeated (At r))
+  pub repeat-found : repeated rows from r ≡ true → repeatRefusal rows from r ≡ Found Repeated (At r)
   unfolding repeated repeatRefusal atUnless
   repeat-found h =
-      some-unless _ _
+      found-unless _ _ _
       (or-false _ _ (le-ltb r from (leb-true from r (and-left _ _ h))) (not-of-true _ (and-right (leb from r) _ h)))
 
-  pub repeat-none : repeated rows from r ≡ false → repeatRefusal rows from r ≡ none
+  pub repeat-none : repeated rows from r ≡ false → repeatRefusal rows from r ≡ Nothing
   unfolding repeated repeatRefusal atUnless
   repeat-none h =
-      none-unless _ _
+      nothing-unless _ _ _
       (⊎-elim
       (λ t. or-left _ _ t)
       (λ t. or-right (ltb r from) _ (not-of-false _ (sym (and-first-true _ _ (le-leb from r (ltb-false r from t))) ∙ h)))
       (decide (ltb r from)))
 
-  pub repeat-before : r < from → repeatRefusal rows from r ≡ none
+  pub repeat-before : r < from → repeatRefusal rows from r ≡ Nothing
   unfolding repeatRefusal atUnless
-  repeat-before l = none-unless _ _ (or-left _ _ (lt-ltb r from l))
+  repeat-before l = nothing-unless _ _ _ (or-left _ _ (lt-ltb r from l))

@@ -12,7 +12,7 @@ ghost use mathlib.Core.Bool.{false};
 ghost use lib.ListN.{length, getD};
 ghost use Rattle.stab.specs.Basic.{scan};
 ghost use Rattle.stab.specs.Formula.{formulaRows};
-ghost use Rattle.stab.specs.Check.{finding, repeatRefusal};
+ghost use Rattle.stab.specs.Check.{repeatRefusal};
 ghost use Rattle.repeats.specs.Places.{Linked};
 ghost use Rattle.repeats.specs.Repeated.{repeated};
 
@@ -53,7 +53,7 @@ fn first_repeat(
 ) -> Finding
     requires { ⌜ (n ≤ 1024) × (n ≤ length (now next)) × (4096 ≤ length (now heads)) ⌝ }
     requires { ⌜ ((h : ℕ) → h < 4096 → getD (now heads) h 0 ≡ 0) ⌝ }
-    ensures { λ r. ⌜ finding r ≡ scan (repeatRefusal (formulaRows (now (schema .entry)) s (now (proof .entry))) from) n ⌝ }
+    ensures { λ r. ⌜ r ≡ scan (repeatRefusal (formulaRows (now (schema .entry)) s (now (proof .entry))) from) n ⌝ }
 {
     let mut r: usize = 0;
     while r < n {
@@ -71,7 +71,7 @@ fn first_repeat(
 // The first of n rows, from `from` on, whose columns are those of an earlier row.
 pub fn repeats(schema: &[i32], s: usize, proof: &[i32], from: usize, n: usize) -> Finding
     requires { ⌜ n ≤ 1024 ⌝ }
-    ensures { λ r. ⌜ finding r ≡ scan (repeatRefusal (formulaRows (now (schema .entry)) s (now (proof .entry))) from) n ⌝ }
+    ensures { λ r. ⌜ r ≡ scan (repeatRefusal (formulaRows (now (schema .entry)) s (now (proof .entry))) from) n ⌝ }
 {
     if n <= from {
         return Finding::Nothing;

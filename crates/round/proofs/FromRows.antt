@@ -39,7 +39,7 @@ came n (wrote text) bytes e =
     let f : Text (length text) ≡ Text bytes = e in
     let size : length text ≡ bytes = cc in
     (text, refl, take-at text _ bytes size)
-came n (refused why) bytes e = let z : _≡_ {A = ℕ} 0 1 = cc in absurd (omega arith)
+came n (refused why place) bytes e = let z : _≡_ {A = ℕ} 0 1 = cc in absurd (omega arith)
 
 pub bytes-within : (n : ℕ) (w : Writing) (bytes : ℕ) → written w ≡ Text bytes → bytes ≤ length (output n w)
 unfolding written output padded
@@ -47,7 +47,7 @@ bytes-within n (wrote text) bytes e =
     let f : Text (length text) ≡ Text bytes = e in
     let size : length text ≡ bytes = cc in
     omega (arith, length-append text (replicate (n - length text) 0))
-bytes-within n (refused why) bytes e = let z : _≡_ {A = ℕ} 0 1 = cc in absurd (omega arith)
+bytes-within n (refused why place) bytes e = let z : _≡_ {A = ℕ} 0 1 = cc in absurd (omega arith)
 
 -- a table under its full size
 not-full : {A : Type 0} (full : Bool) (reader : List Line → Reading A) (text : List ℕ) → length text ≤ 65536 → full ≡ false → readText full reader text ≡ stopped TableTooShort 0
@@ -157,28 +157,28 @@ module _ (v : ℤ) (t : List ℤ) (rows n m : ℕ) where
 pub output-unwritten : (w : Writing) (n : ℕ) (why : Refusal) (p : Place) → written w ≡ WriteRefused why p → (a : ℕ) → output n w ≡ kept 0 a (output n w)
 unfolding written output
 output-unwritten (wrote text) n why p e a = cc
-output-unwritten (refused u) n why p e a = none-kept 0 a n
+output-unwritten (refused u q) n why p e a = none-kept 0 a n
 
 pub table-unwritten : (w : Writing) (full : Bool) (m : ℕ) (numbers : List ℤ) (why : Refusal) (p : Place) → written w ≡ WriteRefused why p
     → replicate m (pos 0) ≡ tableAgain w full m numbers
 unfolding written tableAgain
 table-unwritten (wrote text) full m numbers why p e = cc
-table-unwritten (refused u) full m numbers why p e = sym (padded-none (pos 0) m)
+table-unwritten (refused u q) full m numbers why p e = sym (padded-none (pos 0) m)
 
 pub schema-unwritten : (w : Writing) (full : Bool) (root least : ℤ) (rows : ℕ) (why : Refusal) (p : Place) → written w ≡ WriteRefused why p
     → SchemaRefused why p ≡ schemaAgain w full root least rows
 unfolding written schemaAgain
 schema-unwritten (wrote text) full root least rows why p e = cc
-schema-unwritten (refused u) full root least rows why p e = let f : WriteRefused u Whole ≡ WriteRefused why p = e in cc
+schema-unwritten (refused u q) full root least rows why p e = let f : WriteRefused u q ≡ WriteRefused why p = e in cc
 
 pub proof-unwritten : (w : Writing) (full : Bool) (rows nodes members : ℕ) (why : Refusal) (p : Place) → written w ≡ WriteRefused why p
     → ProofRefused why p ≡ proofAgain w full rows nodes members
 unfolding written proofAgain
 proof-unwritten (wrote text) full rows nodes members why p e = cc
-proof-unwritten (refused u) full rows nodes members why p e = let f : WriteRefused u Whole ≡ WriteRefused why p = e in cc
+proof-unwritten (refused u q) full rows nodes members why p e = let f : WriteRefused u q ≡ WriteRefused why p = e in cc
 
 pub model-unwritten : (w : Writing) (full : Bool) (n : ℤ) (pairs : ℕ) (why : Refusal) (p : Place) → written w ≡ WriteRefused why p
     → ModelRefused why p ≡ modelAgain w full n pairs
 unfolding written modelAgain
 model-unwritten (wrote text) full n pairs why p e = cc
-model-unwritten (refused u) full n pairs why p e = let f : WriteRefused u Whole ≡ WriteRefused why p = e in cc
+model-unwritten (refused u q) full n pairs why p e = let f : WriteRefused u q ≡ WriteRefused why p = e in cc

@@ -4,9 +4,9 @@ use native.Mathlib.Omega.{arith}
 use mathlib.Core.Path.{_≡_, refl, sym, _∙_, ap, ap₂}
 use mathlib.Core.Bool.{Bool}
 use mathlib.Core.List.{List}
-use mathlib.Core.Option.{Option, none}
 use lib.IntN.{ℤ, pos}
 use lib.ListN.{length, replicate}
+use Rattle.stab.specs.Check.{wholeUnless}
 use Rattle.stab.specs.Text.{padded}
 use Rattle.stab.specs.Read.{Reading, read, stopped, SchemaText, ProofText, ModelText, readSchema, readProof, readModel, schemaAnswer, proofAnswer, modelAnswer, schemaTable, proofTable, nodeTable, memberTable, pairTable, tableOf}
 use Rattle.stab.specs.Write.{Writing, wrote, writing, writeRefusal, writeSchema, writeProof, writeModel, written, output}
@@ -17,7 +17,9 @@ use Rattle.stab.specs.declared.SchemaRead.the-variants.{Schema, Refused as Sche
 use Rattle.stab.specs.declared.ProofRead.the-variants.{Proof, Refused as ProofRefused}
 use Rattle.stab.specs.declared.ModelRead.the-variants.{Model, Refused as ModelRefused}
 use Rattle.stab.specs.declared.Written.the-variants.{Refused as WriteRefused}
-use Rattle.stab.proofs.Bools.{none-unless, otherwise-none}
+use Rattle.stab.specs.declared.Finding.{Finding}
+use Rattle.stab.specs.declared.Finding.the-variants.{Nothing}
+use Rattle.stab.proofs.Bools.{nothing-unless, otherwise-nothing}
 use Rattle.stab.proofs.Texts.{schema-same, proof-same, model-same}
 use Rattle.stab.proofs.Texts.Outcomes.{Written as Passes, written as passes, padded-none}
 use Rattle.round.specs.Again.{textAgain, bytesAgain, kept}
@@ -25,30 +27,30 @@ use Rattle.round.proofs.Kept.{none-kept}
 
 -- ---- rows whose text fits into one output: into another it is that text, or 22
 
-none-left : (held few writable : Bool) (n : ℕ) (text out : List ℕ) → Passes held few writable n text out → writeRefusal held few writable ≡ none
-unfolding writeRefusal
-none-left held few writable n text out w =
-    otherwise-none _ _ (none-unless held _ (w .holding)) ∙ otherwise-none _ _ (none-unless few _ (w .counted)) ∙ none-unless writable _ (w .digits)
+nothing-left : (held few writable : Bool) (n : ℕ) (text out : List ℕ) → Passes held few writable n text out → writeRefusal held few writable ≡ Nothing
+unfolding writeRefusal wholeUnless
+nothing-left held few writable n text out w =
+    otherwise-nothing _ _ (nothing-unless held _ _ (w .holding)) ∙ otherwise-nothing _ _ (nothing-unless few _ _ (w .counted)) ∙ nothing-unless writable _ _ (w .digits)
 
 any-output : (held few writable : Bool) (m n : ℕ) (text out : List ℕ)
-    → writing (writeRefusal held few writable) m text ≡ wrote out → writing (writeRefusal held few writable) n text ≡ writing none n out
+    → writing (writeRefusal held few writable) m text ≡ wrote out → writing (writeRefusal held few writable) n text ≡ writing Nothing n out
 any-output held few writable m n text out e =
     let w = passes held few writable m text out e in
-    ap₂ (λ (o : Option Refusal) (x : List ℕ). writing o n x) (none-left held few writable m text out w) (w .same)
+    ap₂ (λ (f : Finding) (x : List ℕ). writing f n x) (nothing-left held few writable m text out w) (w .same)
 
 schema-whole : (text : List ℕ) (m : ℕ) (s : SchemaText) (n : ℕ) → readSchema m text ≡ read s
-    → writeSchema (padded (pos 0) m (s .table)) (length (s .table) / 4) (s .root) (s .least) n ≡ writing none n text
+    → writeSchema (padded (pos 0) m (s .table)) (length (s .table) / 4) (s .root) (s .least) n ≡ writing Nothing n text
 unfolding writeSchema
 schema-whole text m s n h = any-output _ _ _ (length text) n _ text (schema-same text m s (length text) h (omega arith))
 
 proof-whole : (text : List ℕ) (a b d : ℕ) (p : ProofText) (n : ℕ) → readProof a b d text ≡ read p
     → writeProof (padded (pos 0) a (p .table)) (length (p .table) / 4) (padded (pos 0) b (p .nodes)) (length (p .nodes) / 9) (padded (pos 0) d (p .members)) (length (p .members)) n
-    ≡ writing none n text
+    ≡ writing Nothing n text
 unfolding writeProof
 proof-whole text a b d p n h = any-output _ _ _ (length text) n _ text (proof-same text a b d p (length text) h (omega arith))
 
 model-whole : (text : List ℕ) (m : ℕ) (s : ModelText) (n : ℕ) → readModel m text ≡ read s
-    → writeModel (s .n) (padded (pos 0) m (s .table)) (length (s .table) / 2) n ≡ writing none n text
+    → writeModel (s .n) (padded (pos 0) m (s .table)) (length (s .table) / 2) n ≡ writing Nothing n text
 unfolding writeModel
 model-whole text m s n h = any-output _ _ _ (length text) n _ text (model-same text m s (length text) h (omega arith))
 

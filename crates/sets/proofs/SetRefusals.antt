@@ -5,7 +5,6 @@ use mathlib.Core.Path.{_≡_, refl, sym, _∙_, ap, ap₂}
 use mathlib.Core.Bool.{Bool, true, false, not}
 use mathlib.Core.Logic.{⊎-elim}
 use mathlib.Core.List.{List, [], _∷_}
-use mathlib.Core.Option.{none}
 use lib.Dec.{eqb}
 use lib.IntN.{ℤ, pos, _+ℤ_}
 use lib.Signed.{leZ}
@@ -15,8 +14,9 @@ use Rattle.stab.specs.Formula.{formulaRows, tree, loose, isOuter}
 use Rattle.stab.specs.Node.{Tableau, rows, rowCount, isRow, formula, isOuterRow, node, nodeAt, set, setOf, setEnd, setStart, setFollows, setFits}
 use Rattle.stab.specs.Check.{setRefusal, atUnless}
 use Rattle.stab.specs.declared.Refusal.the-variants.{Set}
-use Rattle.stab.proofs.Bools.{and-left, and-right, and-first-false, decide, unless-none}
-use Rattle.stab.proofs.Scans.{none-scan}
+use Rattle.stab.specs.declared.Finding.the-variants.{Nothing}
+use Rattle.stab.proofs.Bools.{and-left, and-right, and-first-false, decide, unless-nothing}
+use Rattle.stab.proofs.Scans.{nothing-scan}
 use Rattle.stab.proofs.Trees.{below-nat}
 use Rattle.stab.proofs.Whole.{atom, num, _⊕_, le-of, of-le, eqZ-true, nat-pos, plus-nat, nonneg-minus}
 use Rattle.formula.specs.Facts.{bit, AllKnown}
@@ -68,9 +68,9 @@ module _ (schema : List ℤ) (s : ℕ) (proof : List ℤ) (p : ℕ) (facts : Lis
 -- ---- what a set that was not refused is
 
 module _ (T : Tableau) where
-  fits-of : (j : ℕ) → setRefusal T j ≡ none → setFits T j ≡ true
+  fits-of : (j : ℕ) → setRefusal T j ≡ Nothing → setFits T j ≡ true
   unfolding setRefusal atUnless
-  fits-of j h = and-left _ _ (unless-none _ _ h)
+  fits-of j h = and-left _ _ (unless-nothing _ _ _ h)
 
   follows-of : (j : ℕ) → setFits T j ≡ true → setFollows (T .nodes) j ≡ true
   unfolding setFits
@@ -127,8 +127,8 @@ module _ (T : Tableau) where
       }
 
   -- what the pass over the sets gives
-  pub sets-known : (k : ℕ) → scan (setRefusal T) k ≡ none → AllSetsKnown T k
-  sets-known k h j p = known-of j (λ i q. fits-of i (none-scan (setRefusal T) k h i (omega arith)))
+  pub sets-known : (k : ℕ) → scan (setRefusal T) k ≡ Nothing → AllSetsKnown T k
+  sets-known k h j p = known-of j (λ i q. fits-of i (nothing-scan (setRefusal T) k h i (omega arith)))
 
 -- ---- the members of such a set
 

@@ -12,7 +12,6 @@ ghost use lib.IntN.{pos};
 ghost use lib.ListN.{length, take, drop};
 ghost use Rattle.stab.specs.Basic.{scan};
 ghost use Rattle.stab.specs.Node.{setStart};
-ghost use Rattle.stab.specs.Check.{finding};
 ghost use Rattle.branch.specs.Sets.{outerBy, memberFits, listFits, placeFits, setRight};
 ghost use Rattle.sets.specs.Faults.{setFault};
 
@@ -109,7 +108,7 @@ fn set_is_right(
 // The first node whose set is not right, for n formula rows with their facts.
 pub fn sets(facts: &[u32], n: usize, nodes: &[i32], k: usize, members: &[i32], m: usize) -> Finding
     requires { ⌜ (4 * n ≤ length (now facts)) × (k ≤ 1024) × (m ≤ length (now members)) ⌝ }
-    ensures { λ r. ⌜ finding r ≡ scan (setFault (now (facts .entry)) n (now (nodes .entry)) k (now (members .entry)) m) k ⌝ }
+    ensures { λ r. ⌜ r ≡ scan (setFault (now (facts .entry)) n (now (nodes .entry)) k (now (members .entry)) m) k ⌝ }
 {
     let mut from: usize = 0;
     let mut j: usize = 0;

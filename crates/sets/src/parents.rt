@@ -7,7 +7,6 @@ ghost use mathlib.Core.Path.{_≡_};
 ghost use Prim.Native.Nat.{ℕ, _<_, _≤_, _^_};
 ghost use lib.ListN.{length};
 ghost use Rattle.stab.specs.Basic.{scan};
-ghost use Rattle.stab.specs.Check.{finding};
 ghost use Rattle.branch.specs.Parents.{upFits, isAlone, parentRight};
 ghost use Rattle.branch.specs.Sets.{Within};
 ghost use Rattle.sets.specs.Faults.{parentFault};
@@ -54,7 +53,7 @@ fn parent_is_right(nodes: &[i32], members: &[i32], root: i32, j: usize) -> bool
 // The first node with a wrong parent, or node 0 with a wrong set.
 pub fn parents(nodes: &[i32], k: usize, members: &[i32], root: i32) -> Finding
     requires { ⌜ (k ≤ 1024) × ((j : ℕ) → j < k → Within (now nodes) (length (now members)) j) ⌝ }
-    ensures { λ r. ⌜ finding r ≡ scan (parentFault (now (nodes .entry)) (now (members .entry)) root) k ⌝ }
+    ensures { λ r. ⌜ r ≡ scan (parentFault (now (nodes .entry)) (now (members .entry)) root) k ⌝ }
 {
     let mut j: usize = 0;
     while j < k {

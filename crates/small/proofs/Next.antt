@@ -15,9 +15,11 @@ use Rattle.stab.specs.Basic.{if_then_else_, _and_, _or_, eqZ, within, nat, belo
 use Rattle.stab.specs.Formula.{rowAt, kindOf, baseOf, partIf, part, decode, treeN, tree, onIndex, loose, fixed, isBody, isOuter, mixes, offset, wellFormedAs, wellFormed}
 use Rattle.stab.specs.Check.{wholeUnless, holds}
 use Rattle.stab.specs.Text.{padded}
-use Rattle.stab.specs.declared.Verdict.{Verdict}
-use Rattle.stab.specs.declared.Verdict.the-variants.{Accepted, Refused}
-use Rattle.stab.proofs.Bools.{and-both, none-unless, otherwise-none, decide, if-true, if-false}
+use Rattle.stab.specs.declared.Finding.{Finding}
+use Rattle.stab.specs.declared.Finding.the-variants.{Found, Nothing}
+use Rattle.stab.specs.declared.Refusal.{Refusal}
+use Rattle.stab.specs.declared.Place.{Place}
+use Rattle.stab.proofs.Bools.{and-both, nothing-unless, otherwise-nothing, decide, if-true, if-false}
 use Rattle.stab.proofs.Texts.Outcomes.{padded-none}
 use Rattle.small.specs.Small.{smallAs, isSmall, allSmall, onList, tableBefore, overEach, rowOf, literalRows, junctionRows, iterationRows, rowsFor, extended, extendedAll, tables, filtered, smallTables, firstAfter, nextTable, nextRefusal, nextOr, nextBy, nextSmall, numbersOr, nextNumbers, nextSmallTable}
 use Rattle.small.specs.declared.NextSmall.{NextSmall}
@@ -150,11 +152,11 @@ module _ (n : ℕ) (t : List ℤ) (us vs : List (List ℤ)) (e : smallTables n �
       ∙ behind (take (4 * n) t) us vs (subst Ascends e (small-ascends n))
 
   module _ (room : ℕ) (l : 4 * n ≤ room) where
-    not-refused : nextRefusal n t room ≡ none
+    not-refused : nextRefusal n t room ≡ Nothing
     unfolding nextRefusal wholeUnless holds
     not-refused =
-        otherwise-none _ _ (none-unless _ _ (and-both _ _ (le-leb (4 * n) (length t) held) (le-leb (4 * n) room l)))
-        ∙ none-unless (onList n t) _ (list-carried n t (on-it n (take (4 * n) t) us vs e .1))
+        otherwise-nothing _ _ (nothing-unless _ _ _ (and-both _ _ (le-leb (4 * n) (length t) held) (le-leb (4 * n) room l)))
+        ∙ nothing-unless (onList n t) _ _ (list-carried n t (on-it n (take (4 * n) t) us vs e .1))
 
     -- from a table on the list with v behind it the next one is v
     pub call-is : nextSmall n t room ≡ nextOr (firstOf vs)
@@ -163,7 +165,7 @@ module _ (n : ℕ) (t : List ℤ) (us vs : List (List ℤ)) (e : smallTables n �
 
     pub call-gives : nextSmallTable n t room ≡ padded (pos 0) room (numbersOr (firstOf vs))
     unfolding nextSmallTable nextNumbers
-    call-gives = ap₂ (λ (x : Option Verdict) (y : Option (List ℤ)). padded (pos 0) room (nextNumbers x y)) not-refused next-is
+    call-gives = ap₂ (λ (x : Finding) (y : Option (List ℤ)). padded (pos 0) room (nextNumbers x y)) not-refused next-is
 
 padded-front : (m room : ℕ) (u : List ℤ) → length u ≡ m → take m (padded (pos 0) room u) ≡ u
 unfolding padded
@@ -223,25 +225,24 @@ walk-last n room t us e l = (call-is n t us [] e room l, call-gives n t us [] e 
 
 -- "or "last"": exactly if nothing is turned away and nothing on the list comes after the given table
 pub last-exactly : (n : ℕ) (t : List ℤ) (room : ℕ) → (nextSmall n t room ≡ Last)
-    ↔ ((nextRefusal n t room ≡ none) × ((v : List ℤ) → List·Memᴰ v (smallTables n) → tableBefore (take (4 * n) t) v ≡ false))
+    ↔ ((nextRefusal n t room ≡ Nothing) × ((v : List ℤ) → List·Memᴰ v (smallTables n) → tableBefore (take (4 * n) t) v ≡ false))
 unfolding nextSmall nextBy nextOr
 last-exactly n t room =
     (λ h. let s = go (nextRefusal n t room) (nextTable n t) h in (s .0, next-none n t .0 (s .1)), λ k. ap₂ nextBy (k .0) (next-none n t .1 (k .1)))
   where
-    go : (x : Option Verdict) (y : Option (List ℤ)) → nextBy x y ≡ Last → (x ≡ none) × (y ≡ none)
-    go none none h = (refl, refl)
-    go none (some u) h = let z : _≡_ {A = ℕ} 0 1 = cc in absurd (omega arith)
-    go (some (Accepted nodes links)) y h = let z : _≡_ {A = ℕ} 0 1 = cc in absurd (omega arith)
-    go (some (Refused why p)) y h = let z : _≡_ {A = ℕ} 0 1 = cc in absurd (omega arith)
+    go : (x : Finding) (y : Option (List ℤ)) → nextBy x y ≡ Last → (x ≡ Nothing) × (y ≡ none)
+    go Nothing none h = (refl, refl)
+    go Nothing (some u) h = let z : _≡_ {A = ℕ} 0 1 = cc in absurd (omega arith)
+    go (Found why p) y h = let z : _≡_ {A = ℕ} 0 1 = cc in absurd (omega arith)
 
 -- "Lent result memory is then all 0": after a refusal
-pub refused-zeros : (n : ℕ) (t : List ℤ) (room : ℕ) (v : Verdict) → nextRefusal n t room ≡ some v → nextSmallTable n t room ≡ replicate room (pos 0)
+pub refused-zeros : (n : ℕ) (t : List ℤ) (room : ℕ) (why : Refusal) (p : Place) → nextRefusal n t room ≡ Found why p → nextSmallTable n t room ≡ replicate room (pos 0)
 unfolding nextSmallTable nextNumbers
-refused-zeros n t room v h = ap (λ (x : Option Verdict). padded (pos 0) room (nextNumbers x (nextTable n t))) h ∙ padded-none (pos 0) room
+refused-zeros n t room why p h = ap (λ (x : Finding). padded (pos 0) room (nextNumbers x (nextTable n t))) h ∙ padded-none (pos 0) room
 
 -- "'last' and a result table of 0s"
 pub last-zeros : (n : ℕ) (t : List ℤ) (room : ℕ) → nextSmall n t room ≡ Last → nextSmallTable n t room ≡ replicate room (pos 0)
 unfolding nextSmallTable nextNumbers numbersOr
 last-zeros n t room h =
     let s = last-exactly n t room .0 h in
-    ap₂ (λ (x : Option Verdict) (y : Option (List ℤ)). padded (pos 0) room (nextNumbers x y)) (s .0) (next-none n t .1 (s .1)) ∙ padded-none (pos 0) room
+    ap₂ (λ (x : Finding) (y : Option (List ℤ)). padded (pos 0) room (nextNumbers x y)) (s .0) (next-none n t .1 (s .1)) ∙ padded-none (pos 0) room

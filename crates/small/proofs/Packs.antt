@@ -13,8 +13,6 @@ use Rattle.stab.specs.Answer.{Numbers, refusedNumbers, verdictNumbers, oneNumbe
 use Rattle.stab.specs.declared.Place.the-variants.{Whole}
 use Rattle.stab.specs.declared.Refusal.{Refusal}
 use Rattle.stab.specs.declared.Refusal.the-variants.{TableTooShort, NotListed}
-use Rattle.stab.specs.declared.Verdict.{Verdict}
-use Rattle.stab.specs.declared.Verdict.the-variants.{Accepted, Refused}
 use Rattle.stab.proofs.Packed.{read-back}
 use Rattle.small.specs.Small.{onList, nextTable, nextRefusal, nextOr, nextBy, nextSmall, nextSmallNumbers, nextPacked, nextVerdict}
 use Rattle.small.specs.declared.NextSmall.{NextSmall}
@@ -40,7 +38,7 @@ pub next-packs : (n : ℕ) (t : List ℤ) (room : ℕ) → Packs (nextVerdict (n
 unfolding nextSmall nextRefusal nextBy wholeUnless unless _otherwise_
 next-packs n t room = go (holds t 4 n and leb (4 * n) room) (onList n t)
   where
-    go : (a b : Bool) → Packs (nextVerdict (nextBy (unless a (Refused TableTooShort Whole) otherwise unless b (Refused NotListed Whole)) (nextTable n t)))
+    go : (a b : Bool) → Packs (nextVerdict (nextBy (unless a TableTooShort Whole otherwise unless b NotListed Whole) (nextTable n t)))
     go false b = tt
     go true false = tt
     go true true = or-packs (nextTable n t)

@@ -3,7 +3,6 @@ use Prim.Native.Nat.{ℕ}
 use mathlib.Core.Path.{_≡_, refl}
 use mathlib.Core.Bool.{Bool, true, false}
 use mathlib.Core.List.{List, [], _∷_, _++_}
-use mathlib.Core.Option.{Option, none, some}
 use lib.IntN.{ℤ, pos, negsuc}
 use Rattle.stab.specs.Basic.{if_then_else_, _and_, _or_, eqZ, within, nat, below, _otherwise_, unless}
 use Rattle.stab.specs.Formula.{rowAt, kindOf, baseOf, partIf, part, decode, treeN, tree, onIndex, loose, fixed, isBody, isOuter, mixes, offset, wellFormedAs, wellFormed}

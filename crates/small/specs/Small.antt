@@ -16,6 +16,8 @@ use Rattle.stab.specs.declared.Place.the-variants.{Whole}
 use Rattle.stab.specs.declared.Refusal.the-variants.{TableTooShort, NotListed}
 use Rattle.stab.specs.declared.Verdict.{Verdict}
 use Rattle.stab.specs.declared.Verdict.the-variants.{Accepted, Refused}
+use Rattle.stab.specs.declared.Finding.{Finding}
+use Rattle.stab.specs.declared.Finding.the-variants.{Found, Nothing}
 use Rattle.small.specs.declared.NextSmall.{NextSmall}
 use Rattle.small.specs.declared.NextSmall.the-variants.{Table, Last, Refused as NextRefused}
 
@@ -115,7 +117,7 @@ nextTable n t = firstAfter (take (4 * n) t) (smallTables n)
 
 -- "31, after 2 as in checking (for both tables), if the number of rows is not 1 to 3 or the given table is not on the list", with room
 -- for `room` numbers in the result table
-unfoldable pub nextRefusal : ℕ → List ℤ → ℕ → Option Verdict
+unfoldable pub nextRefusal : ℕ → List ℤ → ℕ → Finding
 nextRefusal n t room =
     wholeUnless (holds t 4 n and leb (4 * n) room) TableTooShort otherwise
     wholeUnless (onList n t) NotListed
@@ -124,11 +126,9 @@ unfoldable pub nextOr : Option (List ℤ) → NextSmall
 nextOr none = Last
 nextOr (some u) = Table
 
-unfoldable pub nextBy : Option Verdict → Option (List ℤ) → NextSmall
-nextBy none next = nextOr next
-nextBy (some (Refused why p)) next = NextRefused why p
--- no refusal is an acceptance
-nextBy (some (Accepted nodes links)) next = NextRefused NotListed Whole
+unfoldable pub nextBy : Finding → Option (List ℤ) → NextSmall
+nextBy Nothing next = nextOr next
+nextBy (Found why p) next = NextRefused why p
 
 unfoldable pub nextSmall : ℕ → List ℤ → ℕ → NextSmall
 nextSmall n t room = nextBy (nextRefusal n t room) (nextTable n t)
@@ -138,9 +138,9 @@ unfoldable pub numbersOr : Option (List ℤ) → List ℤ
 numbersOr none = []
 numbersOr (some u) = u
 
-unfoldable pub nextNumbers : Option Verdict → Option (List ℤ) → List ℤ
-nextNumbers none next = numbersOr next
-nextNumbers (some v) next = []
+unfoldable pub nextNumbers : Finding → Option (List ℤ) → List ℤ
+nextNumbers Nothing next = numbersOr next
+nextNumbers (Found why p) next = []
 
 unfoldable pub nextSmallTable : ℕ → List ℤ → ℕ → List ℤ
 nextSmallTable n t room = padded (pos 0) room (nextNumbers (nextRefusal n t room) (nextTable n t))

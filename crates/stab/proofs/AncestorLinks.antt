@@ -4,7 +4,6 @@ use native.Mathlib.Omega.{arith}
 use mathlib.Core.Path.{_≡_, refl, sym, _∙_, ap, subst}
 use mathlib.Core.Logic.{⊎-elim}
 use mathlib.Core.Bool.{true, false, true≢false}
-use mathlib.Core.Option.{none}
 use lib.Dec.{eqb}
 use lib.IntN.{ℤ, pos}
 use lib.Signed.{_≤ℤ_}
@@ -16,6 +15,7 @@ use Rattle.stab.specs.AncestorLink.{Ancestor, parent, further, targetAbo
 use Rattle.stab.specs.Keeps.{KeepsParent}
 use Rattle.stab.specs.declared.Refusal.the-variants.{Drawn, Fields, Target, Bound as BoundWrong, Partner, Lowered, Children}
 use Rattle.stab.specs.declared.Verdict.the-variants.{Accepted}
+use Rattle.stab.specs.declared.Finding.the-variants.{Nothing}
 use Rattle.stab.proofs.Bools.{decide, if-true, if-false}
 use Rattle.stab.proofs.Whole.{atom, num, _⊖_, of-le, le-of, leZ-of, of-leZ, eqZ-true, eqZ-of}
 use Rattle.stab.proofs.Tests.{_tests_, _⇒_, itself, at-clears, _then_}
@@ -23,7 +23,7 @@ use Rattle.stab.proofs.Bounds.{parent-below}
 use Rattle.stab.proofs.Ranges.{Inside, RightSplits, parent-inside}
 use Rattle.stab.proofs.Ancestors.{ancestor-below, ancestor-tests}
 use Rattle.stab.proofs.Exactness.Checked.{refusal-by-kept}
-use Rattle.stab.proofs.Exactness.Refusals.{of-tests, of-refusal-by, accepted}
+use Rattle.stab.proofs.Exactness.Refusals.{accepted}
 use Rattle.stab.proofs.Exactness.Steps.{rule-tests, fields-tests, target-tests, loop-tests, bound-tests}
 
 -- a loop uses to and by
@@ -66,7 +66,7 @@ pub record Above (T : Tableau) (j : ℕ) : Type 0 where
   lowered : loweredFits T j ≡ true
   children : childrenFit T j ≡ true
 
-pub above-clears : (T : Tableau) (j : ℕ) → nodeRefusalAbove T j ≡ none → Above T j
+pub above-clears : (T : Tableau) (j : ℕ) → nodeRefusalAbove T j ≡ Nothing → Above T j
 unfolding nodeRefusalAbove stepRefusalAbove
 above-clears T j h =
     let p =
@@ -152,7 +152,7 @@ module _ (T : Tableau) (parents : (k : ℕ) → k < T .nodeRows → KeepsParent 
       (λ r. sym (other-above T j r) ∙ found j l .bounds)
       (decide (ofRule 8 (node T j)))
 
-  node-kept : nodeRefusal T j ≡ none
+  node-kept : nodeRefusal T j ≡ Nothing
   unfolding nodeRefusal stepRefusal
   node-kept =
       ((at-clears Drawn j (itself (drawn T j)) then
@@ -173,6 +173,5 @@ pub ancestor-links-accepted : (T : Tableau) (n l : ℕ) → checkAbove T ≡ Acc
 unfolding checkAbove checkOlder checkWith nodeRefusalAbove stepRefusalAbove verdict
 ancestor-links-accepted T n l h =
     let a =
-    accepted (refusalWith olderFormulas nodeRefusalAbove T) (T .nodeRows) (linkCount T) n l
-    (of-refusal-by nodeRefusalAbove T (λ j. of-tests j _ _ _ _ _ _ _)) h in
+    accepted (refusalWith olderFormulas nodeRefusalAbove T) (T .nodeRows) (linkCount T) n l h in
     rw (refusal-by-kept nodeRefusalAbove nodeRefusal T (λ parents found j m. node-kept T parents (λ k p. above-clears T k (found k p)) j m) (a .0), a .1, a .2)

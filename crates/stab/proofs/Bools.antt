@@ -2,8 +2,11 @@
 use mathlib.Core.Path.{_≡_, refl, sym, _∙_, ap}
 use mathlib.Core.Logic.{_⊎_, inl, inr}
 use mathlib.Core.Bool.{Bool, true, false, not, true≢false, false≢true}
-use mathlib.Core.Option.{Option, none, some}
 use Rattle.stab.specs.Basic.{if_then_else_, _and_, _or_, _implies_, _otherwise_, unless}
+use Rattle.stab.specs.declared.Place.{Place}
+use Rattle.stab.specs.declared.Refusal.{Refusal}
+use Rattle.stab.specs.declared.Finding.{Finding}
+use Rattle.stab.specs.declared.Finding.the-variants.{Nothing, Found}
 
 pub and-left : (a b : Bool) → (a and b) ≡ true → a ≡ true
 unfolding _and_
@@ -117,49 +120,61 @@ same-test false false f g = refl
 
 -- ---- findings
 
-pub unless-none : {A : Type 0} (a : Bool) (x : A) → unless a x ≡ none → a ≡ true
+abbrev isFound : Finding → Bool
+isFound Nothing = false
+isFound (Found why place) = true
+
+pub found≢nothing : {why : Refusal} {p : Place} → ¬ (Found why p ≡ Nothing)
+found≢nothing h = true≢false (ap isFound h)
+
+pub nothing≢found : {why : Refusal} {p : Place} → ¬ (Nothing ≡ Found why p)
+nothing≢found h = false≢true (ap isFound h)
+
+pub unless-nothing : (a : Bool) (why : Refusal) (p : Place) → unless a why p ≡ Nothing → a ≡ true
 unfolding unless
-unless-none {A} true x h = refl
-unless-none {A} false x h = absurd (mathlib.Core.Option.Option·some-ne-none x h)
+unless-nothing true why p h = refl
+unless-nothing false why p h = absurd (found≢nothing h)
 
-pub none-unless : {A : Type 0} (a : Bool) (x : A) → a ≡ true → unless a x ≡ none
+pub nothing-unless : (a : Bool) (why : Refusal) (p : Place) → a ≡ true → unless a why p ≡ Nothing
 unfolding unless
-none-unless true x h = refl
-none-unless false x h = absurd (false≢true h)
+nothing-unless true why p h = refl
+nothing-unless false why p h = absurd (false≢true h)
 
-pub some-unless : {A : Type 0} (a : Bool) (x : A) → a ≡ false → unless a x ≡ some x
+pub found-unless : (a : Bool) (why : Refusal) (p : Place) → a ≡ false → unless a why p ≡ Found why p
 unfolding unless
-some-unless true x h = absurd (true≢false h)
-some-unless false x h = refl
+found-unless true why p h = absurd (true≢false h)
+found-unless false why p h = refl
 
-pub otherwise-first : {A : Type 0} (x y : Option A) → (x otherwise y) ≡ none → x ≡ none
+pub otherwise-first : (x y : Finding) → (x otherwise y) ≡ Nothing → x ≡ Nothing
 unfolding _otherwise_
-otherwise-first none y h = refl
-otherwise-first (some a) y h = h
+otherwise-first Nothing y h = refl
+otherwise-first (Found why p) y h = h
 
-pub otherwise-second : {A : Type 0} (x y : Option A) → (x otherwise y) ≡ none → y ≡ none
+pub otherwise-second : (x y : Finding) → (x otherwise y) ≡ Nothing → y ≡ Nothing
 unfolding _otherwise_
-otherwise-second none y h = h
-otherwise-second (some a) y h = absurd (mathlib.Core.Option.Option·some-ne-none a h)
+otherwise-second Nothing y h = h
+otherwise-second (Found why p) y h = absurd (found≢nothing h)
 
-pub otherwise-none : {A : Type 0} (x y : Option A) → x ≡ none → (x otherwise y) ≡ y
+pub otherwise-nothing : (x y : Finding) → x ≡ Nothing → (x otherwise y) ≡ y
 unfolding _otherwise_
-otherwise-none none y h = refl
-otherwise-none (some a) y h = absurd (mathlib.Core.Option.Option·some-ne-none a h)
+otherwise-nothing Nothing y h = refl
+otherwise-nothing (Found why p) y h = absurd (found≢nothing h)
 
-pub otherwise-some : {A : Type 0} (x y : Option A) (a : A) → x ≡ some a → (x otherwise y) ≡ some a
+pub otherwise-found : (x y : Finding) {why : Refusal} {p : Place} → x ≡ Found why p → (x otherwise y) ≡ Found why p
 unfolding _otherwise_
-otherwise-some none y a h = absurd (mathlib.Core.Option.Option·none-ne-some a h)
-otherwise-some (some b) y a h = h
+otherwise-found Nothing y h = absurd (nothing≢found h)
+otherwise-found (Found why p) y h = h
+
+-- the second finding counts only where the first finds nothing
+pub otherwise-same : (x y z : Finding) → (x ≡ Nothing → y ≡ z) → (x otherwise y) ≡ (x otherwise z)
+unfolding _otherwise_
+otherwise-same Nothing y z h = h refl
+otherwise-same (Found why p) y z h = refl
+
+pub otherwise-first-same : {x y : Finding} (z : Finding) → x ≡ y → (x otherwise z) ≡ (y otherwise z)
+otherwise-first-same z e = ap (λ (w : Finding). w otherwise z) e
 
 -- ---- a test of which one part is known
-pub otherwise-same : {A : Type 0} (x y z : Option A) → (x ≡ none → y ≡ z) → (x otherwise y) ≡ (x otherwise z)
-unfolding _otherwise_
-otherwise-same none y z h = h refl
-otherwise-same (some a) y z h = refl
-
-pub otherwise-first-same : {A : Type 0} {x y : Option A} (z : Option A) → x ≡ y → (x otherwise z) ≡ (y otherwise z)
-otherwise-first-same {A} z e = ap (λ (w : Option A). w otherwise z) e
 
 pub and-first-true : (a b : Bool) → a ≡ true → (a and b) ≡ b
 unfolding _and_

@@ -13,17 +13,20 @@ use borrow.Author.Tests.{leb-true}
 use Rattle.stab.specs.Basic.{if_then_else_, _and_, _otherwise_, nat}
 use Rattle.stab.specs.Text.{Line, lines, numbers, textLimit}
 use Rattle.stab.specs.Read.{Reading, read, stopped, _andThen_, require, headingAt, valuesOf, values, valuesAt, rowsFrom, nodesFrom, proofRowsFrom, readSchemaLines, readProofLines, readModelLines, readText, readSchema, readProof, readModel, schemaAnswer, proofAnswer, modelAnswer}
-use Rattle.stab.specs.Write.{writingOf, writing, outputRefusal, written}
+use Rattle.stab.specs.Write.{writingOf, writing, outputRefusal, written, writeRefusal}
 use Rattle.stab.specs.Answer.{Numbers, WrittenNumbers, refusedNumbers, verdictNumbers, schemaNumbers, proofNumbers, modelNumbers, writtenNumbers, oneNumber, packed, answerIn, placeIn, numbersIn, Packs}
-use Rattle.stab.specs.Check.{checkAs}
+use Rattle.stab.specs.Check.{checkAs, wholeUnless}
 use Rattle.stab.specs.Model.{checkModel}
 use Rattle.stab.specs.LineNumber.{schemaRowLine, proofRowLine, nodeLine, pairLine}
 use Rattle.stab.specs.Program.{tableauOf, modelOf, noFault, inFirst, inSecond, rowFault, among, checkPoints, modelPoints, verdictFault, faultAfterReading, checkFault, modelFault}
 use Rattle.stab.specs.Entry.{withoutCounts, schemaPacked, proofPacked, modelPacked, writtenPacked, writtenIn, SchemaFits, ProofFits, ModelFits, WrittenFits, faultNumber, faultIn}
 use Rattle.stab.specs.declared.Place.{Place}
+use Rattle.stab.specs.declared.Finding.{Finding}
+use Rattle.stab.specs.declared.Finding.the-variants.{Nothing, Found}
 use Rattle.stab.specs.declared.Written.{Written}
 use Rattle.stab.specs.declared.Written.the-variants.{Text, Refused as WriteRefused}
 use Rattle.stab.specs.declared.Refusal.{Refusal}
+use Rattle.stab.specs.declared.Refusal.the-variants.{Output}
 use Rattle.stab.specs.declared.Fault.{Fault}
 use Rattle.stab.specs.declared.Place.the-variants.{Whole, At}
 use Rattle.stab.specs.declared.Verdict.{Verdict}
@@ -34,9 +37,10 @@ use Rattle.stab.specs.declared.ProofRead.{ProofRead}
 use Rattle.stab.specs.declared.ProofRead.the-variants.{Proof, Refused as ProofRefused}
 use Rattle.stab.specs.declared.ModelRead.{ModelRead}
 use Rattle.stab.specs.declared.ModelRead.the-variants.{Model, Refused as ModelRefused}
-use Rattle.stab.proofs.Bools.{and-left, and-right, unless-none, otherwise-second}
+use Rattle.stab.proofs.Bools.{and-left, and-right, unless-nothing, otherwise-second}
 use Rattle.stab.proofs.Texts.{schema-counts, proof-counts, model-counts}
-use Rattle.stab.proofs.Packed.{checked-packs, model-packs, packed-refusal, read-back}
+use Rattle.stab.proofs.Packed.{checked-packs, model-packs, near-packs, packed-refusal, read-back}
+use Rattle.stab.proofs.Exactness.Refusals.{FindsNear, of-whole, _or-else_}
 
 -- ---- a refusal in reading is at line b or above it
 
@@ -164,13 +168,20 @@ model-fits n text = go (readModel n text) refl (stops-model n text)
 
 -- ---- what a writer answers: at most 65,536 bytes, a refusal that packs
 
-pub written-fits : (o : Option Refusal) (n : ℕ) (text : List ℕ) → WrittenFits (written (writing o n text))
-unfolding writing written writingOf outputRefusal textLimit
-written-fits o n text = go (o otherwise outputRefusal n text) refl
+pub write-near : (held few writable : Bool) → FindsNear (writeRefusal held few writable)
+unfolding writeRefusal
+write-near held few writable = of-whole held _ or-else of-whole few _ or-else of-whole writable _
+
+pub written-fits : (x : Finding) (n : ℕ) (text : List ℕ) → FindsNear x → WrittenFits (written (writing x n text))
+unfolding writing written writingOf outputRefusal wholeUnless textLimit
+written-fits x n text near = go (x otherwise outputRefusal n text) refl
   where
-    go : (x : Option Refusal) → (o otherwise outputRefusal n text) ≡ x → WrittenFits (written (writingOf x text))
-    go none e = leb-true (length text) 65536 (and-right (leb (length text) n) _ (unless-none (leb (length text) n and leb (length text) 65536) _ (otherwise-second o _ e)))
-    go (some why) e = tt
+    fits : Bool
+    fits = leb (length text) n and leb (length text) 65536
+
+    go : (y : Finding) → (x otherwise outputRefusal n text) ≡ y → WrittenFits (written (writingOf y text))
+    go Nothing e = leb-true (length text) 65536 (and-right (leb (length text) n) _ (unless-nothing fits _ _ (otherwise-second x _ e)))
+    go (Found why place) e = near-packs why place (_or-else_ near (of-whole fits Output) why place e)
 
 -- a refusal in writing is packed as a check's
 pub written-refused : (why : Refusal) (p : Place) → packed (Refused why p) ≡ writtenPacked (WriteRefused why p)

@@ -9,20 +9,20 @@ use Prim.Native.Nat.{ℕ}
 use mathlib.Core.Path.{_≡_}
 use mathlib.Core.Logic.{_↔_}
 use Rattle.stab.specs.Node.{Tableau}
-use Rattle.stab.specs.Check.{linkCount, verdict, nodeRefusal, refusalWith, olderFormulas, presentFormulas, checkWith, check, checkOlder}
+use Rattle.stab.specs.Check.{linkCount, verdict, nodeRefusal, refusalWith, olderFormulas, presentFormulas, checkWith, check, checkOlder, refusal}
 use Rattle.stab.specs.Model.{Model, modelRefusal, checkModel}
 use Rattle.stab.specs.Keeps.{KeepsOlder, Keeps, KeepsModel}
 use Rattle.stab.specs.declared.Verdict.the-variants.{Accepted}
 use Checked.{older-clears, tableau-clears}
 use Models.{model-clears}
-use Refusals.{of-older-refusal, of-refusal, of-model-refusal, accepted}
+use Refusals.{accepted}
 
 -- the check accepts exactly the records that keep the rules, and says how many nodes and links they have
 pub accepts-exactly : (T : Tableau) (n l : ℕ) → (check T ≡ Accepted n l) ↔ (Keeps T × (n ≡ T .nodeRows) × (l ≡ linkCount T))
-unfolding check checkWith verdict
+unfolding check refusal verdict
 accepts-exactly T n l = (
   λ h.
-      let a = accepted (refusalWith presentFormulas nodeRefusal T) (T .nodeRows) (linkCount T) n l (of-refusal T) h in
+      let a = accepted (refusalWith presentFormulas nodeRefusal T) (T .nodeRows) (linkCount T) n l h in
       (tableau-clears T .0 (a .0), a .1, a .2),
   λ p. rw (tableau-clears T .1 (p .0), p .1, p .2),
 )
@@ -32,7 +32,7 @@ pub older-accepts-exactly : (T : Tableau) (n l : ℕ) → (checkOlder T ≡ Acce
 unfolding checkOlder checkWith verdict
 older-accepts-exactly T n l = (
   λ h.
-      let a = accepted (refusalWith olderFormulas nodeRefusal T) (T .nodeRows) (linkCount T) n l (of-older-refusal T) h in
+      let a = accepted (refusalWith olderFormulas nodeRefusal T) (T .nodeRows) (linkCount T) n l h in
       (older-clears T .0 (a .0), a .1, a .2),
   λ p. rw (older-clears T .1 (p .0), p .1, p .2),
 )
@@ -41,11 +41,11 @@ older-accepts-exactly T n l = (
 pub model-accepts-exactly : (M : Model) → (checkModel M ≡ Accepted 0 0) ↔ KeepsModel M
 unfolding checkModel verdict
 model-accepts-exactly M = (
-  λ h. model-clears M .0 (accepted (modelRefusal M) 0 0 0 0 (of-model-refusal M) h .0),
+  λ h. model-clears M .0 (accepted (modelRefusal M) 0 0 0 0 h .0),
   λ k. rw (model-clears M .1 k),
 )
 
 -- an accepted model has both counts 0
 pub model-counts-zero : (M : Model) (n l : ℕ) → checkModel M ≡ Accepted n l → (n ≡ 0) × (l ≡ 0)
 unfolding checkModel
-model-counts-zero M n l h = let a = accepted (modelRefusal M) 0 0 n l (of-model-refusal M) h in (a .1, a .2)
+model-counts-zero M n l h = let a = accepted (modelRefusal M) 0 0 n l h in (a .1, a .2)

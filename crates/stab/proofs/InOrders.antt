@@ -4,7 +4,6 @@ use mathlib.Core.Path.{_≡_, _∙_}
 use mathlib.Core.Logic.{⊎-elim}
 use mathlib.Core.Bool.{Bool, true, false≢true}
 use mathlib.Core.List.{List, [], _∷_}
-use mathlib.Core.Option.{Option, none}
 use lib.IntN.{ℤ}
 use Rattle.stab.specs.Basic.{_and_, _or_, eqZ, nat, _otherwise_}
 use Rattle.stab.specs.Formula.{Formula, const, lit, join, iter}
@@ -16,11 +15,13 @@ use Rattle.stab.specs.InOrder.{agree, partnersInOrder, hasLoweredInOrder
 use Rattle.stab.specs.declared.Refusal.{Refusal}
 use Rattle.stab.specs.declared.Verdict.{Verdict}
 use Rattle.stab.specs.declared.Verdict.the-variants.{Accepted}
-use Rattle.stab.proofs.Bools.{and-left, and-right, and-both, or-cases, or-left, or-right, implies-use, implies-make, otherwise-first, otherwise-second, otherwise-none}
+use Rattle.stab.specs.declared.Finding.{Finding}
+use Rattle.stab.specs.declared.Finding.the-variants.{Nothing}
+use Rattle.stab.proofs.Bools.{and-left, and-right, and-both, or-cases, or-left, or-right, implies-use, implies-make, otherwise-first, otherwise-second, otherwise-nothing}
 use Rattle.stab.proofs.Scans.{all-use, all-make}
 use Rattle.stab.proofs.Tests.{itself, at-clears}
 use Rattle.stab.proofs.Exactness.Checked.{refusal-by-kept}
-use Rattle.stab.proofs.Exactness.Refusals.{of-tests, of-refusal-by, accepted}
+use Rattle.stab.proofs.Exactness.Refusals.{accepted}
 
 -- formulas that agree with sides in order are alike
 pub agree-alike : (f g : Formula) → agree f g ≡ true → alike f g ≡ true
@@ -78,12 +79,12 @@ lowered-kept T j h =
 
 -- nothing is found by the second where nothing is found by the first
 infix 3 _clears-too_
-abbrev _clears-too_ : Option Verdict → Option Verdict → Type 0
-x clears-too y = x ≡ none → y ≡ none
+abbrev _clears-too_ : Finding → Finding → Type 0
+x clears-too y = x ≡ Nothing → y ≡ Nothing
 
 infixr 25 _both_
-_both_ : {w x y z : Option Verdict} → w clears-too x → y clears-too z → (w otherwise y) clears-too (x otherwise z)
-_both_ {w} {x} {y} {z} f g h = otherwise-none x z (f (otherwise-first w y h)) ∙ g (otherwise-second w y h)
+_both_ : {w x y z : Finding} → w clears-too x → y clears-too z → (w otherwise y) clears-too (x otherwise z)
+_both_ {w} {x} {y} {z} f g h = otherwise-nothing x z (f (otherwise-first w y h)) ∙ g (otherwise-second w y h)
 
 at-kept : {a b : Bool} (why : Refusal) (j : ℕ) → (a ≡ true → b ≡ true) → atUnless a why j clears-too atUnless b why j
 at-kept {a} {b} why j f h = at-clears why j (itself b) .1 (f (at-clears why j (itself a) .0 h))
@@ -107,6 +108,5 @@ pub in-order-accepted : (T : Tableau) (n l : ℕ) → checkInOrder T ≡ Accepte
 unfolding checkInOrder checkOlder checkWith nodeRefusalInOrder stepRefusalInOrder verdict
 in-order-accepted T n l h =
     let a =
-    accepted (refusalWith olderFormulas nodeRefusalInOrder T) (T .nodeRows) (linkCount T) n l
-    (of-refusal-by nodeRefusalInOrder T (λ j. of-tests j _ _ _ _ _ _ _)) h in
+    accepted (refusalWith olderFormulas nodeRefusalInOrder T) (T .nodeRows) (linkCount T) n l h in
     rw (refusal-kept T (a .0), a .1, a .2)

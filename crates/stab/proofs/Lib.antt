@@ -4,6 +4,7 @@ pub mod Whole
 pub mod Tests
 pub mod Formed
 pub mod Scans
+pub mod Firsts
 pub mod Searches
 pub mod Findings
 pub mod Trees

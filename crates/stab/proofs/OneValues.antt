@@ -18,6 +18,8 @@ use Rattle.stab.specs.OneValue.{OpenOrExact, splitOne, childOne, firstOn
 use Rattle.stab.specs.Keeps.{KeepsParent, Splits}
 use Rattle.stab.specs.declared.Refusal.the-variants.{Bound as BoundWrong, Fields, Target}
 use Rattle.stab.specs.declared.Verdict.{Verdict}
+use Rattle.stab.specs.declared.Finding.{Finding}
+use Rattle.stab.specs.declared.Finding.the-variants.{Nothing}
 use Rattle.stab.specs.declared.Verdict.the-variants.{Accepted}
 use borrow.Author.Tests.{le-leb, eq-eqb}
 use Rattle.stab.proofs.Bools.{decide, if-true, if-false, and-first-true, and-left, and-both, same-test, otherwise-same, otherwise-first-same}
@@ -132,7 +134,7 @@ module _ (T : Tableau) (parents : (k : ℕ) → k < T .nodeRows → KeepsParent 
       ∙ sym (ap twoSided (inherit-first (firstOne (T .least)) childOne (T .nodes) j b)))
       (decide (below j (nodeAt (T .nodes) j .up)))
 
-  module _ (j : ℕ) (l : j < T .nodeRows) (before : (k : ℕ) → k < j → nodeRefusalAbove T k ≡ none) where
+  module _ (j : ℕ) (l : j < T .nodeRows) (before : (k : ℕ) → k < j → nodeRefusalAbove T k ≡ Nothing) where
     splits : (i : ℕ) → i < suc j → RightSplits T parents i
     splits i q = splits-above T parents i (λ k p. above-clears T k (before k (omega arith)) .bounds)
 
@@ -208,5 +210,5 @@ module _ (T : Tableau) (parents : (k : ℕ) → k < T .nodeRows → KeepsParent 
 pub stored-as-before : (T : Tableau) → ((j : ℕ) → j < T .nodeRows → node T j .rule ≡ pos 2 → node T j .by ≡ pos 0) → checkAbove T ≡ checkOne T
 unfolding checkAbove checkOne checkWith
 stored-as-before T zeros =
-    ap (λ (x : Option Verdict). verdict x (Accepted (T .nodeRows) (linkCount T)))
+    ap (λ (x : Finding). verdict x (Accepted (T .nodeRows) (linkCount T)))
     (sym (refusal-by-same nodeRefusalOne nodeRefusalAbove T (λ parents j l before. same-node T parents zeros j l before)))

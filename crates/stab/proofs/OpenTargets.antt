@@ -5,7 +5,7 @@ use native.Mathlib.Omega.{arith}
 use mathlib.Core.Path.{_≡_, sym, _∙_, ap, ap₂, subst}
 use mathlib.Core.Logic.{⊎-elim}
 use mathlib.Core.Bool.{Bool, true, false}
-use mathlib.Core.Option.{Option, none, some}
+use mathlib.Core.Option.{Option, some}
 use lib.IntN.{ℤ, pos, _-ℤ_}
 use lib.Signed.{leZ, _≤ℤ_}
 use Rattle.stab.specs.Basic.{_and_, nat}
@@ -17,6 +17,8 @@ use Rattle.stab.specs.OpenTarget.{targetOpen, stepRefusalOpen, nodeRefus
 use Rattle.stab.specs.Keeps.{KeepsParent, KeepsStep}
 use Rattle.stab.specs.declared.Refusal.the-variants.{Bound as BoundWrong, Fields, Target}
 use Rattle.stab.specs.declared.Verdict.{Verdict}
+use Rattle.stab.specs.declared.Finding.{Finding}
+use Rattle.stab.specs.declared.Finding.the-variants.{Nothing}
 use Rattle.stab.specs.declared.Verdict.the-variants.{Accepted}
 use Rattle.stab.proofs.Bools.{decide, and-first-true, and-first-false, otherwise-same, otherwise-first-same}
 use Rattle.stab.proofs.Whole.{atom, num, _⊖_, of-le, leZ-of, of-leZ}
@@ -61,7 +63,7 @@ module _ (T : Tableau) (parents : (k : ℕ) → k < T .nodeRows → KeepsParent 
       (λ x. x)
       (decide (isExact (bound T i)))
 
-  module _ (j : ℕ) (l : j < T .nodeRows) (before : (k : ℕ) → k < j → nodeRefusalAbove T k ≡ none) where
+  module _ (j : ℕ) (l : j < T .nodeRows) (before : (k : ℕ) → k < j → nodeRefusalAbove T k ≡ Nothing) where
     splits : RightSplits T parents j
     splits = splits-above T parents j (λ k p. above-clears T k (before k p) .bounds)
 
@@ -107,5 +109,5 @@ module _ (T : Tableau) (parents : (k : ℕ) → k < T .nodeRows → KeepsParent 
 pub open-needless : (T : Tableau) → checkOpen T ≡ checkAbove T
 unfolding checkOpen checkAbove checkWith
 open-needless T =
-    ap (λ (x : Option Verdict). verdict x (Accepted (T .nodeRows) (linkCount T)))
+    ap (λ (x : Finding). verdict x (Accepted (T .nodeRows) (linkCount T)))
     (refusal-by-same nodeRefusalOpen nodeRefusalAbove T (same-node T))

@@ -4,11 +4,10 @@ use Prim.Native.Nat.{ℕ, _+_, _*_, _/_, _%_, _<_, _≤_}
 use native.Mathlib.Omega.{arith}
 use mathlib.Core.Path.{_≡_, refl, sym, _∙_, ap, subst}
 use mathlib.Core.Bool.{Bool, true, false}
-use mathlib.Core.Option.{Option, none, some}
 use lib.IntN.{pos, _+ℤ_, _-ℤ_}
 use Rattle.stab.specs.Basic.{if_then_else_, nat}
 use Rattle.stab.specs.Node.{Tableau}
-use Rattle.stab.specs.Check.{nodeRefusal, refusalWith, olderFormulas, presentFormulas, checkWith, check, checkOlder, checkAs, verdict, linkCount}
+use Rattle.stab.specs.Check.{nodeRefusal, refusalWith, olderFormulas, presentFormulas, checkWith, check, checkOlder, checkAs, verdict, linkCount, refusal}
 use Rattle.stab.specs.Model.{Model, modelRefusal, checkModel}
 use Rattle.stab.specs.Answer.{Numbers, refusalNumber, placeNumber, refusedNumbers, verdictNumbers, oneNumber, packed, answerIn, numbersIn, placeCode, Packs}
 use Rattle.stab.specs.Refuted.{Refuted, SameSchema, Irrefutable}
@@ -18,11 +17,13 @@ use Rattle.stab.specs.declared.Refusal.{Refusal}
 use Rattle.stab.specs.declared.Refusal.the-variants.{TextTooLong, TableTooShort, Heading, Line, TooMany, Root, IllFormed, TooLarge, Set, Parent, Drawn, Fields, Target, Bound, Partner, Lowered, Children, Pair, Width, False, Number, Output, Repeated, Wires, Plain, Leasts, Joint, Room, NoRow, Waiting, NotListed}
 use Rattle.stab.specs.declared.Verdict.{Verdict}
 use Rattle.stab.specs.declared.Verdict.the-variants.{Accepted, Refused}
+use Rattle.stab.specs.declared.Finding.{Finding}
+use Rattle.stab.specs.declared.Finding.the-variants.{Nothing, Found}
 use Rattle.stab.proofs.Whole.{num, _⊖_, eq-of}
 use Rattle.stab.proofs.Scans.{count-le}
 use Rattle.stab.proofs.Soundness.{sound, sound-older, no-model}
 use Rattle.stab.proofs.Exactness.Checked.{older-clears, tableau-clears}
-use Rattle.stab.proofs.Exactness.Refusals.{Near, IsRefused, of-older-refusal, of-refusal, of-model-refusal}
+use Rattle.stab.proofs.Exactness.Refusals.{Near, FindsNear, of-older-refusal, of-refusal, of-model-refusal}
 
 -- ---- a refusal's number is from 1 to 31
 
@@ -65,20 +66,17 @@ pub near-packs : (why : Refusal) (place : Place) → Near place → Packs (Refus
 near-packs why Whole h = tt
 near-packs why (At k) h = omega arith
 
-found-packs : (v : Verdict) → IsRefused v → Packs v
-found-packs v r = subst Packs (sym (r .2)) (near-packs (r .0) (r .1) (r .3))
-
 -- whatever is found packs, and an acceptance where few nodes are kept
-packs-of : (T : Tableau) (x : Option Verdict) → (x ≡ none → T .nodeRows ≤ 1024) → ((v : Verdict) → x ≡ some v → IsRefused v) → Packs (verdict x (Accepted (T .nodeRows) (linkCount T)))
+packs-of : (T : Tableau) (x : Finding) → (x ≡ Nothing → T .nodeRows ≤ 1024) → FindsNear x → Packs (verdict x (Accepted (T .nodeRows) (linkCount T)))
 unfolding verdict linkCount
-packs-of T none few found =
+packs-of T Nothing few near =
     (omega (arith, few refl), omega (arith, few refl, count-le (Rattle.stab.specs.Check.isLink (T .nodes)) (T .nodeRows)))
-packs-of T (some v) few found = found-packs v (found v refl)
+packs-of T (Found why place) few near = near-packs why place (near why place refl)
 
 pub check-packs : (T : Tableau) → Packs (check T)
-unfolding check checkWith
+unfolding check refusal
 check-packs T =
-    packs-of T (refusalWith presentFormulas nodeRefusal T) (λ e. tableau-clears T .0 e .older .tables .nodeLimit) (of-refusal T)
+    packs-of T (refusal T) (λ e. tableau-clears T .0 e .older .tables .nodeLimit) (of-refusal T)
 
 pub older-packs : (T : Tableau) → Packs (checkOlder T)
 unfolding checkOlder checkWith
@@ -92,11 +90,11 @@ checked-packs false T = check-packs T
 
 pub model-packs : (M : Model) → Packs (checkModel M)
 unfolding checkModel verdict
-model-packs M = go (modelRefusal M) refl
+model-packs M = go (modelRefusal M) (of-model-refusal M)
   where
-    go : (x : Option Verdict) → modelRefusal M ≡ x → Packs (verdict x (Accepted 0 0))
-    go none e = (omega arith, omega arith)
-    go (some v) e = found-packs v (of-model-refusal M v e)
+    go : (x : Finding) → FindsNear x → Packs (verdict x (Accepted 0 0))
+    go Nothing near = (omega arith, omega arith)
+    go (Found why place) near = near-packs why place (near why place refl)
 
 -- ---- the number in parts
 

@@ -6,10 +6,13 @@ use mathlib.Core.Path.{_≡_, refl, sym, _∙_, ap, subst}
 use mathlib.Core.Logic.{_⊎_, inl, inr, ⊎-elim}
 use mathlib.Core.Bool.{Bool, true, false, false≢true}
 use mathlib.Core.List.{List, [], _∷_, List·Memᴰ, List·Memᴰ·head, List·Memᴰ·tail, List·Memᴰ·cases-cons, List·Memᴰ·not-nil}
-use mathlib.Core.Option.{Option, none, some, Option·none-ne-some}
 use lib.IntN.{ℤ}
 use Rattle.stab.specs.Basic.{if_then_else_, _otherwise_, scan, count, has, allOf, eqZ}
-use Rattle.stab.proofs.Bools.{otherwise-same, otherwise-first, otherwise-second, otherwise-none, otherwise-some, and-left, and-right, and-both, or-cases, or-left, or-right}
+use Rattle.stab.specs.declared.Place.{Place}
+use Rattle.stab.specs.declared.Refusal.{Refusal}
+use Rattle.stab.specs.declared.Finding.{Finding}
+use Rattle.stab.specs.declared.Finding.the-variants.{Nothing, Found}
+use Rattle.stab.proofs.Bools.{otherwise-same, otherwise-first, otherwise-second, otherwise-nothing, otherwise-found, nothing≢found, and-left, and-right, and-both, or-cases, or-left, or-right}
 use Rattle.stab.proofs.Whole.{eqZ-true, eqZ-of}
 
 pub below-suc : (k n : ℕ) → k < suc n → (k < n) ⊎ (k ≡ n)
@@ -23,52 +26,52 @@ below-suc (suc k) (suc n) h = go (below-suc k n (omega arith))
     go (inr p) = inr (ap suc p)
 
 -- nothing is found where nothing is found at any number passed, and the other way
-pub scan-none : {A : Type 0} (f : ℕ → Option A) (n : ℕ) → ((k : ℕ) → k < n → f k ≡ none) → scan f n ≡ none
+pub scan-nothing : (f : ℕ → Finding) (n : ℕ) → ((k : ℕ) → k < n → f k ≡ Nothing) → scan f n ≡ Nothing
 unfolding scan
-scan-none f zero h = refl
-scan-none f (suc n) h = otherwise-none (scan f n) (f n) (scan-none f n (λ k p. h k (omega arith))) ∙ h n (omega arith)
+scan-nothing f zero h = refl
+scan-nothing f (suc n) h = otherwise-nothing (scan f n) (f n) (scan-nothing f n (λ k p. h k (omega arith))) ∙ h n (omega arith)
 
-pub none-scan : {A : Type 0} (f : ℕ → Option A) (n : ℕ) → scan f n ≡ none → (k : ℕ) → k < n → f k ≡ none
+pub nothing-scan : (f : ℕ → Finding) (n : ℕ) → scan f n ≡ Nothing → (k : ℕ) → k < n → f k ≡ Nothing
 unfolding scan
-none-scan f zero h k p = absurd (omega arith)
-none-scan f (suc n) h k p =
+nothing-scan f zero h k p = absurd (omega arith)
+nothing-scan f (suc n) h k p =
     ⊎-elim
-    (λ q. none-scan f n (otherwise-first (scan f n) (f n) h) k q)
-    (λ q. subst (λ (m : ℕ). f m ≡ none) (sym q) (otherwise-second (scan f n) (f n) h))
+    (λ q. nothing-scan f n (otherwise-first (scan f n) (f n) h) k q)
+    (λ q. subst (λ (m : ℕ). f m ≡ Nothing) (sym q) (otherwise-second (scan f n) (f n) h))
     (below-suc k n p)
 
 -- two scans find the same if they find the same at each number before which nothing is found
-pub scan-same : {A : Type 0} (f g : ℕ → Option A) (n : ℕ) → ((k : ℕ) → k < n → scan g k ≡ none → f k ≡ g k) → scan f n ≡ scan g n
+pub scan-same : (f g : ℕ → Finding) (n : ℕ) → ((k : ℕ) → k < n → scan g k ≡ Nothing → f k ≡ g k) → scan f n ≡ scan g n
 unfolding scan
 scan-same f g zero h = refl
 scan-same f g (suc n) h =
-    ap (λ (x : Option _). x otherwise f n) (scan-same f g n (λ k p. h k (omega arith)))
+    ap (λ (x : Finding). x otherwise f n) (scan-same f g n (λ k p. h k (omega arith)))
     ∙ otherwise-same (scan g n) (f n) (g n) (h n (omega arith))
 
 -- the loop's step: nothing was found below i, nor at i
-pub scan-more : {A : Type 0} (f : ℕ → Option A) (i : ℕ) → scan f i ≡ none → f i ≡ none → scan f (i + 1) ≡ none
+pub scan-more : (f : ℕ → Finding) (i : ℕ) → scan f i ≡ Nothing → f i ≡ Nothing → scan f (i + 1) ≡ Nothing
 unfolding scan
-scan-more f i h k = subst (λ (m : ℕ). scan f m ≡ none) (sym (add-one i)) (otherwise-none (scan f i) (f i) h ∙ k)
+scan-more f i h k = subst (λ (m : ℕ). scan f m ≡ Nothing) (sym (add-one i)) (otherwise-nothing (scan f i) (f i) h ∙ k)
 
--- the loop's exit: nothing was found below i, and a at i
-pub scan-found : {A : Type 0} (f : ℕ → Option A) (n i : ℕ) (a : A) → i < n → scan f i ≡ none → f i ≡ some a → scan f n ≡ some a
+-- the loop's exit: nothing was found below i, and a refusal at i
+pub scan-found : (f : ℕ → Finding) (n i : ℕ) {why : Refusal} {p : Place} → i < n → scan f i ≡ Nothing → f i ≡ Found why p → scan f n ≡ Found why p
 unfolding scan
-scan-found f zero i a p h k = absurd (omega arith)
-scan-found f (suc n) i a p h k =
+scan-found f zero i l h k = absurd (omega arith)
+scan-found f (suc n) i {why} {p} l h k =
     ⊎-elim
-    (λ q. otherwise-some (scan f n) (f n) a (scan-found f n i a q h k))
-    (λ q. otherwise-none (scan f n) (f n) (subst (λ (m : ℕ). scan f m ≡ none) q h) ∙ subst (λ (m : ℕ). f m ≡ some a) q k)
-    (below-suc i n p)
+    (λ q. otherwise-found (scan f n) (f n) (scan-found f n i q h k))
+    (λ q. otherwise-nothing (scan f n) (f n) (subst (λ (m : ℕ). scan f m ≡ Nothing) q h) ∙ subst (λ (m : ℕ). f m ≡ Found why p) q k)
+    (below-suc i n l)
 
 -- the first number at which something is found
-pub scan-first : {A : Type 0} (f : ℕ → Option A) (n : ℕ) (a : A) → scan f n ≡ some a → (r : ℕ) × (r < n) × (scan f r ≡ none) × (f r ≡ some a)
+pub scan-first : (f : ℕ → Finding) (n : ℕ) {why : Refusal} {p : Place} → scan f n ≡ Found why p → (r : ℕ) × (r < n) × (scan f r ≡ Nothing) × (f r ≡ Found why p)
 unfolding scan _otherwise_
-scan-first f zero a h = absurd (Option·none-ne-some a h)
-scan-first {A} f (suc n) a h = go (scan f n) refl h (scan-first f n a)
+scan-first f zero h = absurd (nothing≢found h)
+scan-first f (suc n) {why} {p} h = go (scan f n) refl h (scan-first f n)
   where
-    go : (x : Option A) → scan f n ≡ x → (x otherwise f n) ≡ some a → (scan f n ≡ some a → (r : ℕ) × (r < n) × (scan f r ≡ none) × (f r ≡ some a)) → (r : ℕ) × (r < suc n) × (scan f r ≡ none) × (f r ≡ some a)
-    go none e d ih = (n, omega arith, e, d)
-    go (some w) e d ih = let k = ih (e ∙ d) in (k .0, omega (arith, k .1), k .2, k .3)
+    go : (x : Finding) → scan f n ≡ x → (x otherwise f n) ≡ Found why p → (scan f n ≡ Found why p → (r : ℕ) × (r < n) × (scan f r ≡ Nothing) × (f r ≡ Found why p)) → (r : ℕ) × (r < suc n) × (scan f r ≡ Nothing) × (f r ≡ Found why p)
+    go Nothing e d ih = (n, omega arith, e, d)
+    go (Found w q) e d ih = let k = ih (e ∙ d) in (k .0, omega (arith, k .1), k .2, k .3)
 
 -- ---- counting
 

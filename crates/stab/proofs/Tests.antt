@@ -4,7 +4,6 @@ use mathlib.Core.Path.{_≡_, refl, _∙_, ap, ap₂}
 use mathlib.Core.Logic.{_↔_, Iff·trans, _⊎_, inl, inr, ⊎-elim}
 use mathlib.Core.Bool.{Bool, true, false, not, true≢false, false≢true}
 use mathlib.Core.List.{List, [], _∷_, List·Memᴰ}
-use mathlib.Core.Option.{Option, none}
 use lib.Dec.{leb, ltb, eqb}
 use lib.IntN.{ℤ, pos}
 use lib.Signed.{leZ, ltZ, _≤ℤ_, _<ℤ_}
@@ -12,13 +11,15 @@ use borrow.Author.Tests.{le-leb, leb-true, lt-ltb, ltb-true, eq-eqb, eqb-true}
 use Rattle.stab.specs.Basic.{if_then_else_, _and_, _or_, _implies_, eqZ, within, below, has, allOf, ascending, sameList, _otherwise_, scan, unless}
 use Rattle.stab.specs.Formula.{Row}
 use Rattle.stab.specs.Check.{sameRow, wholeUnless, atUnless}
+use Rattle.stab.specs.declared.Place.{Place}
 use Rattle.stab.specs.declared.Place.the-variants.{Whole, At}
 use Rattle.stab.specs.declared.Refusal.{Refusal}
-use Rattle.stab.specs.declared.Verdict.the-variants.{Refused}
 use Rattle.stab.specs.Keeps.{Within, Below, Ascending}
-use Rattle.stab.proofs.Bools.{and-left, and-right, and-both, or-cases, or-left, or-right, implies-use, implies-make, false-of-not, not-of-false, unless-none, none-unless, otherwise-first, otherwise-second, otherwise-none}
+use Rattle.stab.specs.declared.Finding.{Finding}
+use Rattle.stab.specs.declared.Finding.the-variants.{Nothing}
+use Rattle.stab.proofs.Bools.{and-left, and-right, and-both, or-cases, or-left, or-right, implies-use, implies-make, false-of-not, not-of-false, unless-nothing, nothing-unless, otherwise-first, otherwise-second, otherwise-nothing}
 use Rattle.stab.proofs.Whole.{of-leZ, leZ-of, of-ltZ, ltZ-of, eqZ-true, eqZ-of}
-use Rattle.stab.proofs.Scans.{scan-none, none-scan, has-mem, mem-has, all-use, all-make}
+use Rattle.stab.proofs.Scans.{scan-nothing, nothing-scan, has-mem, mem-has, all-use, all-make}
 
 infix 3 _tests_
 abbrev pub _tests_ : Bool → Type 0 → Type 0
@@ -113,29 +114,29 @@ same-row-tests v w =
 
 -- nothing is found exactly if the statement holds
 infix 3 _clears_
-abbrev pub _clears_ : {A : Type 0} → Option A → Type 0 → Type 0
-x clears P = (x ≡ none) ↔ P
+abbrev pub _clears_ : Finding → Type 0 → Type 0
+x clears P = (x ≡ Nothing) ↔ P
 
-pub unless-clears : {A : Type 0} {t : Bool} {P : Type 0} (a : A) → t tests P → unless t a clears P
-unless-clears {A} {t} a e = (λ h. e .0 (unless-none t a h), λ p. none-unless t a (e .1 p))
+unless-clears : {t : Bool} {P : Type 0} (why : Refusal) (p : Place) → t tests P → unless t why p clears P
+unless-clears {t} why p e = (λ h. e .0 (unless-nothing t why p h), λ q. nothing-unless t why p (e .1 q))
 
 pub whole-clears : {t : Bool} {P : Type 0} (why : Refusal) → t tests P → wholeUnless t why clears P
 unfolding wholeUnless
-whole-clears why e = unless-clears (Refused why Whole) e
+whole-clears why e = unless-clears why Whole e
 
 pub at-clears : {t : Bool} {P : Type 0} (why : Refusal) (k : ℕ) → t tests P → atUnless t why k clears P
 unfolding atUnless
-at-clears why k e = unless-clears (Refused why (At k)) e
+at-clears why k e = unless-clears why (At k) e
 
 -- the second finding is asked for only where the first statement holds
-pub once-clears : {A : Type 0} {x y : Option A} {P Q : Type 0} → x clears P → (P → y clears Q) → (x otherwise y) clears (P × Q)
-once-clears {A} {x} {y} e f =
-    (λ h. let p = e .0 (otherwise-first x y h) in (p, f p .0 (otherwise-second x y h)), λ p. otherwise-none x y (e .1 (p .0)) ∙ f (p .0) .1 (p .1))
+pub once-clears : {x y : Finding} {P Q : Type 0} → x clears P → (P → y clears Q) → (x otherwise y) clears (P × Q)
+once-clears {x} {y} e f =
+    (λ h. let p = e .0 (otherwise-first x y h) in (p, f p .0 (otherwise-second x y h)), λ p. otherwise-nothing x y (e .1 (p .0)) ∙ f (p .0) .1 (p .1))
 
 infixr 25 _then_
-pub _then_ : {A : Type 0} {x y : Option A} {P Q : Type 0} → x clears P → y clears Q → (x otherwise y) clears (P × Q)
+pub _then_ : {x y : Finding} {P Q : Type 0} → x clears P → y clears Q → (x otherwise y) clears (P × Q)
 e then f = once-clears e (λ p. f)
 
-pub scan-clears : {A : Type 0} (f : ℕ → Option A) (n : ℕ) {P : ℕ → Type 0} → ((k : ℕ) → k < n → f k clears P k) → scan f n clears ((k : ℕ) → k < n → P k)
+pub scan-clears : (f : ℕ → Finding) (n : ℕ) {P : ℕ → Type 0} → ((k : ℕ) → k < n → f k clears P k) → scan f n clears ((k : ℕ) → k < n → P k)
 scan-clears f n e =
-    (λ h k l. e k l .0 (none-scan f n h k l), λ p. scan-none f n (λ k l. e k l .1 (p k l)))
+    (λ h k l. e k l .0 (nothing-scan f n h k l), λ p. scan-nothing f n (λ k l. e k l .1 (p k l)))

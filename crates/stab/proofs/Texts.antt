@@ -22,6 +22,7 @@ use Rattle.stab.specs.Text.{lines, fiveDigits, padded}
 use Rattle.stab.specs.Read.{read, stopped, SchemaText, ProofText, ModelText, readSchemaLines, readProofLines, readModelLines, readSchema, readProof, readModel, schemaTable, proofTable, nodeTable, memberTable, pairTable}
 use Rattle.stab.specs.Check.{holds}
 use Rattle.stab.specs.Write.{Writing, wrote, refused, schemaText, proofText, modelText, rowsWritable, nodesWritable, setsWritable, writeSchema, writeProof, writeModel, output}
+use Rattle.stab.specs.declared.Place.{Place}
 use Rattle.stab.specs.declared.Refusal.{Refusal}
 use Rattle.stab.proofs.Bools.{and-left, and-right, and-both}
 use Rattle.stab.proofs.Whole.{eqZ-true, eqZ-of}
@@ -255,9 +256,9 @@ unfolding pairTable
 pair-table-read n text s h = table-read (λ q. q .table) n (readModel n text) s h
 
 -- the output, whichever text was to be written, after a refusal
-pub output-refused : (n : ℕ) (w : Writing) (why : Refusal) → w ≡ refused why → output n w ≡ replicate n 0
+pub output-refused : (n : ℕ) (w : Writing) (why : Refusal) (place : Place) → w ≡ refused why place → output n w ≡ replicate n 0
 unfolding output
-output-refused n w why h = ap (output n) h ∙ padded-none 0 n
+output-refused n w why place h = ap (output n) h ∙ padded-none 0 n
 
 -- the output after success
 pub output-wrote : (n : ℕ) (w : Writing) (text : List ℕ) → w ≡ wrote text → output n w ≡ text ++ replicate (n - length text) 0

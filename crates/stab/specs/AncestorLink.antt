@@ -4,7 +4,6 @@ use Prim.Native.Nat.{ℕ, zero, suc}
 use mathlib.Core.Path.{_≡_}
 use mathlib.Core.Bool.{Bool, true, false}
 use mathlib.Core.List.{List}
-use mathlib.Core.Option.{Option}
 use lib.IntN.{ℤ, pos, _-ℤ_}
 use lib.Signed.{leZ}
 use Rattle.stab.specs.Basic.{if_then_else_, _or_, _implies_, eqZ, nat, below, _otherwise_}
@@ -13,6 +12,7 @@ use Rattle.stab.specs.Rule.{ofRule, drawn, fieldsFit, boundFits, partner
 use Rattle.stab.specs.Check.{atUnless, olderFormulas, checkWith}
 use Rattle.stab.specs.declared.Refusal.the-variants.{Drawn, Fields, Target, Bound, Partner, Lowered, Children}
 use Rattle.stab.specs.declared.Verdict.{Verdict}
+use Rattle.stab.specs.declared.Finding.{Finding}
 
 unfoldable pub aboveIf : Bool → List ℤ → (ℕ → Bool) → ℤ → ℕ → Bool
 aboveIf true nodes above z j = eqZ (nodeAt nodes j .up) z or above (nat (nodeAt nodes j .up))
@@ -45,7 +45,7 @@ unfoldable pub boundAbove : Tableau → ℕ → Bool
 boundAbove T j =
     if ofRule 8 (node T j) then loopAbove (bound T j .L) (bound T (nat (node T j .to)) .L) (node T j .by) else boundFits T j
 
-unfoldable pub stepRefusalAbove : Tableau → ℕ → Option Verdict
+unfoldable pub stepRefusalAbove : Tableau → ℕ → Finding
 stepRefusalAbove T j =
     atUnless (drawn T j) Drawn j otherwise
     atUnless (fieldsFit T j) Fields j otherwise
@@ -54,7 +54,7 @@ stepRefusalAbove T j =
     atUnless (partnersFit T j) Partner j otherwise
     atUnless (loweredFits T j) Lowered j
 
-unfoldable pub nodeRefusalAbove : Tableau → ℕ → Option Verdict
+unfoldable pub nodeRefusalAbove : Tableau → ℕ → Finding
 nodeRefusalAbove T j = stepRefusalAbove T j otherwise atUnless (childrenFit T j) Children j
 
 unfoldable pub checkAbove : Tableau → Verdict

@@ -2,10 +2,14 @@
 use Prim.Native.Nat.{ℕ, zero, suc}
 use mathlib.Core.Bool.{Bool, true, false}
 use mathlib.Core.List.{List, [], _∷_}
-use mathlib.Core.Option.{Option, none, some}
+use mathlib.Core.Option.{Option, none, orElse}
 use lib.Dec.{eqb}
 use lib.IntN.{ℤ, pos, negsuc}
 use lib.Signed.{leZ, ltZ}
+use Rattle.stab.specs.declared.Place.{Place}
+use Rattle.stab.specs.declared.Refusal.{Refusal}
+use Rattle.stab.specs.declared.Finding.{Finding}
+use Rattle.stab.specs.declared.Finding.the-variants.{Nothing, Found}
 
 infixr 20 if_then_else_
 unfoldable pub if_then_else_ : {A : Type 0} → Bool → A → A → A
@@ -76,16 +80,21 @@ count p (suc n) = if p n then suc (count p n) else count p n
 
 -- the first finding, if there is one
 infixr 25 _otherwise_
-unfoldable pub _otherwise_ : {A : Type 0} → Option A → Option A → Option A
-none otherwise y = y
-some a otherwise y = some a
+unfoldable pub _otherwise_ : Finding → Finding → Finding
+Nothing otherwise y = y
+Found why place otherwise y = Found why place
 
 -- the first finding among f 0, f 1, .. f (n - 1)
-unfoldable pub scan : {A : Type 0} → (ℕ → Option A) → ℕ → Option A
-scan f zero = none
+unfoldable pub scan : (ℕ → Finding) → ℕ → Finding
+scan f zero = Nothing
 scan f (suc n) = scan f n otherwise f n
 
--- a finding where the test fails
-unfoldable pub unless : {A : Type 0} → Bool → A → Option A
-unless true a = none
-unless false a = some a
+-- a refusal where the test fails
+unfoldable pub unless : Bool → Refusal → Place → Finding
+unless true why place = Nothing
+unless false why place = Found why place
+
+-- the first that is there among f 0, f 1, .. f (n - 1)
+unfoldable pub first : {A : Type 0} → (ℕ → Option A) → ℕ → Option A
+first f zero = none
+first f (suc n) = orElse (first f n) (f n)

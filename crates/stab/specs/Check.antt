@@ -2,7 +2,6 @@
 use Prim.Native.Nat.{ℕ, zero, suc, _*_}
 use mathlib.Core.Bool.{Bool, false, not}
 use mathlib.Core.List.{List}
-use mathlib.Core.Option.{Option, none, some}
 use lib.Dec.{leb, eqb, ltb}
 use lib.IntN.{ℤ, pos}
 use lib.ListN.{length}
@@ -18,18 +17,13 @@ use Rattle.stab.specs.declared.Finding.the-variants.{Nothing, Found}
 use Rattle.stab.specs.declared.Verdict.{Verdict}
 use Rattle.stab.specs.declared.Verdict.the-variants.{Accepted, Refused}
 
--- what a part of the check finds, as a refusal
-unfoldable pub finding : Finding → Option Verdict
-finding Nothing = none
-finding (Found why p) = some (Refused why p)
-
 -- a refusal of the whole record, unless the test passes
-unfoldable pub wholeUnless : Bool → Refusal → Option Verdict
-wholeUnless ok why = unless ok (Refused why Whole)
+unfoldable pub wholeUnless : Bool → Refusal → Finding
+wholeUnless ok why = unless ok why Whole
 
 -- a refusal at a row, node or line, unless the test passes
-unfoldable pub atUnless : Bool → Refusal → ℕ → Option Verdict
-atUnless ok why k = unless ok (Refused why (At k))
+unfoldable pub atUnless : Bool → Refusal → ℕ → Finding
+atUnless ok why k = unless ok why (At k)
 
 -- a table holds the rows that its count says, each of w numbers
 unfoldable pub holds : List ℤ → ℕ → ℕ → Bool
@@ -37,7 +31,7 @@ holds t w n = leb (w * n) (length t)
 
 -- ---- formula rows: "formula rows ascending, place the row, each 7 ill-formed, then 8 too large or deep"
 
-unfoldable pub rowRefusal : (ℕ → Row) → ℕ → Option Verdict
+unfoldable pub rowRefusal : (ℕ → Row) → ℕ → Finding
 rowRefusal rows r = atUnless (wellFormed rows r) IllFormed r otherwise atUnless (smallEnough rows r) TooLarge r
 
 -- the four columns of two rows are equal
@@ -51,11 +45,11 @@ standsBefore rows (suc r) w = standsBefore rows r w or sameRow (rows r) w
 
 -- 02, No. 9: "a proof row whose four columns equal those of an earlier schema or proof row", where s rows are schema rows, which "may
 -- still repeat"
-unfoldable pub repeatRefusal : (ℕ → Row) → ℕ → ℕ → Option Verdict
+unfoldable pub repeatRefusal : (ℕ → Row) → ℕ → ℕ → Finding
 repeatRefusal rows s r = atUnless (ltb r s or not (standsBefore rows r (rows r))) Repeated r
 
 -- "27, for a formula row, after 8"
-unfoldable pub freshRowRefusal : (ℕ → Row) → ℕ → ℕ → Option Verdict
+unfoldable pub freshRowRefusal : (ℕ → Row) → ℕ → ℕ → Finding
 freshRowRefusal rows s r = rowRefusal rows r otherwise repeatRefusal rows s r
 
 -- "6 root no schema row, or least not 0..9999 (-1)"
@@ -63,29 +57,29 @@ unfoldable pub rootFits : ℕ → ℤ → ℤ → Bool
 rootFits schemaRows root least = below schemaRows root and within (pos 0) (pos 9999) least
 
 -- 6, what `judge` finds of each row, and 6 again "if the root is not outer", for n formula rows of which s are schema rows
-unfoldable pub formulasBy : (ℕ → Option Verdict) → (ℕ → Row) → ℕ → ℕ → ℤ → ℤ → Option Verdict
+unfoldable pub formulasBy : (ℕ → Finding) → (ℕ → Row) → ℕ → ℕ → ℤ → ℤ → Finding
 formulasBy judge rows n s root least =
     wholeUnless (rootFits s root least) Root otherwise
     scan judge n otherwise
     wholeUnless (isOuter (tree rows (nat root))) Root
 
 -- 6, 7, 8 and 6 again: the part that the older check and the model check share
-unfoldable pub formulasRefusal : (ℕ → Row) → ℕ → ℕ → ℤ → ℤ → Option Verdict
+unfoldable pub formulasRefusal : (ℕ → Row) → ℕ → ℕ → ℤ → ℤ → Finding
 formulasRefusal rows n s root least = formulasBy (rowRefusal rows) rows n s root least
 
 -- ---- nodes
 
 -- "9 a set's place, order or members, and at the last node, if there is one, counted members left over"
-unfoldable pub setRefusal : Tableau → ℕ → Option Verdict
+unfoldable pub setRefusal : Tableau → ℕ → Finding
 setRefusal T j =
     atUnless (setFits T j and (eqb (suc j) (T .nodeRows) implies eqZ (setEnd (T .nodes) j) (pos (T .memberCount)))) Set j
 
 -- "a wrong up, or node 0's set"
-unfoldable pub parentRefusal : Tableau → ℕ → Option Verdict
+unfoldable pub parentRefusal : Tableau → ℕ → Finding
 parentRefusal T j = atUnless (parentFits T j) Parent j
 
 -- "then nodes ascending, each in this order": 11 to 16, which look at no later node, then 17
-unfoldable pub stepRefusal : Tableau → ℕ → Option Verdict
+unfoldable pub stepRefusal : Tableau → ℕ → Finding
 stepRefusal T j =
     atUnless (drawn T j) Drawn j otherwise
     atUnless (fieldsFit T j) Fields j otherwise
@@ -94,7 +88,7 @@ stepRefusal T j =
     atUnless (partnersFit T j) Partner j otherwise
     atUnless (loweredFits T j) Lowered j
 
-unfoldable pub nodeRefusal : Tableau → ℕ → Option Verdict
+unfoldable pub nodeRefusal : Tableau → ℕ → Finding
 nodeRefusal T j = stepRefusal T j otherwise atUnless (childrenFit T j) Children j
 
 -- ---- the check
@@ -113,7 +107,7 @@ withinLimits T = leb (rowCount T) 1024 and leb (T .nodeRows) 1024 and leb (T .me
 
 -- what is found, where `formulas` says what is found of the formulas, `nodes` of the number of nodes, and `judge` of a node once tables,
 -- formulas, sets and parents are right
-unfoldable pub refusalBy : (Tableau → Option Verdict) → (Tableau → Option Verdict) → (Tableau → ℕ → Option Verdict) → Tableau → Option Verdict
+unfoldable pub refusalBy : (Tableau → Finding) → (Tableau → Finding) → (Tableau → ℕ → Finding) → Tableau → Finding
 refusalBy formulas nodes judge T =
     wholeUnless (tablesHold T) TableTooShort otherwise
     wholeUnless (withinLimits T) TooMany otherwise
@@ -124,20 +118,20 @@ refusalBy formulas nodes judge T =
     scan (judge T) (T .nodeRows)
 
 -- "10 no node (-1)"
-unfoldable pub noNode : Tableau → Option Verdict
+unfoldable pub noNode : Tableau → Finding
 noNode T = wholeUnless (ltb 0 (T .nodeRows)) Parent
 
 -- the same of a whole record, which has a node
-unfoldable pub refusalWith : (Tableau → Option Verdict) → (Tableau → ℕ → Option Verdict) → Tableau → Option Verdict
+unfoldable pub refusalWith : (Tableau → Finding) → (Tableau → ℕ → Finding) → Tableau → Finding
 unfolding refusalBy noNode
 refusalWith formulas judge T = refusalBy formulas noNode judge T
 
 -- proof rows may repeat
-unfoldable pub olderFormulas : Tableau → Option Verdict
+unfoldable pub olderFormulas : Tableau → Finding
 olderFormulas T = formulasRefusal (rows T) (rowCount T) (T .schemaRows) (T .root) (T .least)
 
 -- 02, No. 9: "From now on the check refuses a proof row" that repeats
-unfoldable pub presentFormulas : Tableau → Option Verdict
+unfoldable pub presentFormulas : Tableau → Finding
 presentFormulas T = formulasBy (freshRowRefusal (rows T) (T .schemaRows)) (rows T) (rowCount T) (T .schemaRows) (T .root) (T .least)
 
 -- node j is a rule 8 row
@@ -149,17 +143,21 @@ unfoldable pub linkCount : Tableau → ℕ
 linkCount T = count (isLink (T .nodes)) (T .nodeRows)
 
 -- the refusal found, or else the verdict given
-unfoldable pub verdict : Option Verdict → Verdict → Verdict
-verdict none v = v
-verdict (some w) v = w
+unfoldable pub verdict : Finding → Verdict → Verdict
+verdict Nothing v = v
+verdict (Found why place) v = Refused why place
 
 -- the check by such findings; "Acceptance gives the number of nodes and of rule 8 rows"
-unfoldable pub checkWith : (Tableau → Option Verdict) → (Tableau → ℕ → Option Verdict) → Tableau → Verdict
+unfoldable pub checkWith : (Tableau → Finding) → (Tableau → ℕ → Finding) → Tableau → Verdict
 checkWith formulas judge T = verdict (refusalWith formulas judge T) (Accepted (T .nodeRows) (linkCount T))
+
+-- what the check finds
+unfoldable pub refusal : Tableau → Finding
+refusal T = refusalWith presentFormulas nodeRefusal T
 
 -- the check
 unfoldable pub check : Tableau → Verdict
-check T = checkWith presentFormulas nodeRefusal T
+check T = verdict (refusal T) (Accepted (T .nodeRows) (linkCount T))
 
 -- 02, No. 9: "a separate entry checks them without this test"
 unfoldable pub checkOlder : Tableau → Verdict

@@ -3,7 +3,6 @@
 use Prim.Native.Nat.{ℕ}
 use mathlib.Core.Bool.{Bool, false}
 use mathlib.Core.List.{List, [], _∷_}
-use mathlib.Core.Option.{Option}
 use lib.IntN.{ℤ}
 use Rattle.stab.specs.Basic.{_and_, _or_, _implies_, eqZ, nat, allOf, _otherwise_}
 use Rattle.stab.specs.Formula.{Formula, const, lit, join, iter}
@@ -13,6 +12,7 @@ use Rattle.stab.specs.Rule.{ofRule, drawn, fieldsFit, targetFits, boundF
 use Rattle.stab.specs.Check.{atUnless, olderFormulas, checkWith}
 use Rattle.stab.specs.declared.Refusal.the-variants.{Drawn, Fields, Target, Bound, Partner, Lowered, Children}
 use Rattle.stab.specs.declared.Verdict.{Verdict}
+use Rattle.stab.specs.declared.Finding.{Finding}
 
 -- two formulas "agree in shape and in all numbers": "found by going down the two formulas side by side"
 unfoldable pub agree : Formula → Formula → Bool
@@ -49,7 +49,7 @@ unfoldable pub loweredInOrder : Tableau → ℕ → Bool
 loweredInOrder T j =
     ofRule 8 (node T j) implies allOf (hasLoweredInOrder T (node T j .by) (set T j)) (set T (nat (node T j .to)))
 
-unfoldable pub stepRefusalInOrder : Tableau → ℕ → Option Verdict
+unfoldable pub stepRefusalInOrder : Tableau → ℕ → Finding
 stepRefusalInOrder T j =
     atUnless (drawn T j) Drawn j otherwise
     atUnless (fieldsFit T j) Fields j otherwise
@@ -58,7 +58,7 @@ stepRefusalInOrder T j =
     atUnless (partnersInOrder T j) Partner j otherwise
     atUnless (loweredInOrder T j) Lowered j
 
-unfoldable pub nodeRefusalInOrder : Tableau → ℕ → Option Verdict
+unfoldable pub nodeRefusalInOrder : Tableau → ℕ → Finding
 nodeRefusalInOrder T j = stepRefusalInOrder T j otherwise atUnless (childrenFit T j) Children j
 
 unfoldable pub checkInOrder : Tableau → Verdict

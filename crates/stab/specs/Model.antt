@@ -2,7 +2,6 @@
 use Prim.Native.Nat.{ℕ, zero, suc, _+_, _*_}
 use mathlib.Core.Bool.{Bool, true, false}
 use mathlib.Core.List.{List}
-use mathlib.Core.Option.{Option}
 use lib.Dec.{leb}
 use lib.IntN.{ℤ, pos, negℤ}
 use lib.Signed.{leZ, ltZ}
@@ -14,6 +13,7 @@ use Rattle.stab.specs.Check.{wholeUnless, atUnless, holds, formulasRefus
 use Rattle.stab.specs.declared.Refusal.the-variants.{TableTooShort, TooMany, Pair, Width, False}
 use Rattle.stab.specs.declared.Verdict.{Verdict}
 use Rattle.stab.specs.declared.Verdict.the-variants.{Accepted}
+use Rattle.stab.specs.declared.Finding.{Finding}
 
 -- What the model check is lent: a schema, n and a table of pairs, with how many rows each table is said to hold.
 pub record Model : Type 0 where
@@ -62,7 +62,7 @@ unfoldable pub schemaRow : Model → ℕ → Row
 schemaRow M = rowAt (M .schema)
 
 -- "18 pair out of order or range, place its row"
-unfoldable pub pairRefusal : List ℤ → ℕ → Option Verdict
+unfoldable pub pairRefusal : List ℤ → ℕ → Finding
 pairRefusal t k = atUnless (pairInRange t k and pairFollows t k) Pair k
 
 -- the schema is true at n under the pairs' assignment
@@ -70,7 +70,7 @@ unfoldable pub satisfied : Model → Bool
 satisfied M = truth (assignment M) (nat (M .n)) (tree (schemaRow M) (nat (M .root)))
 
 -- "2, 5, 6, 7, 8 likewise over schema rows (2 and 5 also over pairs); 18 ..; 19 n below least or over 9999; 20 the schema is false (both -1)"
-unfoldable pub modelRefusal : Model → Option Verdict
+unfoldable pub modelRefusal : Model → Finding
 modelRefusal M =
     wholeUnless (holds (M .schema) 4 (M .schemaRows) and holds (M .pairs) 2 (M .pairRows)) TableTooShort otherwise
     wholeUnless (leb (M .schemaRows) 1024 and leb (M .pairRows) 4096) TooMany otherwise

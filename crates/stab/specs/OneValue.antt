@@ -2,7 +2,6 @@
 -- is 0 the check after No. 5, with links to proper ancestors, gives the same verdict (`stored-as-before`).
 use Prim.Native.Nat.{ℕ, zero, suc}
 use mathlib.Core.Bool.{Bool, true, false, not}
-use mathlib.Core.Option.{Option}
 use lib.Dec.{leb}
 use lib.IntN.{ℤ, pos, _+ℤ_}
 use lib.Signed.{ltZ}
@@ -14,6 +13,7 @@ use Rattle.stab.specs.AncestorLink.{targetAbove, loopAbove}
 use Rattle.stab.specs.Check.{atUnless, olderFormulas, checkWith}
 use Rattle.stab.specs.declared.Refusal.the-variants.{Drawn, Fields, Target, Bound, Partner, Lowered, Children}
 use Rattle.stab.specs.declared.Verdict.{Verdict}
+use Rattle.stab.specs.declared.Finding.{Finding}
 
 -- 01: "Each node knows n ≥ L (open) or n = L (exact)."
 pub record OpenOrExact : Type 0 where
@@ -56,7 +56,7 @@ boundFitsOne T j =
     (ofRule 7 (node T j) implies voidFitsOne (boundOne T j) (row T (node T j .on))) and
     (ofRule 8 (node T j) implies loopAbove (boundOne T j .L) (boundOne T (nat (node T j .to)) .L) (node T j .by))
 
-unfoldable pub stepRefusalOne : Tableau → ℕ → Option Verdict
+unfoldable pub stepRefusalOne : Tableau → ℕ → Finding
 stepRefusalOne T j =
     atUnless (drawn T j) Drawn j otherwise
     atUnless (fieldsFitOne T j) Fields j otherwise
@@ -65,7 +65,7 @@ stepRefusalOne T j =
     atUnless (partnersFit T j) Partner j otherwise
     atUnless (loweredFits T j) Lowered j
 
-unfoldable pub nodeRefusalOne : Tableau → ℕ → Option Verdict
+unfoldable pub nodeRefusalOne : Tableau → ℕ → Finding
 nodeRefusalOne T j = stepRefusalOne T j otherwise atUnless (childrenFit T j) Children j
 
 unfoldable pub checkOne : Tableau → Verdict

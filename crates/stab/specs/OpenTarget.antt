@@ -3,7 +3,6 @@
 -- bound, and only L = H is excluded. It gives the same verdict as without the test, whatever the tableau (`open-needless`).
 use Prim.Native.Nat.{ℕ}
 use mathlib.Core.Bool.{Bool, not}
-use mathlib.Core.Option.{Option}
 use Rattle.stab.specs.Basic.{_and_, _implies_, nat, _otherwise_}
 use Rattle.stab.specs.Node.{Tableau, node, isExact, bound}
 use Rattle.stab.specs.Rule.{ofRule, drawn, fieldsFit, partnersFit, loweredFits, childrenFit}
@@ -11,13 +10,14 @@ use Rattle.stab.specs.AncestorLink.{targetAbove, boundAbove}
 use Rattle.stab.specs.Check.{atUnless, olderFormulas, checkWith}
 use Rattle.stab.specs.declared.Refusal.the-variants.{Drawn, Fields, Target, Bound, Partner, Lowered, Children}
 use Rattle.stab.specs.declared.Verdict.{Verdict}
+use Rattle.stab.specs.declared.Finding.{Finding}
 
 -- the target of a link is not exact
 unfoldable pub targetOpen : Tableau → ℕ → Bool
 targetOpen T j = ofRule 8 (node T j) implies not (isExact (bound T (nat (node T j .to))))
 
 -- 11 to 16, with that test among those of 14
-unfoldable pub stepRefusalOpen : Tableau → ℕ → Option Verdict
+unfoldable pub stepRefusalOpen : Tableau → ℕ → Finding
 stepRefusalOpen T j =
     atUnless (drawn T j) Drawn j otherwise
     atUnless (fieldsFit T j) Fields j otherwise
@@ -26,7 +26,7 @@ stepRefusalOpen T j =
     atUnless (partnersFit T j) Partner j otherwise
     atUnless (loweredFits T j) Lowered j
 
-unfoldable pub nodeRefusalOpen : Tableau → ℕ → Option Verdict
+unfoldable pub nodeRefusalOpen : Tableau → ℕ → Finding
 nodeRefusalOpen T j = stepRefusalOpen T j otherwise atUnless (childrenFit T j) Children j
 
 unfoldable pub checkOpen : Tableau → Verdict

@@ -2,19 +2,20 @@
 use Prim.Native.Nat.{ℕ, zero, suc, _*_}
 use mathlib.Core.Bool.{Bool, true}
 use mathlib.Core.List.{List, [], _∷_, _++_}
-use mathlib.Core.Option.{Option, none, some}
 use lib.Dec.{leb}
 use lib.IntN.{ℤ, pos}
 use lib.ListN.{length, take, drop}
-use Rattle.stab.specs.Basic.{_and_, eqZ, allOf, _otherwise_, unless}
+use Rattle.stab.specs.Basic.{_and_, eqZ, allOf, _otherwise_}
 use Rattle.stab.specs.Node.{nodeAt, setOf, setStart, setFollows}
 use Rattle.stab.specs.Text.{fiveDigits, rowLine, headingLine, schemaHeading, rowHeading, nodeHeading, modelHeading, pairHeading, textLimit, padded}
-use Rattle.stab.specs.Check.{holds}
-use Rattle.stab.specs.declared.Place.the-variants.{Whole}
+use Rattle.stab.specs.Check.{holds, wholeUnless}
+use Rattle.stab.specs.declared.Place.{Place}
 use Rattle.stab.specs.declared.Refusal.{Refusal}
 use Rattle.stab.specs.declared.Refusal.the-variants.{TableTooShort, TooMany, Number, Output}
 use Rattle.stab.specs.declared.Written.{Written}
 use Rattle.stab.specs.declared.Written.the-variants.{Text, Refused}
+use Rattle.stab.specs.declared.Finding.{Finding}
+use Rattle.stab.specs.declared.Finding.the-variants.{Nothing, Found}
 
 -- ---- the texts
 
@@ -61,23 +62,23 @@ unfoldable pub setsWritable : List ℤ → ℕ → List ℤ → ℕ → Bool
 setsWritable nodes k members m = nodesWritable nodes k and eqZ (setStart nodes k) (pos m) and allOf fiveDigits (take m members)
 
 -- the first refusal among 2, 5 and 21
-unfoldable pub writeRefusal : Bool → Bool → Bool → Option Refusal
-writeRefusal held few writable = unless held TableTooShort otherwise unless few TooMany otherwise unless writable Number
+unfoldable pub writeRefusal : Bool → Bool → Bool → Finding
+writeRefusal held few writable = wholeUnless held TableTooShort otherwise wholeUnless few TooMany otherwise wholeUnless writable Number
 
 -- "22 output shorter than the text, or the text over 65,536 bytes", for an output of n bytes
-unfoldable pub outputRefusal : ℕ → List ℕ → Option Refusal
-outputRefusal n text = unless (leb (length text) n and leb (length text) textLimit) Output
+unfoldable pub outputRefusal : ℕ → List ℕ → Finding
+outputRefusal n text = wholeUnless (leb (length text) n and leb (length text) textLimit) Output
 
 -- What writing comes to: a refusal, or the text.
 pub data Writing : Type 0 where
-  refused : Refusal → Writing
+  refused : Refusal → Place → Writing
   wrote : List ℕ → Writing
 
-unfoldable pub writingOf : Option Refusal → List ℕ → Writing
-writingOf none text = wrote text
-writingOf (some why) text = refused why
+unfoldable pub writingOf : Finding → List ℕ → Writing
+writingOf Nothing text = wrote text
+writingOf (Found why place) text = refused why place
 
-unfoldable pub writing : Option Refusal → ℕ → List ℕ → Writing
+unfoldable pub writing : Finding → ℕ → List ℕ → Writing
 writing why n text = writingOf (why otherwise outputRefusal n text) text
 
 -- n is the length of the output throughout
@@ -105,9 +106,9 @@ writeModel v t r n =
 -- ---- what a writer answers, and what the lent output of n bytes holds as it returns: 0 past the last byte, and all 0 after a refusal
 
 unfoldable pub written : Writing → Written
-written (refused why) = Refused why Whole
+written (refused why place) = Refused why place
 written (wrote text) = Text (length text)
 
 unfoldable pub output : ℕ → Writing → List ℕ
-output n (refused why) = padded 0 n []
+output n (refused why place) = padded 0 n []
 output n (wrote text) = padded 0 n text

@@ -86,5 +86,14 @@ pub fn partners_fit(
         return false;
     }
     let other = node::natural_of(nodes, j, node::OTHER);
-    compare::is_instance(schema, h.schema_rows, proof, facts, forms, on, other, agreed)
+    compare::is_instance(
+        schema,
+        h.schema_rows,
+        proof,
+        facts,
+        forms,
+        on,
+        other,
+        agreed,
+    )
 }

@@ -2,22 +2,19 @@
 use Prim.Native.Nat.{ℕ, _≤_, _<_}
 use mathlib.Core.Path.{_≡_, refl, sym, _∙_, ap}
 use mathlib.Core.Bool.{Bool, true, false}
-use mathlib.Core.Option.{Option, none, Option·some-ne-none}
 use lib.Dec.{ltb}
 use lib.IntN.{pos}
 use Rattle.stab.specs.Basic.{if_then_else_, _implies_, within, below, unless, _otherwise_, scan}
 use Rattle.stab.specs.Node.{Tableau, setFits, parentFits}
-use Rattle.stab.specs.Check.{finding, wholeUnless, atUnless, rootFits, formulasRefusal, setRefusal, parentRefusal, nodeRefusal, tablesHold, withinLimits, formulasBy, refusalBy, noNode, refusalWith, olderFormulas, presentFormulas}
+use Rattle.stab.specs.Check.{wholeUnless, atUnless, rootFits, formulasRefusal, setRefusal, parentRefusal, nodeRefusal, tablesHold, withinLimits, formulasBy, refusalBy, noNode, refusalWith, olderFormulas, presentFormulas}
 use Rattle.stab.specs.declared.Place.{Place}
 use Rattle.stab.specs.declared.Place.the-variants.{Whole}
 use Rattle.stab.specs.declared.Refusal.{Refusal}
 use Rattle.stab.specs.declared.Refusal.the-variants.{TableTooShort, TooMany, Parent}
 use Rattle.stab.specs.declared.Finding.{Finding}
 use Rattle.stab.specs.declared.Finding.the-variants.{Nothing, Found}
-use Rattle.stab.specs.declared.Verdict.{Verdict}
-use Rattle.stab.specs.declared.Verdict.the-variants.{Accepted, Refused}
-use Rattle.stab.proofs.Bools.{and-left, and-right, some-unless, none-unless, unless-none, otherwise-some, otherwise-first, otherwise-second}
-use Rattle.stab.proofs.Scans.{none-scan}
+use Rattle.stab.proofs.Bools.{and-left, and-right, found-unless, nothing-unless, unless-nothing, otherwise-found, otherwise-first, otherwise-second, found≢nothing}
+use Rattle.stab.proofs.Scans.{nothing-scan}
 use Rattle.stab.proofs.Findings.{otherwise-assoc}
 use Rattle.stab.proofs.Exactness.Checked.{older-clears, tableau-clears}
 use Rattle.steps.specs.Judged.{childrenAs, nodeRefusalAs}
@@ -28,43 +25,42 @@ use Rattle.tableau.specs.Passes.{rowsRefusal, noNodeAs, nodesRefusal, re
 
 -- ---- findings
 
-pub whole-found : (t : Bool) (why : Refusal) (rest : Option Verdict) → t ≡ false → finding (Found why Whole) ≡ (wholeUnless t why otherwise rest)
-unfolding finding wholeUnless
-whole-found t why rest h = sym (otherwise-some (wholeUnless t why) rest (Refused why Whole) (some-unless t (Refused why Whole) h))
-
-pub whole-passes : (t : Bool) (why : Refusal) → t ≡ true → wholeUnless t why ≡ none
+pub whole-found : (t : Bool) (why : Refusal) (rest : Finding) → t ≡ false → (Found why Whole) ≡ (wholeUnless t why otherwise rest)
 unfolding wholeUnless
-whole-passes t why h = none-unless t (Refused why Whole) h
+whole-found t why rest h = sym (otherwise-found (wholeUnless t why) rest (found-unless t _ _ h))
+
+pub whole-passes : (t : Bool) (why : Refusal) → t ≡ true → wholeUnless t why ≡ Nothing
+unfolding wholeUnless
+whole-passes t why h = nothing-unless t _ _ h
 
 -- what was found is not nothing
-pub found-some : {X : Type 0} (f : Finding) (why : Refusal) (p : Place) → f ≡ Found why p → finding f ≡ none → X
-unfolding finding
-found-some f why p e h = absurd (Option·some-ne-none (Refused why p) (sym (ap finding e) ∙ h))
+pub found-some : {X : Type 0} (f : Finding) (why : Refusal) (p : Place) → f ≡ Found why p → f ≡ Nothing → X
+found-some f why p e h = absurd (found≢nothing (sym e ∙ h))
 
 -- ---- what the passes leave where they find nothing
 
 module _ (T : Tableau) where
-  pub least-fits : rowsRefusal T ≡ none → within (pos 0) (pos 9999) (T .least) ≡ true
+  pub least-fits : rowsRefusal T ≡ Nothing → within (pos 0) (pos 9999) (T .least) ≡ true
   unfolding rowsRefusal formulasRefusal formulasBy rootFits wholeUnless
   least-fits h =
-      and-right (below (T .schemaRows) (T .root)) _ (unless-none (rootFits (T .schemaRows) (T .root) (T .least)) _ (otherwise-first _ _ h))
+      and-right (below (T .schemaRows) (T .root)) _ (unless-nothing (rootFits (T .schemaRows) (T .root) (T .least)) _ _ (otherwise-first _ _ h))
 
   module _ (whole : Bool) where
-    pub nodes-sets : nodesRefusal whole T ≡ none → scan (setRefusal T) (T .nodeRows) ≡ none
+    pub nodes-sets : nodesRefusal whole T ≡ Nothing → scan (setRefusal T) (T .nodeRows) ≡ Nothing
     unfolding nodesRefusal
     nodes-sets h = otherwise-first _ _ h
 
-    pub nodes-parents : nodesRefusal whole T ≡ none → scan (parentRefusal T) (T .nodeRows) ≡ none
+    pub nodes-parents : nodesRefusal whole T ≡ Nothing → scan (parentRefusal T) (T .nodeRows) ≡ Nothing
     unfolding nodesRefusal
     nodes-parents h = otherwise-second (noNodeAs whole T) _ (otherwise-second (scan (setRefusal T) (T .nodeRows)) _ h)
 
-    pub set-fits : nodesRefusal whole T ≡ none → (j : ℕ) → j < T .nodeRows → setFits T j ≡ true
+    pub set-fits : nodesRefusal whole T ≡ Nothing → (j : ℕ) → j < T .nodeRows → setFits T j ≡ true
     unfolding setRefusal atUnless
-    set-fits h j l = and-left _ _ (unless-none _ _ (none-scan (setRefusal T) (T .nodeRows) (nodes-sets h) j l))
+    set-fits h j l = and-left _ _ (unless-nothing _ _ _ (nothing-scan (setRefusal T) (T .nodeRows) (nodes-sets h) j l))
 
-    pub parent-fits : nodesRefusal whole T ≡ none → (j : ℕ) → j < T .nodeRows → parentFits T j ≡ true
+    pub parent-fits : nodesRefusal whole T ≡ Nothing → (j : ℕ) → j < T .nodeRows → parentFits T j ≡ true
     unfolding parentRefusal atUnless
-    parent-fits h j l = unless-none _ _ (none-scan (parentRefusal T) (T .nodeRows) (nodes-parents h) j l)
+    parent-fits h j l = unless-nothing _ _ _ (nothing-scan (parentRefusal T) (T .nodeRows) (nodes-parents h) j l)
 
     -- the whole refusal, by its groups
     pub refusal-is : refusalAs whole olderFormulas T ≡ (wholeUnless (tablesHold T) TableTooShort otherwise (wholeUnless (withinLimits T) TooMany otherwise ((rowsRefusal T otherwise nodesRefusal whole T) otherwise scan (nodeRefusalAs whole T) (T .nodeRows))))
@@ -75,13 +71,13 @@ module _ (T : Tableau) where
         let B = noNodeAs whole T in
         let C = scan (parentRefusal T) (T .nodeRows) in
         let D = scan (nodeRefusalAs whole T) (T .nodeRows) in
-        ap (λ (x : Option Verdict). wholeUnless (tablesHold T) TableTooShort otherwise (wholeUnless (withinLimits T) TooMany otherwise x))
+        ap (λ (x : Finding). wholeUnless (tablesHold T) TableTooShort otherwise (wholeUnless (withinLimits T) TooMany otherwise x))
         (sym
         (otherwise-assoc R (A otherwise (B otherwise C)) D
-        ∙ ap (λ (x : Option Verdict). R otherwise x) (otherwise-assoc A (B otherwise C) D ∙ ap (λ (x : Option Verdict). A otherwise x) (otherwise-assoc B C D))))
+        ∙ ap (λ (x : Finding). R otherwise x) (otherwise-assoc A (B otherwise C) D ∙ ap (λ (x : Finding). A otherwise x) (otherwise-assoc B C D))))
 
   -- a whole record, and rows that are held
-  pub whole-is : (formulas : Tableau → Option Verdict) → refusalAs true formulas T ≡ refusalWith formulas nodeRefusal T
+  pub whole-is : (formulas : Tableau → Finding) → refusalAs true formulas T ≡ refusalWith formulas nodeRefusal T
   unfolding refusalAs refusalWith refusalBy noNode noNodeAs nodeRefusal nodeRefusalAs childrenAs _implies_ if_then_else_
   whole-is formulas = refl
 
@@ -92,8 +88,8 @@ module _ (T : Tableau) where
 -- ---- the verdict from what was found
 
 -- a record in which nothing is found has at most 1,024 nodes
-pub few-older : (T : Tableau) → refusalWith olderFormulas nodeRefusal T ≡ none → T .nodeRows ≤ 1024
+pub few-older : (T : Tableau) → refusalWith olderFormulas nodeRefusal T ≡ Nothing → T .nodeRows ≤ 1024
 few-older T h = older-clears T .0 h .tables .nodeLimit
 
-pub few-present : (T : Tableau) → refusalWith presentFormulas nodeRefusal T ≡ none → T .nodeRows ≤ 1024
+pub few-present : (T : Tableau) → refusalWith presentFormulas nodeRefusal T ≡ Nothing → T .nodeRows ≤ 1024
 few-present T h = tableau-clears T .0 h .older .tables .nodeLimit

@@ -4,7 +4,6 @@ use native.Mathlib.Omega.{arith}
 use mathlib.Core.Path.{_≡_, refl, sym, _∙_, ap}
 use mathlib.Core.Logic.{⊎-elim}
 use mathlib.Core.Bool.{Bool, true, false, true≢false}
-use mathlib.Core.Option.{Option, none, some, Option·some-injective, Option·none-ne-some}
 use lib.Dec.{leb, ltb}
 use borrow.Author.Tests.{leb-true, lt-ltb, ltb-true}
 use Rattle.stab.specs.Basic.{if_then_else_, _otherwise_, scan, unless, nat}
@@ -16,11 +15,11 @@ use Rattle.stab.specs.declared.Place.{Place}
 use Rattle.stab.specs.declared.Place.the-variants.{Whole, At}
 use Rattle.stab.specs.declared.Refusal.{Refusal}
 use Rattle.stab.specs.declared.Refusal.the-variants.{TableTooShort, TooMany, Root, IllFormed, TooLarge, Set, Parent, Drawn, Fields, Target, Bound, Partner, Lowered, Children}
-use Rattle.stab.specs.declared.Verdict.{Verdict}
-use Rattle.stab.specs.declared.Verdict.the-variants.{Accepted, Refused}
-use Rattle.stab.proofs.Bools.{decide, if-true, and-first-false, otherwise-none, otherwise-some}
+use Rattle.stab.specs.declared.Finding.{Finding}
+use Rattle.stab.specs.declared.Finding.the-variants.{Nothing, Found}
+use Rattle.stab.proofs.Bools.{decide, if-true, and-first-false, otherwise-nothing, otherwise-found, nothing≢found}
 use Rattle.stab.proofs.Findings.{otherwise-assoc}
-use Rattle.stab.proofs.Scans.{scan-same, scan-found, scan-first, none-scan}
+use Rattle.stab.proofs.Scans.{scan-same, scan-found, scan-first, nothing-scan}
 use Rattle.steps.specs.Judged.{nodeRefusalAs}
 use Rattle.tableau.specs.Passes.{noNodeAs, refusalAs}
 use Rattle.tableau.specs.Fresh.{atRow, rowsBefore, reached, countIn}
@@ -28,68 +27,68 @@ use Rattle.tableau.specs.Fresh.{atRow, rowsBefore, reached, countIn}
 -- ---- scans
 
 -- what is found among the first numbers is found among more
-scan-longer : (f : ℕ → Option Verdict) (m n : ℕ) (v : Verdict) → m ≤ n → scan f m ≡ some v → scan f n ≡ some v
-scan-longer f m n v l h = let k = scan-first f m v h in scan-found f n (k .0) v (omega (arith, k .1)) (k .2) (k .3)
+scan-longer : (f : ℕ → Finding) (m n : ℕ) (why : Refusal) (p : Place) → m ≤ n → scan f m ≡ Found why p → scan f n ≡ Found why p
+scan-longer f m n why p l h = let k = scan-first f m h in scan-found f n (k .0) (omega (arith, k .1)) (k .2) (k .3)
 
 -- ---- rows
 
 module _ (R : ℕ → Row) (s : ℕ) where
   -- where no row before m is refused, a repeated one is what is found
-  repeats-alone : (m : ℕ) → scan (rowRefusal R) m ≡ none → scan (freshRowRefusal R s) m ≡ scan (repeatRefusal R s) m
+  repeats-alone : (m : ℕ) → scan (rowRefusal R) m ≡ Nothing → scan (freshRowRefusal R s) m ≡ scan (repeatRefusal R s) m
   unfolding freshRowRefusal
-  repeats-alone m h = scan-same _ _ m (λ k l e. otherwise-none _ _ (none-scan (rowRefusal R) m h k l))
+  repeats-alone m h = scan-same _ _ m (λ k l e. otherwise-nothing _ _ (nothing-scan (rowRefusal R) m h k l))
 
   -- what is found at a row is 7 or 8 there
-  row-reached : (r : ℕ) (v : Verdict) → rowRefusal R r ≡ some v → (fits : Bool) (n : ℕ) → r < n → reached (some v) fits n ≡ r
+  row-reached : (r : ℕ) (why : Refusal) (p : Place) → rowRefusal R r ≡ Found why p → (fits : Bool) (n : ℕ) → r < n → reached (Found why p) fits n ≡ r
   unfolding rowRefusal atUnless unless _otherwise_ reached rowsBefore atRow if_then_else_
-  row-reached r v h fits n l = go (wellFormed R r) (smallEnough R r) h
+  row-reached r why p h fits n l = go (wellFormed R r) (smallEnough R r) h
     where
       here : (if ltb r n then r else n) ≡ r
       here = if-true (ltb r n) r n (lt-ltb r n l)
 
-      go : (a b : Bool) → (atUnless a IllFormed r otherwise atUnless b TooLarge r) ≡ some v → reached (some v) fits n ≡ r
-      go true true e = absurd (Option·none-ne-some v e)
-      go true false e = ap (λ (w : Verdict). reached (some w) fits n) (sym (Option·some-injective _ v e)) ∙ here
-      go false b e = ap (λ (w : Verdict). reached (some w) fits n) (sym (Option·some-injective _ v e)) ∙ here
+      go : (a b : Bool) → (atUnless a IllFormed r otherwise atUnless b TooLarge r) ≡ Found why p → reached (Found why p) fits n ≡ r
+      go true true e = absurd (nothing≢found e)
+      go true false e = ap (λ (x : Finding). reached x fits n) (sym e) ∙ here
+      go false b e = ap (λ (x : Finding). reached x fits n) (sym e) ∙ here
 
   -- a row is refused at r: a repeated one before it is found first
-  rows-stopped : (n r : ℕ) (v : Verdict) → r < n → scan (rowRefusal R) r ≡ none → rowRefusal R r ≡ some v → scan (freshRowRefusal R s) n ≡ (scan (repeatRefusal R s) r otherwise some v)
+  rows-stopped : (n r : ℕ) (why : Refusal) (p : Place) → r < n → scan (rowRefusal R) r ≡ Nothing → rowRefusal R r ≡ Found why p → scan (freshRowRefusal R s) n ≡ (scan (repeatRefusal R s) r otherwise Found why p)
   unfolding freshRowRefusal _otherwise_
-  rows-stopped n r v l h e = go (scan (repeatRefusal R s) r) refl
+  rows-stopped n r why p l h e = go (scan (repeatRefusal R s) r) refl
     where
-      go : (x : Option Verdict) → scan (repeatRefusal R s) r ≡ x → scan (freshRowRefusal R s) n ≡ (x otherwise some v)
-      go none d = scan-found _ n r v l (repeats-alone r h ∙ d) (otherwise-some _ _ v e)
-      go (some w) d = scan-longer _ r n w (omega arith) (repeats-alone r h ∙ d)
+      go : (x : Finding) → scan (repeatRefusal R s) r ≡ x → scan (freshRowRefusal R s) n ≡ (x otherwise Found why p)
+      go Nothing d = scan-found _ n r l (repeats-alone r h ∙ d) (otherwise-found _ _ e)
+      go (Found w q) d = scan-longer _ r n w q (omega arith) (repeats-alone r h ∙ d)
 
 -- ---- later refusals
 
 -- whatever is found comes after all rows
-record Late (x : Option Verdict) : Type 0 where
+record Late (x : Finding) : Type 0 where
   late : (n : ℕ) → reached x true n ≡ n
 
-late-whole : (t : Bool) (why : Refusal) → ((n : ℕ) → reached (some (Refused why Whole)) true n ≡ n) → Late (wholeUnless t why)
+late-whole : (t : Bool) (why : Refusal) → ((n : ℕ) → reached (Found why Whole) true n ≡ n) → Late (wholeUnless t why)
 unfolding wholeUnless unless reached
 late-whole true why h = record { late = λ n. refl }
 late-whole false why h = record { late = h }
 
-late-at : (t : Bool) (why : Refusal) (k : ℕ) → ((n : ℕ) → reached (some (Refused why (At k))) true n ≡ n) → Late (atUnless t why k)
+late-at : (t : Bool) (why : Refusal) (k : ℕ) → ((n : ℕ) → reached (Found why (At k)) true n ≡ n) → Late (atUnless t why k)
 unfolding atUnless unless reached
 late-at true why k h = record { late = λ n. refl }
 late-at false why k h = record { late = h }
 
 infixr 25 _and-late_
-_and-late_ : {x y : Option Verdict} → Late x → Late y → Late (x otherwise y)
+_and-late_ : {x y : Finding} → Late x → Late y → Late (x otherwise y)
 unfolding _otherwise_
-_and-late_ {x = none} f g = g
-_and-late_ {x = some v} f g = f
+_and-late_ {x = Nothing} f g = g
+_and-late_ {x = Found why p} f g = f
 
-late-scan : (f : ℕ → Option Verdict) (n : ℕ) → ((k : ℕ) → Late (f k)) → Late (scan f n)
+late-scan : (f : ℕ → Finding) (n : ℕ) → ((k : ℕ) → Late (f k)) → Late (scan f n)
 unfolding scan reached
 late-scan f zero h = record { late = λ m. refl }
 late-scan f (suc n) h = late-scan f n h and-late h n
 
 -- sets, parents and nodes
-rest-of : Bool → Tableau → Option Verdict
+rest-of : Bool → Tableau → Finding
 rest-of whole T =
     scan (setRefusal T) (T .nodeRows) otherwise
     noNodeAs whole T otherwise
@@ -117,7 +116,7 @@ late-rest whole T outer =
 
 module _ (whole : Bool) (T : Tableau) where
   -- what is found, by the first three tests and by what is found of the rows
-  found : Bool → Bool → Bool → Option Verdict → Option Verdict
+  found : Bool → Bool → Bool → Finding → Finding
   found held few fits x =
       wholeUnless held TableTooShort otherwise
       wholeUnless few TooMany otherwise
@@ -131,20 +130,20 @@ module _ (whole : Bool) (T : Tableau) where
   fresh-found true true false = refl
   fresh-found true true true = go (scan (rowRefusal (rows T)) (rowCount T)) refl
     where
-      absorb : (x : Option Verdict) (v : Verdict) → (((x otherwise some v) otherwise wholeUnless (isOuter (tree (rows T) (nat (T .root)))) Root) otherwise rest-of whole T) ≡ (x otherwise some v)
-      absorb none v = refl
-      absorb (some w) v = refl
+      absorb : (x : Finding) (why : Refusal) (p : Place) → (((x otherwise Found why p) otherwise wholeUnless (isOuter (tree (rows T) (nat (T .root)))) Root) otherwise rest-of whole T) ≡ (x otherwise Found why p)
+      absorb Nothing why p = refl
+      absorb (Found w q) why p = refl
 
-      go : (x : Option Verdict) → scan (rowRefusal (rows T)) (rowCount T) ≡ x → found true true true (scan (freshRowRefusal (rows T) (T .schemaRows)) (rowCount T)) ≡ (scan (repeatRefusal (rows T) (T .schemaRows)) (reached (found true true true x) true (rowCount T)) otherwise found true true true x)
-      go none e =
-          ap (λ (y : Option Verdict). (y otherwise wholeUnless (isOuter (tree (rows T) (nat (T .root)))) Root) otherwise rest-of whole T) (repeats-alone (rows T) (T .schemaRows) (rowCount T) e)
+      go : (x : Finding) → scan (rowRefusal (rows T)) (rowCount T) ≡ x → found true true true (scan (freshRowRefusal (rows T) (T .schemaRows)) (rowCount T)) ≡ (scan (repeatRefusal (rows T) (T .schemaRows)) (reached (found true true true x) true (rowCount T)) otherwise found true true true x)
+      go Nothing e =
+          ap (λ (y : Finding). (y otherwise wholeUnless (isOuter (tree (rows T) (nat (T .root)))) Root) otherwise rest-of whole T) (repeats-alone (rows T) (T .schemaRows) (rowCount T) e)
           ∙ otherwise-assoc (scan (repeatRefusal (rows T) (T .schemaRows)) (rowCount T)) (wholeUnless (isOuter (tree (rows T) (nat (T .root)))) Root) (rest-of whole T)
           ∙ ap (λ (m : ℕ). scan (repeatRefusal (rows T) (T .schemaRows)) m otherwise (wholeUnless (isOuter (tree (rows T) (nat (T .root)))) Root otherwise rest-of whole T)) (sym (late-rest whole T (isOuter (tree (rows T) (nat (T .root)))) .late (rowCount T)))
-      go (some v) e =
-          let k = scan-first (rowRefusal (rows T)) (rowCount T) v e in
-          ap (λ (y : Option Verdict). (y otherwise wholeUnless (isOuter (tree (rows T) (nat (T .root)))) Root) otherwise rest-of whole T) (rows-stopped (rows T) (T .schemaRows) (rowCount T) (k .0) v (k .1) (k .2) (k .3))
-          ∙ absorb (scan (repeatRefusal (rows T) (T .schemaRows)) (k .0)) v
-          ∙ ap (λ (m : ℕ). scan (repeatRefusal (rows T) (T .schemaRows)) m otherwise some v) (sym (row-reached (rows T) (T .schemaRows) (k .0) v (k .3) true (rowCount T) (k .1)))
+      go (Found why p) e =
+          let k = scan-first (rowRefusal (rows T)) (rowCount T) e in
+          ap (λ (y : Finding). (y otherwise wholeUnless (isOuter (tree (rows T) (nat (T .root)))) Root) otherwise rest-of whole T) (rows-stopped (rows T) (T .schemaRows) (rowCount T) (k .0) why p (k .1) (k .2) (k .3))
+          ∙ absorb (scan (repeatRefusal (rows T) (T .schemaRows)) (k .0)) why p
+          ∙ ap (λ (m : ℕ). scan (repeatRefusal (rows T) (T .schemaRows)) m otherwise Found why p) (sym (row-reached (rows T) (T .schemaRows) (k .0) why p (k .3) true (rowCount T) (k .1)))
 
 -- the check's finding, by the older check's
 pub present-is : (whole : Bool) (T : Tableau) → refusalAs whole presentFormulas T ≡ (scan (repeatRefusal (rows T) (T .schemaRows)) (reached (refusalAs whole olderFormulas T) (rootFits (T .schemaRows) (T .root) (T .least)) (rowCount T)) otherwise refusalAs whole olderFormulas T)
@@ -152,7 +151,7 @@ unfolding refusalAs refusalBy presentFormulas olderFormulas formulasRefusal form
 present-is whole T = fresh-found whole T (tablesHold T) (withinLimits T) (rootFits (T .schemaRows) (T .root) (T .least))
 
 -- more rows than are allowed are refused before any row is looked at, so that their count does not matter then
-none-reached : (held few fits : Bool) (rest : Option Verdict) (n : ℕ) → few ≡ false → reached (wholeUnless held TableTooShort otherwise wholeUnless few TooMany otherwise rest) fits n ≡ 0
+none-reached : (held few fits : Bool) (rest : Finding) (n : ℕ) → few ≡ false → reached (wholeUnless held TableTooShort otherwise wholeUnless few TooMany otherwise rest) fits n ≡ 0
 unfolding wholeUnless unless _otherwise_ reached rowsBefore if_then_else_
 none-reached true true fits rest n h = absurd (true≢false h)
 none-reached true false fits rest n h = refl
@@ -178,11 +177,10 @@ count-few s p = go (leb (s + p) 1024) refl
     go true e = leb-true (s + p) 1024 e
     go false e = omega arith
 
-pub reached-few : (x : Option Verdict) (fits : Bool) (n : ℕ) → reached x fits n ≤ n
+pub reached-few : (x : Finding) (fits : Bool) (n : ℕ) → reached x fits n ≤ n
 unfolding reached rowsBefore if_then_else_ atRow
-reached-few none fits n = omega arith
-reached-few (some (Accepted nodes links)) fits n = omega arith
-reached-few (some (Refused why p)) fits n = go (leb (refusalNumber why) 5) (leb (refusalNumber why) 6) (leb (refusalNumber why) 8) fits p
+reached-few Nothing fits n = omega arith
+reached-few (Found why p) fits n = go (leb (refusalNumber why) 5) (leb (refusalNumber why) 6) (leb (refusalNumber why) 8) fits p
   where
     row : (t : Bool) (r : ℕ) → ltb r n ≡ t → (if t then r else n) ≤ n
     row true r e = omega (arith, ltb-true r n e)

@@ -1,14 +1,13 @@
 -- How many formula rows come before what the older check found: among these a repeated proof row is found first.
 use Prim.Native.Nat.{ℕ, _+_}
 use mathlib.Core.Bool.{Bool}
-use mathlib.Core.Option.{Option, none, some}
 use lib.Dec.{ltb, leb}
 use Rattle.stab.specs.Basic.{if_then_else_}
 use Rattle.stab.specs.Answer.{refusalNumber}
 use Rattle.stab.specs.declared.Place.{Place}
 use Rattle.stab.specs.declared.Place.the-variants.{Whole, At}
-use Rattle.stab.specs.declared.Verdict.{Verdict}
-use Rattle.stab.specs.declared.Verdict.the-variants.{Accepted, Refused}
+use Rattle.stab.specs.declared.Finding.{Finding}
+use Rattle.stab.specs.declared.Finding.the-variants.{Nothing, Found}
 
 -- the rows before a place, of n
 unfoldable pub atRow : Place → ℕ → ℕ
@@ -24,10 +23,9 @@ rowsBefore k p fits n =
     if leb k 8 then atRow p n else
     n
 
-unfoldable pub reached : Option Verdict → Bool → ℕ → ℕ
-reached none fits n = n
-reached (some (Accepted nodes links)) fits n = n
-reached (some (Refused why p)) fits n = rowsBefore (refusalNumber why) p fits n
+unfoldable pub reached : Finding → Bool → ℕ → ℕ
+reached Nothing fits n = n
+reached (Found why p) fits n = rowsBefore (refusalNumber why) p fits n
 
 -- the number of rows, where it is within the limits
 unfoldable pub countIn : ℕ → ℕ → ℕ

@@ -6,15 +6,15 @@ use stab::Refusal;
 use stab::Verdict;
 ghost use mathlib.Core.Path.{_≡_};
 ghost use Prim.Native.Nat.{ℕ, _+_, _*_, _≤_};
-ghost use mathlib.Core.Option.{none};
 ghost use lib.Dec.{leb, ltb};
 ghost use lib.ListN.{length};
 ghost use Rattle.stab.specs.Basic.{if_then_else_, _and_, _implies_, count, _otherwise_, scan};
 ghost use Rattle.stab.specs.Formula.{formulaRows};
-ghost use Rattle.stab.specs.Check.{finding, holds, repeatRefusal, rootFits, olderFormulas, isLink, verdict, checkOlder, checkAs};
+ghost use Rattle.stab.specs.Check.{holds, repeatRefusal, rootFits, olderFormulas, isLink, verdict, checkOlder, checkAs};
 ghost use Rattle.stab.specs.Check.{check as checked};
 ghost use Rattle.stab.specs.Refuted.{Refuted};
 ghost use Rattle.stab.specs.declared.Verdict.the-variants.{Accepted};
+ghost use Rattle.stab.specs.declared.Finding.the-variants.{Nothing, Found};
 ghost use Rattle.formula.specs.Facts.{AllKnown, AllFormed};
 ghost use Rattle.classes.specs.Class.{AllWorked as AllClassed};
 ghost use Rattle.classes.specs.Agreed.{Remembers};
@@ -89,7 +89,7 @@ fn nodes_pass(
 ) -> Finding
     requires { ⌜ (s + p ≤ 1024) × (4 * (s + p) ≤ length (now facts)) × (k ≤ 1024) × (m ≤ length (now members)) ⌝ }
     requires { ⌜ AllKnown (formulaRows (now schema) s (now proof)) (now facts) (s + p) ⌝ }
-    ensures { λ r. ⌜ finding r ≡ nodesRefusal whole (tableau (now (schema .entry)) s (now (proof .entry)) p root least (now (nodes .entry)) k (now (members .entry)) m) ⌝ }
+    ensures { λ r. ⌜ r ≡ nodesRefusal whole (tableau (now (schema .entry)) s (now (proof .entry)) p root least (now (nodes .entry)) k (now (members .entry)) m) ⌝ }
 {
     let found = sets::sets(facts, s + p, nodes, k, members, m);
     let Finding::Nothing = found else {
@@ -130,8 +130,8 @@ fn passes(
     m: usize,
 ) -> Finding
     requires { ⌜ (s + p ≤ 1024) × (4 * (s + p) ≤ length (now facts)) × (k ≤ 1024) × (m ≤ length (now members)) ⌝ }
-    ensures { λ r. ⌜ finding r ≡ (rowsRefusal (tableau (now (schema .entry)) s (now (proof .entry)) p root least (now (nodes .entry)) k (now (members .entry)) m) otherwise nodesRefusal whole (tableau (now (schema .entry)) s (now (proof .entry)) p root least (now (nodes .entry)) k (now (members .entry)) m)) ⌝ }
-    ensures { λ r. ⌜ (finding r ≡ none → AllKnown (formulaRows (now (schema .entry)) s (now (proof .entry))) (now (facts .exit)) (s + p) × AllFormed (formulaRows (now (schema .entry)) s (now (proof .entry))) (s + p)) ⌝ }
+    ensures { λ r. ⌜ r ≡ (rowsRefusal (tableau (now (schema .entry)) s (now (proof .entry)) p root least (now (nodes .entry)) k (now (members .entry)) m) otherwise nodesRefusal whole (tableau (now (schema .entry)) s (now (proof .entry)) p root least (now (nodes .entry)) k (now (members .entry)) m)) ⌝ }
+    ensures { λ r. ⌜ (r ≡ Nothing → AllKnown (formulaRows (now (schema .entry)) s (now (proof .entry))) (now (facts .exit)) (s + p) × AllFormed (formulaRows (now (schema .entry)) s (now (proof .entry))) (s + p)) ⌝ }
 {
     let found = formula::rows::formulas(schema, s, proof, s + p, root, least, facts);
     let Finding::Nothing = found else {
@@ -174,19 +174,19 @@ fn single_steps(
 ) -> Finding
     requires { ⌜ (s + p ≤ 1024) × (4 * (s + p) ≤ length (now forms)) × (2 * (s + p) ≤ length (now sides)) × (k ≤ 1024) × (m ≤ 8192) × (9 * k ≤ length (now nodes)) × (m ≤ length (now members)) × (4 * k ≤ length (now work)) ⌝ }
     requires { ⌜ AllKnown (formulaRows (now schema) s (now proof)) (now facts) (s + p) × AllFormed (formulaRows (now schema) s (now proof)) (s + p) ⌝ }
-    requires { ⌜ (rowsRefusal (tableau (now schema) s (now proof) p root least (now nodes) k (now members) m) otherwise nodesRefusal whole (tableau (now schema) s (now proof) p root least (now nodes) k (now members) m)) ≡ none ⌝ }
+    requires { ⌜ (rowsRefusal (tableau (now schema) s (now proof) p root least (now nodes) k (now members) m) otherwise nodesRefusal whole (tableau (now schema) s (now proof) p root least (now nodes) k (now members) m)) ≡ Nothing ⌝ }
     requires { ⌜ Remembers (formulaRows (now schema) s (now proof)) (now agreed) × (s + p ≤ length (now agreed)) ⌝ }
-    ensures { λ r. ⌜ finding r ≡ scan (nodeRefusalAs whole (tableau (now (schema .entry)) s (now (proof .entry)) p root least (now (nodes .entry)) k (now (members .entry)) m)) k ⌝ }
+    ensures { λ r. ⌜ r ≡ scan (nodeRefusalAs whole (tableau (now (schema .entry)) s (now (proof .entry)) p root least (now (nodes .entry)) k (now (members .entry)) m)) k ⌝ }
 {
     bounds::work_out(nodes, k, least, work);
     classify(schema, s, proof, s + p, forms, sides);
     let h = Header {
-        schema: s,
-        proof: p,
+        schema_rows: s,
+        proof_rows: p,
         root,
         least,
-        nodes: k,
-        members: m,
+        node_rows: k,
+        member_count: m,
     };
     steps::steps::each_node(
         whole,
@@ -217,7 +217,7 @@ fn small_record(
     m: usize,
 ) -> Finding
     requires { ⌜ (s + p ≤ 256) × (k ≤ 256) × (m ≤ 8192) × (9 * k ≤ length (now nodes)) × (m ≤ length (now members)) ⌝ }
-    ensures { λ r. ⌜ finding r ≡ ((rowsRefusal (tableau (now (schema .entry)) s (now (proof .entry)) p root least (now (nodes .entry)) k (now (members .entry)) m) otherwise nodesRefusal whole (tableau (now (schema .entry)) s (now (proof .entry)) p root least (now (nodes .entry)) k (now (members .entry)) m)) otherwise scan (nodeRefusalAs whole (tableau (now (schema .entry)) s (now (proof .entry)) p root least (now (nodes .entry)) k (now (members .entry)) m)) k) ⌝ }
+    ensures { λ r. ⌜ r ≡ ((rowsRefusal (tableau (now (schema .entry)) s (now (proof .entry)) p root least (now (nodes .entry)) k (now (members .entry)) m) otherwise nodesRefusal whole (tableau (now (schema .entry)) s (now (proof .entry)) p root least (now (nodes .entry)) k (now (members .entry)) m)) otherwise scan (nodeRefusalAs whole (tableau (now (schema .entry)) s (now (proof .entry)) p root least (now (nodes .entry)) k (now (members .entry)) m)) k) ⌝ }
 {
     let mut facts = [0u32; 1024];
     let found = passes(
@@ -276,7 +276,7 @@ fn large_record(
     m: usize,
 ) -> Finding
     requires { ⌜ (s + p ≤ 1024) × (k ≤ 1024) × (m ≤ 8192) × (9 * k ≤ length (now nodes)) × (m ≤ length (now members)) ⌝ }
-    ensures { λ r. ⌜ finding r ≡ ((rowsRefusal (tableau (now (schema .entry)) s (now (proof .entry)) p root least (now (nodes .entry)) k (now (members .entry)) m) otherwise nodesRefusal whole (tableau (now (schema .entry)) s (now (proof .entry)) p root least (now (nodes .entry)) k (now (members .entry)) m)) otherwise scan (nodeRefusalAs whole (tableau (now (schema .entry)) s (now (proof .entry)) p root least (now (nodes .entry)) k (now (members .entry)) m)) k) ⌝ }
+    ensures { λ r. ⌜ r ≡ ((rowsRefusal (tableau (now (schema .entry)) s (now (proof .entry)) p root least (now (nodes .entry)) k (now (members .entry)) m) otherwise nodesRefusal whole (tableau (now (schema .entry)) s (now (proof .entry)) p root least (now (nodes .entry)) k (now (members .entry)) m)) otherwise scan (nodeRefusalAs whole (tableau (now (schema .entry)) s (now (proof .entry)) p root least (now (nodes .entry)) k (now (members .entry)) m)) k) ⌝ }
 {
     let mut facts = [0u32; 4096];
     let found = passes(
@@ -334,7 +334,7 @@ fn first_refusal(
     members: &[i32],
     m: usize,
 ) -> Finding
-    ensures { λ r. ⌜ finding r ≡ refusalAs whole olderFormulas (tableau (now (schema .entry)) s (now (proof .entry)) p root least (now (nodes .entry)) k (now (members .entry)) m) ⌝ }
+    ensures { λ r. ⌜ r ≡ refusalAs whole olderFormulas (tableau (now (schema .entry)) s (now (proof .entry)) p root least (now (nodes .entry)) k (now (members .entry)) m) ⌝ }
 {
     if !hold(schema, s, proof, p, nodes, k, members, m) {
         return Finding::Found {
@@ -399,7 +399,7 @@ fn rows_if(fits: bool, n: usize) -> usize
 
 // How many of n formula rows come before what was found.
 fn rows_reached(found: Finding, fits: bool, n: usize) -> usize
-    ensures { λ r. ⌜ r ≡ reached (finding found) fits n ⌝ }
+    ensures { λ r. ⌜ r ≡ reached (found) fits n ⌝ }
 {
     let Finding::Found { why, place } = found else {
         return n;
@@ -437,7 +437,7 @@ fn fresh(
     root: i32,
     least: i32,
 ) -> Finding
-    ensures { λ r. ⌜ finding r ≡ (scan (repeatRefusal (formulaRows (now (schema .entry)) s (now (proof .entry))) s) (reached (finding found) (rootFits s root least) (countIn s p)) otherwise finding found) ⌝ }
+    ensures { λ r. ⌜ r ≡ (scan (repeatRefusal (formulaRows (now (schema .entry)) s (now (proof .entry))) s) (reached (found) (rootFits s root least) (countIn s p)) otherwise found) ⌝ }
 {
     let fits = formula::rows::root_fits(s, root, least);
     let n = rows_reached(found, fits, count_in(s, p));
@@ -461,7 +461,7 @@ pub fn held(
     members: &[i32],
     member_count: usize,
 ) -> Finding
-    ensures { λ r. ⌜ finding r ≡ heldRefusal (tableau (now (schema .entry)) «schema_rows» (now (proof .entry)) «proof_rows» root least (now (nodes .entry)) «node_rows» (now (members .entry)) «member_count») ⌝ }
+    ensures { λ r. ⌜ r ≡ heldRefusal (tableau (now (schema .entry)) «schema_rows» (now (proof .entry)) «proof_rows» root least (now (nodes .entry)) «node_rows» (now (members .entry)) «member_count») ⌝ }
 {
     let found = first_refusal(
         false,
@@ -481,8 +481,8 @@ pub fn held(
 
 // The verdict on what was found in a record of k nodes.
 fn verdict_on(found: Finding, nodes: &[i32], k: usize) -> Verdict
-    requires { ⌜ (finding found ≡ none → k ≤ 1024) ⌝ }
-    ensures { λ r. ⌜ r ≡ verdict (finding found) (Accepted k (count (isLink (now (nodes .entry))) k)) ⌝ }
+    requires { ⌜ (found ≡ Nothing → k ≤ 1024) ⌝ }
+    ensures { λ r. ⌜ r ≡ verdict (found) (Accepted k (count (isLink (now (nodes .entry))) k)) ⌝ }
 {
     match found {
         Finding::Found { why, place } => Verdict::Refused { why, place },

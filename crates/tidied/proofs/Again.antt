@@ -5,11 +5,11 @@ use mathlib.Core.Path.{_≡_, refl, sym, _∙_, ap, ap₂, subst}
 use mathlib.Core.Logic.{_⊎_, inl, inr, ⊎-elim, _≢_}
 use mathlib.Core.Bool.{Bool, true, false}
 use mathlib.Core.List.{List, [], _∷_, _++_, append-assoc, List·Memᴰ}
-use mathlib.Core.Option.{Option, none, some}
+use mathlib.Core.Option.{none}
 use lib.IntN.{ℤ, pos}
 use lib.ListN.{length, getD, take, length-append}
 use lib.Seq.{take-suc, take-all}
-use Rattle.stab.specs.Basic.{if_then_else_, eqZ, nat, scan}
+use Rattle.stab.specs.Basic.{if_then_else_, eqZ, nat}
 use Rattle.stab.specs.Formula.{Row, rowAt, formulaRows, wellFormed}
 use Rattle.stab.specs.Node.{Tableau, Node, rows, rowCount, node, set}
 use Rattle.stab.specs.Rule.{unused, rule}
@@ -20,7 +20,8 @@ use Rattle.stab.proofs.Bools.{decide, if-false}
 use Rattle.stab.proofs.Whole.{eqZ-true, eqZ-of, not-eqZ}
 use Rattle.stab.proofs.Trees.{below-nat, below-pos}
 use Rattle.stab.proofs.Tests.{below-tests, same-row-tests}
-use Rattle.stab.proofs.Scans.{below-suc, scan-none}
+use Rattle.stab.proofs.Scans.{below-suc}
+use Rattle.stab.proofs.Firsts.{search-none}
 use Rattle.stab.proofs.Formed.{formed-tests}
 use Rattle.stab.proofs.Exactness.{older-accepts-exactly}
 use Rattle.tidied.specs.Tidied.{through, renumbered, columns, Folding, newNumber, earliest, foldedInto, foldRow, foldNext, folding, foldingOf, newOf, tidySet, tidyMembers, tidyNode, tidyNodes, tidied}
@@ -35,7 +36,7 @@ use Rattle.tidied.proofs.Tidying.{KeepsRules, rules-of, rules-kept, tid
 none-earliest : (rows : ℕ → Row) (w : Row) (n : ℕ) → ((q : ℕ) → q < n → rows q ≢ w) → earliest rows n w ≡ none
 unfolding earliest
 none-earliest rows w n h =
-    scan-none _ n (λ q l. if-false (sameRow (rows q) w) _ _ (go q l (decide (sameRow (rows q) w))))
+    search-none _ n (λ q l. if-false (sameRow (rows q) w) _ _ (go q l (decide (sameRow (rows q) w))))
   where
     go : (q : ℕ) → q < n → (sameRow (rows q) w ≡ true) ⊎ (sameRow (rows q) w ≡ false) → sameRow (rows q) w ≡ false
     go q l (inl e) = absurd (h q l (same-row-tests (rows q) w .0 e))

@@ -5,18 +5,19 @@ use mathlib.Core.Path.{_≡_, refl, sym, _∙_, ap, ap₂, subst}
 use mathlib.Core.Logic.{_⊎_, inl, inr, ⊎-elim, _≢_}
 use mathlib.Core.Bool.{Bool, true, false, false≢true, true≢false}
 use mathlib.Core.List.{List, [], _∷_, _++_}
-use mathlib.Core.Option.{Option, none, some, Option·none-ne-some}
+use mathlib.Core.Option.{Option, none, some, orElse, Option·none-ne-some}
 use lib.Dec.{ltb}
 use lib.IntN.{ℤ, pos}
 use lib.ListN.{length, getD, take, length-append, List·getD-append}
 use lib.Seq.{getD-append-add, getD-at, getD-take}
 use borrow.Author.Tests.{lt-ltb, ltb-true, ltb-false}
-use Rattle.stab.specs.Basic.{if_then_else_, nat, below, _otherwise_, scan}
+use Rattle.stab.specs.Basic.{if_then_else_, nat, below, first}
 use Rattle.stab.specs.Formula.{Row, rowAt, formulaRows, Op, Kind, constant, literal, junction, iteration, unknown, kindOf, wellFormedAs, wellFormed}
 use Rattle.stab.specs.Check.{sameRow}
 use Rattle.stab.proofs.Bools.{decide, and-left, and-right, if-true, if-false}
 use Rattle.stab.proofs.Trees.{below-nat}
-use Rattle.stab.proofs.Scans.{below-suc, none-scan, scan-same}
+use Rattle.stab.proofs.Scans.{below-suc}
+use Rattle.stab.proofs.Firsts.{none-search, search-same}
 use Rattle.stab.proofs.Tests.{same-row-tests}
 use Rattle.stab.proofs.Whole.{pos-injective}
 use Rattle.stab.proofs.Decoded.{formed-as}
@@ -29,12 +30,12 @@ module _ (rows : ℕ → Row) (w : Row) where
   pub earliest-none : (n : ℕ) → earliest rows n w ≡ none → (q : ℕ) → q < n → rows q ≢ w
   unfolding earliest
   earliest-none n h q l e =
-      Option·none-ne-some q (sym (none-scan (λ r. if sameRow (rows r) w then some r else none) n h q l) ∙ if-true (sameRow (rows q) w) _ _ (same-row-tests (rows q) w .1 e))
+      Option·none-ne-some q (sym (none-search (λ r. if sameRow (rows r) w then some r else none) n h q l) ∙ if-true (sameRow (rows q) w) _ _ (same-row-tests (rows q) w .1 e))
 
   pub earliest-some : (n q : ℕ) → earliest rows n w ≡ some q → (q < n) × (rows q ≡ w)
-  unfolding earliest scan _otherwise_ if_then_else_
+  unfolding earliest first orElse if_then_else_
   earliest-some zero q h = absurd (Option·none-ne-some q h)
-  earliest-some (suc n) q h = go (scan (λ r. if sameRow (rows r) w then some r else none) n) (earliest-some n q) h
+  earliest-some (suc n) q h = go (first (λ r. if sameRow (rows r) w then some r else none) n) (earliest-some n q) h
     where
       last : (t : Bool) → sameRow (rows n) w ≡ t → (if t then some n else none) ≡ some q → (q < suc n) × (rows q ≡ w)
       last true e d =
@@ -42,7 +43,7 @@ module _ (rows : ℕ → Row) (w : Row) where
           (omega arith, subst (λ (x : ℕ). rows x ≡ w) m (same-row-tests (rows n) w .0 e))
       last false e d = absurd (Option·none-ne-some q d)
 
-      go : (x : Option ℕ) → (x ≡ some q → (q < n) × (rows q ≡ w)) → (x otherwise (if sameRow (rows n) w then some n else none)) ≡ some q → (q < suc n) × (rows q ≡ w)
+      go : (x : Option ℕ) → (x ≡ some q → (q < n) × (rows q ≡ w)) → orElse x (if sameRow (rows n) w then some n else none) ≡ some q → (q < suc n) × (rows q ≡ w)
       go none ih d = last (sameRow (rows n) w) refl d
       go (some a) ih d = let p = ih d in (omega (arith, p .0), p .1)
 
@@ -351,7 +352,7 @@ module _ (schema schema′ : List ℤ) (s : ℕ) (same : (r : ℕ) → r < s →
   row-same : (w : Row) (F : Folding) → foldRow schema s w F ≡ foldRow schema′ s w F
   unfolding foldRow earliest
   row-same w F =
-      ap (foldedInto s F w) (scan-same _ _ (s + F .count) (λ k l _. ap (λ (v : Row). if sameRow v w then some k else none) (formula-rows-same (F .table) k)))
+      ap (foldedInto s F w) (search-same _ _ (s + F .count) (λ k l. ap (λ (v : Row). if sameRow v w then some k else none) (formula-rows-same (F .table) k)))
 
   pub folding-agrees : (proof proof′ : List ℤ) (n : ℕ) → ((k : ℕ) → k < n → rowAt proof k ≡ rowAt proof′ k) → folding schema s proof n ≡ folding schema′ s proof′ n
   unfolding folding foldNext

@@ -20,7 +20,7 @@ use Rattle.stab.specs.declared.Refusal.the-variants.{TableTooShort}
 use Rattle.stab.specs.declared.Verdict.{Verdict}
 use Rattle.stab.specs.declared.Verdict.the-variants.{Accepted, Refused}
 use Rattle.stab.specs.declared.ProofRead.the-variants.{Proof, Refused as ProofRefused}
-use Rattle.stab.proofs.Bools.{none-unless, some-unless}
+use Rattle.stab.proofs.Bools.{nothing-unless, found-unless}
 use Rattle.stab.proofs.Packed.{older-packs}
 use Rattle.stab.specs.Entry.{ProofFits}
 use Rattle.stab.proofs.Exactness.{accepts-exactly, older-accepts-exactly}
@@ -36,7 +36,7 @@ Full R = (leb 4096 (R .rows) and leb 9216 (R .nodes) and leb 8192 (R .members)) 
 
 full-verdict : (R : Rooms) (T : Tableau) → Full R → tidyVerdict R T ≡ checkOlder T
 unfolding tidyVerdict atUnless verdict
-full-verdict R T h = ap (λ x. verdict x (checkOlder T)) (none-unless _ (Refused TableTooShort (At 0)) h)
+full-verdict R T h = ap (λ x. verdict x (checkOlder T)) (nothing-unless _ _ _ h)
 
 -- "A record refused by the older entry is refused with that number and place."
 pub older-refused : (R : Rooms) (T : Tableau) (why : Refusal) (p : Place) → Full R → checkOlder T ≡ Refused why p → tidy R T ≡ ProofRefused why p
@@ -108,7 +108,7 @@ module _ (R : Rooms) (T : Tableau) (n l : ℕ) (full : Full R) (older : checkOld
 -- a result table that is too short comes first
 pub short-first : (R : Rooms) (T : Tableau) → (leb 4096 (R .rows) and leb 9216 (R .nodes) and leb 8192 (R .members)) ≡ false → tidy R T ≡ ProofRefused TableTooShort (At 0)
 unfolding tidy tidyAnswer tidyVerdict atUnless verdict
-short-first R T h = ap (λ x. tidyAnswer (verdict x (checkOlder T)) (tidied T)) (some-unless _ (Refused TableTooShort (At 0)) h)
+short-first R T h = ap (λ x. tidyAnswer (verdict x (checkOlder T)) (tidied T)) (found-unless _ _ _ h)
 
 -- after a refusal all that was lent is 0
 pub refused-zeros : (R : Rooms) (T : Tableau) (why : Refusal) (p : Place) → tidyVerdict R T ≡ Refused why p → (tidyProof R T ≡ padded (pos 0) (R .rows) []) × (tidyNodeTable R T ≡ padded (pos 0) (R .nodes) []) × (tidyMemberTable R T ≡ padded (pos 0) (R .members) [])
@@ -126,7 +126,7 @@ tidy-packs : (R : Rooms) (T : Tableau) → Packs (tidyVerdict R T)
 unfolding tidyVerdict atUnless verdict unless
 tidy-packs R T = by (leb 4096 (R .rows) and leb 9216 (R .nodes) and leb 8192 (R .members))
   where
-    by : (b : Bool) → Packs (verdict (unless b (Refused TableTooShort (At 0))) (checkOlder T))
+    by : (b : Bool) → Packs (verdict (unless b TableTooShort (At 0)) (checkOlder T))
     by true = older-packs T
     by false = omega arith
 
@@ -135,7 +135,7 @@ tidy-accepts : (R : Rooms) (T : Tableau) (n l : ℕ) → tidyVerdict R T ≡ Acc
 unfolding tidyVerdict atUnless verdict unless
 tidy-accepts R T n l e = by (leb 4096 (R .rows) and leb 9216 (R .nodes) and leb 8192 (R .members)) e
   where
-    by : (b : Bool) → verdict (unless b (Refused TableTooShort (At 0))) (checkOlder T) ≡ Accepted n l → checkOlder T ≡ Accepted n l
+    by : (b : Bool) → verdict (unless b TableTooShort (At 0)) (checkOlder T) ≡ Accepted n l → checkOlder T ≡ Accepted n l
     by true d = d
     by false d = let z : _≡_ {A = ℕ} 0 1 = cc in absurd (omega arith)
 

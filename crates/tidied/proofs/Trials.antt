@@ -4,7 +4,8 @@ use Prim.Native.Nat.{ℕ}
 use mathlib.Core.Path.{_≡_, refl}
 use mathlib.Core.List.{List, [], _∷_}
 use lib.IntN.{ℤ, pos, negsuc}
-use Rattle.stab.specs.Basic.{if_then_else_, _and_, eqZ, nat, _otherwise_, scan}
+use mathlib.Core.Option.{orElse}
+use Rattle.stab.specs.Basic.{if_then_else_, _and_, eqZ, nat, first}
 use Rattle.stab.specs.Formula.{rowAt, formulaRows, kindOf}
 use Rattle.stab.specs.Node.{Tableau, nodeAt, node, setOf, set}
 use Rattle.stab.specs.Check.{sameRow}
@@ -43,10 +44,10 @@ record-before = record {
 
 -- rows 3, 5 and 8 stay, as rows 3, 4 and 5
 folded-rows : foldingOf record-before ≡ record { table = row (pos 2) (pos 1) (pos 1) (pos 0) (row (pos 4) (pos 0) (pos 3) (pos 0) (row (pos 5) (pos 4) (pos 0) (pos 0) [])); count = 3; numbers = 3 ∷ 3 ∷ 4 ∷ 4 ∷ 0 ∷ 5 ∷ [] }
-unfolding record-before row foldingOf folding foldNext foldRow foldedInto earliest newNumber renumbered renumberedAs through columns rowAt formulaRows kindOf sameRow if_then_else_ _and_ eqZ nat scan _otherwise_
+unfolding record-before row foldingOf folding foldNext foldRow foldedInto earliest newNumber renumbered renumberedAs through columns rowAt formulaRows kindOf sameRow if_then_else_ _and_ eqZ nat first orElse
 folded-rows = refl
 
 -- of 3, 4, 7 and 8 the set keeps 0, 3 and 5; on, with and other go through; -1, up and to stay
 tidied-record : (tidied record-before .nodes ≡ nodeRow none (pos 0) (pos 2) none none none (pos 0) (pos 0) (pos 1) (nodeRow (pos 0) (pos 6) (pos 0) (pos 3) (pos 5) none (pos 0) (pos 1) (pos 3) [])) × (tidied record-before .members ≡ pos 2 ∷ pos 0 ∷ pos 3 ∷ pos 5 ∷ []) × (tidied record-before .memberCount ≡ 4)
-unfolding record-before row none tidied tidyNodes tidyNode tidyMembers tidySet insertMember newOf foldingOf folding foldNext foldRow foldedInto earliest newNumber renumbered renumberedAs through columns rowAt formulaRows kindOf sameRow nodeAt node setOf set if_then_else_ _and_ eqZ nat scan _otherwise_
+unfolding record-before row none tidied tidyNodes tidyNode tidyMembers tidySet insertMember newOf foldingOf folding foldNext foldRow foldedInto earliest newNumber renumbered renumberedAs through columns rowAt formulaRows kindOf sameRow nodeAt node setOf set if_then_else_ _and_ eqZ nat first orElse
 tidied-record = (refl, refl, refl)

@@ -1,7 +1,6 @@
 -- 02, No. 10: what the tool answers, and what it leaves in lent memory.
 use Prim.Native.Nat.{ℕ}
 use mathlib.Core.List.{List, []}
-use mathlib.Core.Option.{Option, none, some}
 use lib.Dec.{leb}
 use lib.IntN.{ℤ, pos}
 use Rattle.stab.specs.Basic.{_and_}

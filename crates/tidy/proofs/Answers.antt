@@ -3,7 +3,6 @@ use Prim.Native.Nat.{ℕ}
 use mathlib.Core.Path.{_≡_, sym, _∙_, ap}
 use mathlib.Core.Bool.{true, false}
 use mathlib.Core.List.{List, []}
-use mathlib.Core.Option.{Option}
 use lib.Dec.{leb}
 use lib.IntN.{ℤ, pos}
 use lib.ListN.{length}
@@ -19,7 +18,8 @@ use Rattle.stab.specs.declared.Verdict.{Verdict}
 use Rattle.stab.specs.declared.Verdict.the-variants.{Accepted, Refused}
 use Rattle.stab.specs.declared.ProofRead.{ProofRead}
 use Rattle.stab.specs.declared.ProofRead.the-variants.{Proof, Refused as ProofRefused}
-use Rattle.stab.proofs.Bools.{none-unless, some-unless}
+use Rattle.stab.specs.declared.Finding.{Finding}
+use Rattle.stab.proofs.Bools.{nothing-unless, found-unless}
 use Rattle.tidied.specs.Tidied.{foldingOf, newOf, tidyMembers, tidyNodes, tidied}
 use Rattle.tidied.specs.Tidy.{Rooms, tidyVerdict, tidyAnswer, tidy, tidyTableBy, tidyProof, tidyNodeTable, tidyMemberTable}
 use Rattle.tidy.specs.Kept.{bare}
@@ -35,11 +35,11 @@ module _ (R : Rooms) (T : Tableau) where
 
   verdict-short : (leb 4096 (R .rows) and leb 9216 (R .nodes) and leb 8192 (R .members)) ≡ false → tidyVerdict R T ≡ Refused TableTooShort (At 0)
   unfolding tidyVerdict atUnless verdict
-  verdict-short h = ap (λ (o : Option Verdict). verdict o (checkOlder T)) (some-unless _ (Refused TableTooShort (At 0)) h)
+  verdict-short h = ap (λ (o : Finding). verdict o (checkOlder T)) (found-unless _ _ _ h)
 
   verdict-older : (leb 4096 (R .rows) and leb 9216 (R .nodes) and leb 8192 (R .members)) ≡ true → tidyVerdict R T ≡ checkOlder T
   unfolding tidyVerdict atUnless verdict
-  verdict-older h = ap (λ (o : Option Verdict). verdict o (checkOlder T)) (none-unless _ (Refused TableTooShort (At 0)) h)
+  verdict-older h = ap (λ (o : Finding). verdict o (checkOlder T)) (nothing-unless _ _ _ h)
 
   -- ---- a refusal
 

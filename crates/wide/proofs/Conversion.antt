@@ -4,7 +4,6 @@ use native.Mathlib.Omega.{arith}
 use mathlib.Core.Path.{_≡_, refl, sym, _∙_, ap, ap₂}
 use mathlib.Core.Logic.{_↔_, Iff·trans, _⊎_, inl, inr, ⊎-elim}
 use mathlib.Core.Bool.{Bool, true, false, not}
-use mathlib.Core.Option.{Option, none, some}
 use lib.IntN.{ℤ, pos}
 use lib.ListN.{length}
 use Rattle.stab.specs.Basic.{nat, below, within, _otherwise_, scan, unless}
@@ -12,10 +11,10 @@ use Rattle.stab.specs.Formula.{Row, rowAt, Formula, tree, isOuter, wellFormed, 
 use Rattle.stab.specs.Meaning.{Assignment, value, signed, truth}
 use Rattle.stab.specs.Check.{wholeUnless, atUnless, holds, rowRefusal, rootFits, formulasBy, formulasRefusal}
 use Rattle.stab.specs.declared.Refusal.the-variants.{TableTooShort, TooMany, Root, IllFormed, TooLarge, Plain}
-use Rattle.stab.specs.declared.Verdict.{Verdict}
-use Rattle.stab.specs.declared.Verdict.the-variants.{Refused}
 use Rattle.stab.specs.declared.Place.the-variants.{Whole}
-use Rattle.stab.proofs.Bools.{otherwise-none, otherwise-some}
+use Rattle.stab.specs.declared.Finding.{Finding}
+use Rattle.stab.specs.declared.Finding.the-variants.{Nothing, Found}
+use Rattle.stab.proofs.Bools.{otherwise-nothing, otherwise-found}
 use Rattle.stab.proofs.Scans.{scan-same}
 use Rattle.stab.proofs.Trees.{below-nat, below-of}
 use Rattle.stab.proofs.Tests.{itself, _&_, le-tests, _clears_, whole-clears, at-clears, _then_, scan-clears}
@@ -86,10 +85,10 @@ convert-clears W =
 
 -- ---- the plain rows, in any table that has them
 
-otherwise-nothing : {A : Type 0} (x : Option A) → (x otherwise none) ≡ x
+nothing-after : (x : Finding) → (x otherwise Nothing) ≡ x
 unfolding _otherwise_
-otherwise-nothing none = refl
-otherwise-nothing (some a) = refl
+nothing-after Nothing = refl
+nothing-after (Found why p) = refl
 
 abbrev pub HasPlainRows : WideSchema → (ℕ → Row) → Type 0
 HasPlainRows W plains = (p : ℕ) → p < plainCount W → plains p ≡ rowAt (plainTable W) p
@@ -137,12 +136,12 @@ module _ (W : WideSchema) (plains : ℕ → Row) (has : HasPlainRows W plains) w
       → formulasRefusal plains (plainCount W) (plainCount W) (pos (plainRoot W)) (W .least) ≡ scan (λ r. atUnless (smallEnough plains r) TooLarge r) (plainCount W)
   unfolding formulasRefusal formulasBy rowRefusal rootFits nat
   finds-8 K =
-      otherwise-none _ _ (whole-clears Root (itself (below (plainCount W) (pos (plainRoot W))) & itself (within (pos 0) (pos 9999) (W .least))) .1
+      otherwise-nothing _ _ (whole-clears Root (itself (below (plainCount W) (pos (plainRoot W))) & itself (within (pos 0) (pos 9999) (W .least))) .1
       (below-of (plainCount W) (plainRoot W) (root-below (K .formed) (K .rootRow)), K .leastRange))
       ∙ ap₂ _otherwise_
-      (scan-same _ (λ r. atUnless (smallEnough plains r) TooLarge r) (plainCount W) (λ r l h. otherwise-none _ _ (at-clears IllFormed r (itself _) .1 (row-formed (K .formed) r l))))
+      (scan-same _ (λ r. atUnless (smallEnough plains r) TooLarge r) (plainCount W) (λ r l h. otherwise-nothing _ _ (at-clears IllFormed r (itself _) .1 (row-formed (K .formed) r l))))
       (whole-clears Root (itself _) .1 (root-outer (K .formed) (K .rootRow) ∙ K .rootOuter))
-      ∙ otherwise-nothing _
+      ∙ nothing-after _
 
   pub judged : KeepsWide (rowAt (W .wide)) (W .wideRows) (W .root) (W .least)
       → formulasRefusal plains (plainCount W) (plainCount W) (pos (plainRoot W)) (W .least) clears ((r : ℕ) → r < plainCount W → smallEnough (rowAt (plainTable W)) r ≡ true)
@@ -168,8 +167,8 @@ plain-root W formed rootRow =
 
 -- in a table that starts with the plain rows, the check's pass over formula rows finds nothing exactly if 23 is not given, where the wide
 -- rows pass and the plain rows are few enough
-pub plain-judged : (W : WideSchema) (plains : ℕ → Row) → HasPlainRows W plains → wideRefusal (rowAt (W .wide)) (W .wideRows) (W .root) (W .least) ≡ none → plainCount W ≤ 1024
-    → (formulasRefusal plains (plainCount W) (plainCount W) (pos (plainRoot W)) (W .least) ≡ none) ↔ (plainRefusal W ≡ none)
+pub plain-judged : (W : WideSchema) (plains : ℕ → Row) → HasPlainRows W plains → wideRefusal (rowAt (W .wide)) (W .wideRows) (W .root) (W .least) ≡ Nothing → plainCount W ≤ 1024
+    → (formulasRefusal plains (plainCount W) (plainCount W) (pos (plainRoot W)) (W .least) ≡ Nothing) ↔ (plainRefusal W ≡ Nothing)
 plain-judged W plains has h few =
     let j = judged W plains has (wide-clears _ _ _ _ .0 h) in (
       λ e. plain-clears W .1 (record { limit = few; small = j .0 e }),
@@ -177,29 +176,29 @@ plain-judged W plains has h few =
     )
 
 -- what it finds otherwise is 8
-pub plain-finds : (W : WideSchema) (plains : ℕ → Row) → HasPlainRows W plains → wideRefusal (rowAt (W .wide)) (W .wideRows) (W .root) (W .least) ≡ none
+pub plain-finds : (W : WideSchema) (plains : ℕ → Row) → HasPlainRows W plains → wideRefusal (rowAt (W .wide)) (W .wideRows) (W .root) (W .least) ≡ Nothing
     → formulasRefusal plains (plainCount W) (plainCount W) (pos (plainRoot W)) (W .least) ≡ scan (λ r. atUnless (smallEnough plains r) TooLarge r) (plainCount W)
 plain-finds W plains has h = finds-8 W plains has (wide-clears _ _ _ _ .0 h)
 
 -- nothing, or 23 of the whole
-abbrev Or23 : Option Verdict → Type 0
-Or23 x = (x ≡ none) ⊎ (x ≡ some (Refused Plain Whole))
+abbrev Or23 : Finding → Type 0
+Or23 x = (x ≡ Nothing) ⊎ (x ≡ Found Plain Whole)
 
 unless-23 : (t : Bool) → Or23 (wholeUnless t Plain)
 unfolding wholeUnless unless
 unless-23 true = inl refl
 unless-23 false = inr refl
 
-then-23 : (x y : Option Verdict) → Or23 x → Or23 y → Or23 (x otherwise y)
-then-23 x y (inl e) h = ⊎-elim (λ f. inl (otherwise-none x y e ∙ f)) (λ f. inr (otherwise-none x y e ∙ f)) h
-then-23 x y (inr e) h = inr (otherwise-some x y _ e)
+then-23 : (x y : Finding) → Or23 x → Or23 y → Or23 (x otherwise y)
+then-23 x y (inl e) h = ⊎-elim (λ f. inl (otherwise-nothing x y e ∙ f)) (λ f. inr (otherwise-nothing x y e ∙ f)) h
+then-23 x y (inr e) h = inr (otherwise-found x y e)
 
-scan-23 : (f : ℕ → Option Verdict) (n : ℕ) → ((r : ℕ) → Or23 (f r)) → Or23 (scan f n)
+scan-23 : (f : ℕ → Finding) (n : ℕ) → ((r : ℕ) → Or23 (f r)) → Or23 (scan f n)
 unfolding scan
 scan-23 f zero h = inl refl
 scan-23 f (suc n) h = then-23 (scan f n) (f n) (scan-23 f n h) (h n)
 
 -- what the plain rows are refused with has place -1
-pub plain-refused : (W : WideSchema) → (plainRefusal W ≡ none) ⊎ (plainRefusal W ≡ some (Refused Plain Whole))
+pub plain-refused : (W : WideSchema) → (plainRefusal W ≡ Nothing) ⊎ (plainRefusal W ≡ Found Plain Whole)
 unfolding plainRefusal
 plain-refused W = then-23 _ _ (unless-23 _) (scan-23 _ (plainCount W) (λ r. unless-23 _))

@@ -2,35 +2,34 @@
 use Prim.Native.Nat.{ℕ, _<_, _≤_}
 use native.Mathlib.Omega.{arith}
 use mathlib.Core.Path.{_≡_, refl, sym, subst}
-use mathlib.Core.Option.{Option, none, some}
 use lib.IntN.{ℤ}
 use Rattle.stab.specs.Formula.{Row, rowAt}
 use Rattle.stab.specs.Answer.{Packs}
 use Rattle.stab.specs.declared.Refusal.the-variants.{TooMany, Plain}
-use Rattle.stab.specs.declared.Verdict.{Verdict}
-use Rattle.stab.specs.declared.Verdict.the-variants.{Accepted, Refused}
 use Rattle.stab.proofs.Tests.{le-tests, whole-clears}
-use Rattle.stab.proofs.Exactness.Refusals.{FindsRefusals, of-whole, of-at, _or-else_, once, of-scan}
+use Rattle.stab.proofs.Exactness.Refusals.{FindsNear, of-whole, of-at, _or-else_, once, of-scan}
 use Rattle.stab.proofs.Packed.{near-packs}
 use Rattle.stab.specs.Entry.{SchemaFits}
+use Rattle.stab.specs.declared.Finding.{Finding}
+use Rattle.stab.specs.declared.Finding.the-variants.{Nothing, Found}
 use Rattle.wide.specs.Convert.{WideSchema, plainCount, plainRoot, wideRowRefusal, wideRefusal, plainRefusal, convertRefusal, convertedBy, converted}
 use Rattle.wide.proofs.Conversion.{convert-clears, plain-root}
 
-of-wide : (rows : ℕ → Row) (n : ℕ) (root least : ℤ) → n ≤ 4096 → FindsRefusals (wideRefusal rows n root least)
+of-wide : (rows : ℕ → Row) (n : ℕ) (root least : ℤ) → n ≤ 4096 → FindsNear (wideRefusal rows n root least)
 unfolding wideRefusal wideRowRefusal
 of-wide rows n root least l =
     of-whole _ _ or-else
     of-scan (wideRowRefusal rows) n l (λ r k. of-at _ _ r k or-else of-at _ _ r k) or-else
     of-whole _ _
 
-of-plain : (W : WideSchema) → FindsRefusals (plainRefusal W)
+of-plain : (W : WideSchema) → FindsNear (plainRefusal W)
 unfolding plainRefusal
 of-plain W =
     once (of-whole _ Plain)
     (λ h. of-scan _ (plainCount W) (omega (arith, whole-clears Plain (le-tests (plainCount W) 1024) .0 h)) (λ r k. of-whole _ _))
 
 -- what is found is a refusal, and its place is within the limits
-pub convert-finds : (W : WideSchema) → FindsRefusals (convertRefusal W)
+pub convert-finds : (W : WideSchema) → FindsNear (convertRefusal W)
 unfolding convertRefusal
 convert-finds W =
     of-at _ _ 0 (omega arith) or-else
@@ -45,15 +44,13 @@ pub converted-fits : (W : WideSchema) → SchemaFits (converted W)
 unfolding converted convertedBy
 converted-fits W = go (convertRefusal W) refl
   where
-    go : (x : Option Verdict) → convertRefusal W ≡ x → SchemaFits (convertedBy x W)
-    go none e = convert-clears W .0 e .plainRules .limit
-    go (some (Accepted nodes links)) e = tt
-    go (some (Refused why p)) e =
-        let r = convert-finds W (Refused why p) e in
-        subst Packs (sym (r .2)) (near-packs (r .0) (r .1) (r .3))
+    go : (x : Finding) → convertRefusal W ≡ x → SchemaFits (convertedBy x W)
+    go Nothing e = convert-clears W .0 e .plainRules .limit
+    go (Found why p) e =
+        near-packs why p (convert-finds W why p e)
 
 -- the plain root is one of at most 1,024 rows
-pub converted-root : (W : WideSchema) → convertRefusal W ≡ none → (plainRoot W < plainCount W) × (plainCount W ≤ 1024)
+pub converted-root : (W : WideSchema) → convertRefusal W ≡ Nothing → (plainRoot W < plainCount W) × (plainCount W ≤ 1024)
 converted-root W e =
     let K = convert-clears W .0 e in
     (plain-root W (K .wideRules .formed) (K .wideRules .rootRow) .0, K .plainRules .limit)

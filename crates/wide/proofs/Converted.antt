@@ -4,7 +4,6 @@ use native.Mathlib.Omega.{arith}
 use mathlib.Core.Path.{_≡_, refl, sym, _∙_, ap, subst}
 use mathlib.Core.Bool.{true, false, true≢false}
 use mathlib.Core.List.{List, []}
-use mathlib.Core.Option.{Option, none, some}
 use lib.IntN.{ℤ, pos}
 use lib.Signed.{_≤ℤ_}
 use lib.ListN.{length, getD, replicate, length-append, length-replicate}
@@ -15,8 +14,11 @@ use Rattle.stab.specs.Node.{Tableau}
 use Rattle.stab.specs.Check.{formulasRefusal, check, checkOlder}
 use Rattle.stab.specs.Text.{padded}
 use Rattle.stab.specs.Refuted.{Refuted}
-use Rattle.stab.specs.declared.Verdict.{Verdict}
 use Rattle.stab.specs.declared.Verdict.the-variants.{Accepted}
+use Rattle.stab.specs.declared.Finding.{Finding}
+use Rattle.stab.specs.declared.Finding.the-variants.{Nothing, Found}
+use Rattle.stab.specs.declared.Refusal.{Refusal}
+use Rattle.stab.specs.declared.Place.{Place}
 use Rattle.stab.proofs.Trees.{tree-agrees}
 use Rattle.stab.proofs.Soundness.{sound, sound-older}
 use Rattle.stab.proofs.Texts.Outcomes.{padded-none}
@@ -41,20 +43,20 @@ unfolding plainTable plainCount
 count-length W = columns-length _
 
 -- "Lent result memory is then all 0": after a refusal
-pub refused-zeros : (W : WideSchema) (v : Verdict) → convertRefusal W ≡ some v → convertedTable W ≡ replicate (W .room) (pos 0)
+pub refused-zeros : (W : WideSchema) (why : Refusal) (p : Place) → convertRefusal W ≡ Found why p → convertedTable W ≡ replicate (W .room) (pos 0)
 unfolding convertedTable convertedTableBy
-refused-zeros W v h = ap (λ (x : Option Verdict). convertedTableBy x W) h ∙ padded-none (pos 0) (W .room)
+refused-zeros W why p h = ap (λ (x : Finding). convertedTableBy x W) h ∙ padded-none (pos 0) (W .room)
 
 -- the lent table keeps its length
 pub converted-length : (W : WideSchema) → length (convertedTable W) ≡ W .room
 unfolding convertedTable convertedTableBy
 converted-length W = go (convertRefusal W) refl
   where
-    go : (x : Option Verdict) → convertRefusal W ≡ x → length (convertedTableBy x W) ≡ W .room
-    go none e =
+    go : (x : Finding) → convertRefusal W ≡ x → length (convertedTableBy x W) ≡ W .room
+    go Nothing e =
         let K = convert-clears W .0 e in
         padded-length (W .room) (plainTable W) (omega (arith, count-length W, K .room, K .plainRules .limit))
-    go (some v) e = padded-length (W .room) [] (omega arith)
+    go (Found why p) e = padded-length (W .room) [] (omega arith)
 
 zeros : (m i : ℕ) → getD (replicate m (pos 0)) i (pos 0) ≡ pos 0
 zeros zero i = refl
@@ -67,15 +69,15 @@ unfolding padded rowAt constantRow row
 cleared-row n p =
     row-is (zeros (n - 0) (4 * p)) (zeros (n - 0) (4 * p + 1)) (zeros (n - 0) (4 * p + 2)) (zeros (n - 0) (4 * p + 3))
 
-cleared-true : (W : WideSchema) (v : Verdict) → convertRefusal W ≡ some v → (σ : Assignment) (n r : ℕ) → truth σ n (tree (rowAt (convertedTable W)) r) ≡ true
+cleared-true : (W : WideSchema) (why : Refusal) (p : Place) → convertRefusal W ≡ Found why p → (σ : Assignment) (n r : ℕ) → truth σ n (tree (rowAt (convertedTable W)) r) ≡ true
 unfolding convertedTable convertedTableBy truth value
-cleared-true W v e σ n r =
+cleared-true W why p e σ n r =
     ap (λ (f : Formula). value σ n f (pos 0))
-    (constant-tree (rowAt (convertedTable W)) r true (ap (λ (x : Option Verdict). rowAt (convertedTableBy x W) r) e ∙ cleared-row (W .room) r))
+    (constant-tree (rowAt (convertedTable W)) r true (ap (λ (x : Finding). rowAt (convertedTableBy x W) r) e ∙ cleared-row (W .room) r))
 
 -- ---- the theorems
 
-module _ (W : WideSchema) (converts : convertRefusal W ≡ none) where
+module _ (W : WideSchema) (converts : convertRefusal W ≡ Nothing) where
   kept : Converts W
   kept = convert-clears W .0 converts
 
@@ -83,14 +85,14 @@ module _ (W : WideSchema) (converts : convertRefusal W ≡ none) where
   pub has-plain-rows : HasPlainRows W (rowAt (convertedTable W))
   unfolding convertedTable convertedTableBy
   has-plain-rows p l =
-      ap (λ (x : Option Verdict). rowAt (convertedTableBy x W) p) converts ∙ row-padded (W .room) (plainTable W) p (omega (arith, count-length W))
+      ap (λ (x : Finding). rowAt (convertedTableBy x W) p) converts ∙ row-padded (W .room) (plainTable W) p (omega (arith, count-length W))
 
   -- "The plain root is true exactly where the wide root is, at every n and assignment"
   pub plain-means : (σ : Assignment) (n : ℕ) → truth σ n (tree (rowAt (convertedTable W)) (plainRoot W)) ≡ wideTruth σ n (wideTree (rowAt (W .wide)) (nat (W .root)))
   plain-means σ n = root-means W (rowAt (convertedTable W)) has-plain-rows (kept .wideRules .formed) (kept .wideRules .rootRow) σ n
 
   -- the table holds the plain rows, and the check's pass over formula rows finds nothing of them
-  pub plain-passes : (formulasRefusal (rowAt (convertedTable W)) (plainCount W) (plainCount W) (pos (plainRoot W)) (W .least) ≡ none) × (plainCount W ≤ 1024) × (4 * plainCount W ≤ length (convertedTable W))
+  pub plain-passes : (formulasRefusal (rowAt (convertedTable W)) (plainCount W) (plainCount W) (pos (plainRoot W)) (W .least) ≡ Nothing) × (plainCount W ≤ 1024) × (4 * plainCount W ≤ length (convertedTable W))
   plain-passes = (
     judged W (rowAt (convertedTable W)) has-plain-rows (kept .wideRules) .1 (kept .plainRules .small),
     kept .plainRules .limit,
@@ -101,9 +103,9 @@ refuted-wide : (W : WideSchema) → Refuted (convertedTable W) (pos (plainRoot W
 unfolding nat
 refuted-wide W refuted n σ h = go (convertRefusal W) refl
   where
-    go : (x : Option Verdict) → convertRefusal W ≡ x → wideTruth σ n (wideTree (rowAt (W .wide)) (nat (W .root))) ≡ false
-    go none e = sym (plain-means W e σ n) ∙ refuted n σ h
-    go (some v) e = absurd (true≢false (sym (cleared-true W v e σ n (plainRoot W)) ∙ refuted n σ h))
+    go : (x : Finding) → convertRefusal W ≡ x → wideTruth σ n (wideTree (rowAt (W .wide)) (nat (W .root))) ≡ false
+    go Nothing e = sym (plain-means W e σ n) ∙ refuted n σ h
+    go (Found why p) e = absurd (true≢false (sym (cleared-true W why p e σ n (plainRoot W)) ∙ refuted n σ h))
 
 -- "so a closed tableau for the plain schema refutes the wide one", whichever entry accepts it: a tableau with that root and least value,
 -- whose schema table is the one filled or agrees with it up to the root

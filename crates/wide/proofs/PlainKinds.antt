@@ -10,7 +10,7 @@ use Rattle.stab.specs.Formula.{Row, Kind, constant, literal, junction, iteratio
 use Rattle.stab.specs.Meaning.{Assignment, op, rangeSize, value, truth}
 use Rattle.stab.specs.Check.{wholeUnless, atUnless, rowRefusal, rootFits, formulasBy, formulasRefusal}
 use Rattle.stab.specs.declared.Refusal.the-variants.{Root, IllFormed, TooLarge}
-use Rattle.stab.proofs.Bools.{if-false, and-left, unless-none, otherwise-same}
+use Rattle.stab.proofs.Bools.{if-false, and-left, unless-nothing, otherwise-same}
 use Rattle.stab.proofs.Whole.{eqZ-not}
 use Rattle.stab.proofs.Scans.{scan-same}
 use Rattle.stab.proofs.Trees.{below-nat, tree-is}
@@ -167,7 +167,7 @@ module _ (rows : ℕ → Row) (n : ℕ) (old : OldKinds rows n) where
   unfolding wideRefusal wideRowRefusal formulasRefusal formulasBy rowRefusal wholeUnless rootFits
   plain-kinds-refused root least =
       otherwise-same _ _ _ (λ e.
-      let l = below-nat n root (and-left _ _ (unless-none _ _ e)) in
+      let l = below-nat n root (and-left _ _ (unless-nothing _ _ _ e)) in
       ap₂ _otherwise_
       (scan-same (wideRowRefusal rows) (rowRefusal rows) n (λ r p q. ap₂ (λ (v w : Bool). atUnless v IllFormed r otherwise atUnless w TooLarge r) (old-formed r p) (old-small r p)))
       (ap (λ (t : Bool). wholeUnless t Root) (old-outer (nat root) l)))

@@ -4,14 +4,13 @@ use native.Mathlib.Omega.{arith}
 use mathlib.Core.Path.{_≡_, refl, sym, _∙_, ap, ap₂}
 use mathlib.Core.Logic.{_≢_, ⊎-elim}
 use mathlib.Core.Bool.{Bool, true, false}
-use mathlib.Core.Option.{Option, none, some, Option·none-ne-some}
 use lib.Dec.{ltb}
 use lib.IntN.{ℤ, pos}
 use borrow.Author.Tests.{lt-ltb, ltb-true, ltb-false}
 use Rattle.stab.specs.Basic.{if_then_else_, nat, below, within, _otherwise_, scan, unless}
 use Rattle.stab.specs.Formula.{Row, rowAt, formulaRows, tree, isOuter}
 use Rattle.stab.specs.Node.{Tableau, rows, rowCount}
-use Rattle.stab.specs.Check.{wholeUnless, atUnless, rowRefusal, repeatRefusal, freshRowRefusal, rootFits, formulasBy, formulasRefusal, setRefusal, parentRefusal, stepRefusal, nodeRefusal, refusalWith, olderFormulas, presentFormulas, verdict, checkWith, check, checkOlder, checkAs}
+use Rattle.stab.specs.Check.{wholeUnless, atUnless, rowRefusal, repeatRefusal, freshRowRefusal, rootFits, formulasBy, formulasRefusal, setRefusal, parentRefusal, stepRefusal, nodeRefusal, refusalWith, olderFormulas, presentFormulas, verdict, checkWith, check, checkOlder, checkAs, refusal}
 use Rattle.stab.specs.Model.{Model, schemaRow, pairRefusal, modelRefusal, checkModel}
 use Rattle.stab.specs.Answer.{refusalNumber}
 use Rattle.stab.specs.Refuted.{SameSchema}
@@ -19,9 +18,10 @@ use Rattle.stab.specs.declared.Place.{Place}
 use Rattle.stab.specs.declared.Place.the-variants.{Whole, At}
 use Rattle.stab.specs.declared.Refusal.{Refusal}
 use Rattle.stab.specs.declared.Refusal.the-variants.{Root, IllFormed, TooLarge}
-use Rattle.stab.specs.declared.Verdict.{Verdict}
 use Rattle.stab.specs.declared.Verdict.the-variants.{Accepted, Refused}
-use Rattle.stab.proofs.Bools.{decide, if-true, and-both, none-unless}
+use Rattle.stab.specs.declared.Finding.{Finding}
+use Rattle.stab.specs.declared.Finding.the-variants.{Nothing, Found}
+use Rattle.stab.proofs.Bools.{decide, if-true, and-both, nothing-unless, nothing≢found}
 use Rattle.stab.proofs.Trees.{below-of}
 use Rattle.wide.specs.Converted.{Spares}
 use Rattle.wide.specs.Convert.{WideSchema, plainTable, plainCount, plainRoot, convertRefusal, convertedTable}
@@ -29,8 +29,8 @@ use Rattle.wide.proofs.Tables.{small-agrees}
 use Rattle.wide.proofs.Conversion.{Converts, convert-clears, HasPlainRows, row-formed, root-below, root-outer}
 use Rattle.wide.proofs.Converted.{has-plain-rows}
 
-abbrev AllSpare : ℕ → Option Verdict → Type 0
-AllSpare s x = (v : Verdict) → x ≡ some v → Spares s v
+abbrev AllSpare : ℕ → Finding → Type 0
+AllSpare s x = (why : Refusal) (p : Place) → x ≡ Found why p → Spares s (Refused why p)
 
 -- a refusal other than 6, 7 and 8
 abbrev Other : Refusal → Type 0
@@ -42,11 +42,11 @@ same-number why why′ p p′ e = let q : why ≡ why′ = cc in ap refusalNumbe
 same-row : (why why′ : Refusal) (k r : ℕ) → Refused why (At k) ≡ Refused why′ (At r) → k ≡ r
 same-row why why′ k r e = cc
 
-other-unless : {s : ℕ} (t : Bool) (why : Refusal) (p : Place) → Other why → AllSpare s (unless t (Refused why p))
+other-unless : {s : ℕ} (t : Bool) (why : Refusal) (p : Place) → Other why → AllSpare s (unless t why p)
 unfolding unless
-other-unless true why p o v e = absurd (Option·none-ne-some v e)
-other-unless false why p o v e =
-    let q : v ≡ Refused why p = cc in record {
+other-unless true why p o w v e = absurd (nothing≢found e)
+other-unless false why p o w v e =
+    let q : Refused w v ≡ Refused why p = cc in record {
       root = λ f. o .0 (same-number why Root p Whole (sym q ∙ f));
       formed = λ r l f. o .1 (same-number why IllFormed p (At r) (sym q ∙ f));
       small = λ r l f. o .2 (same-number why TooLarge p (At r) (sym q ∙ f));
@@ -63,39 +63,39 @@ other-at t why k o = other-unless t why (At k) o
 -- a row that is none of the first s
 later-at : {s : ℕ} (t : Bool) (why : Refusal) (k : ℕ) → s ≤ k → refusalNumber why ≢ 6 → AllSpare s (atUnless t why k)
 unfolding atUnless unless
-later-at true why k l o v e = absurd (Option·none-ne-some v e)
-later-at false why k l o v e =
-    let q : v ≡ Refused why (At k) = cc in record {
+later-at true why k l o w v e = absurd (nothing≢found e)
+later-at false why k l o w v e =
+    let q : Refused w v ≡ Refused why (At k) = cc in record {
       root = λ f. o (same-number why Root (At k) Whole (sym q ∙ f));
       formed = λ r m f. absurd (omega (arith, same-row why IllFormed k r (sym q ∙ f)));
       small = λ r m f. absurd (omega (arith, same-row why TooLarge k r (sym q ∙ f)));
     }
 
 infixr 25 _and-then_
-_and-then_ : {s : ℕ} {x y : Option Verdict} → AllSpare s x → AllSpare s y → AllSpare s (x otherwise y)
+_and-then_ : {s : ℕ} {x y : Finding} → AllSpare s x → AllSpare s y → AllSpare s (x otherwise y)
 unfolding _otherwise_
-_and-then_ {x = none} f g = g
-_and-then_ {x = some a} f g = f
+_and-then_ {x = Nothing} f g = g
+_and-then_ {x = Found why p} f g = f
 
-nothing-spares : {s : ℕ} {x : Option Verdict} → x ≡ none → AllSpare s x
-nothing-spares e v h = absurd (Option·none-ne-some v (sym e ∙ h))
+nothing-spares : {s : ℕ} {x : Finding} → x ≡ Nothing → AllSpare s x
+nothing-spares e why p h = absurd (nothing≢found (sym e ∙ h))
 
-scan-spares : {s : ℕ} (f : ℕ → Option Verdict) (n : ℕ) → ((k : ℕ) → AllSpare s (f k)) → AllSpare s (scan f n)
+scan-spares : {s : ℕ} (f : ℕ → Finding) (n : ℕ) → ((k : ℕ) → AllSpare s (f k)) → AllSpare s (scan f n)
 unfolding scan
-scan-spares f zero h v e = absurd (Option·none-ne-some v e)
-scan-spares f (suc n) h v e = _and-then_ (scan-spares f n h) (h n) v e
+scan-spares f zero h why p e = absurd (nothing≢found e)
+scan-spares f (suc n) h why p e = _and-then_ (scan-spares f n h) (h n) why p e
 
-verdict-spares : {s : ℕ} (x : Option Verdict) (m k : ℕ) → AllSpare s x → Spares s (verdict x (Accepted m k))
+verdict-spares : {s : ℕ} (x : Finding) (m k : ℕ) → AllSpare s x → Spares s (verdict x (Accepted m k))
 unfolding verdict
-verdict-spares none m k f = record { root = never; formed = λ r l. never; small = λ r l. never }
+verdict-spares Nothing m k f = record { root = never; formed = λ r l. never; small = λ r l. never }
   where
     never : {why : Refusal} {p : Place} → Accepted m k ≢ Refused why p
     never e = let z : _≡_ {A = ℕ} 0 1 = cc in omega arith
-verdict-spares (some v) m k f = f v refl
+verdict-spares (Found why p) m k f = f why p refl
 
 -- ---- the plain rows in any table that starts with them
 
-module _ (W : WideSchema) (converts : convertRefusal W ≡ none) (plains : ℕ → Row) (has : HasPlainRows W plains) where
+module _ (W : WideSchema) (converts : convertRefusal W ≡ Nothing) (plains : ℕ → Row) (has : HasPlainRows W plains) where
   rules : Converts W
   rules = convert-clears W .0 converts
 
@@ -105,29 +105,29 @@ module _ (W : WideSchema) (converts : convertRefusal W ≡ none) (plains : ℕ �
       ⊎-elim
       (λ e.
       let l = ltb-true r (plainCount W) e in
-      nothing-spares (none-unless _ _ (row-formed W plains has (rules .wideRules .formed) r l)) and-then
-      nothing-spares (none-unless _ _ (small-agrees plains (rowAt (plainTable W)) r (λ a m. has a (omega arith)) ∙ rules .plainRules .small r l)))
+      nothing-spares (nothing-unless _ _ _ (row-formed W plains has (rules .wideRules .formed) r l)) and-then
+      nothing-spares (nothing-unless _ _ _ (small-agrees plains (rowAt (plainTable W)) r (λ a m. has a (omega arith)) ∙ rules .plainRules .small r l)))
       (λ e.
       let l = ltb-false r (plainCount W) e in
       later-at _ IllFormed r l (omega arith) and-then later-at _ TooLarge r l (omega arith))
       (decide (ltb r (plainCount W)))
 
-  formulas-spare : (judge : ℕ → Option Verdict) → ((r : ℕ) → AllSpare (plainCount W) (judge r)) → (n s : ℕ) (root least : ℤ) → s ≡ plainCount W → root ≡ pos (plainRoot W) → least ≡ W .least → AllSpare (plainCount W) (formulasBy judge plains n s root least)
+  formulas-spare : (judge : ℕ → Finding) → ((r : ℕ) → AllSpare (plainCount W) (judge r)) → (n s : ℕ) (root least : ℤ) → s ≡ plainCount W → root ≡ pos (plainRoot W) → least ≡ W .least → AllSpare (plainCount W) (formulasBy judge plains n s root least)
   unfolding formulasBy rootFits wholeUnless nat
   formulas-spare judge each n s root least p q r =
       let K = rules .wideRules in
       nothing-spares
-      (none-unless _ _
+      (nothing-unless _ _ _
       (and-both _ _
       (ap₂ below p q ∙ below-of (plainCount W) (plainRoot W) (root-below W plains has (K .formed) (K .rootRow)))
       (ap (within (pos 0) (pos 9999)) r ∙ K .leastRange))) and-then
       scan-spares judge n each and-then
       nothing-spares
-      (none-unless _ _ (ap (λ (z : ℤ). isOuter (tree plains (nat z))) q ∙ root-outer W plains has (K .formed) (K .rootRow) ∙ K .rootOuter))
+      (nothing-unless _ _ _ (ap (λ (z : ℤ). isOuter (tree plains (nat z))) q ∙ root-outer W plains has (K .formed) (K .rootRow) ∙ K .rootOuter))
 
 -- ---- the theorems
 
-module _ (W : WideSchema) (converts : convertRefusal W ≡ none) where
+module _ (W : WideSchema) (converts : convertRefusal W ≡ Nothing) where
   module _ (T : Tableau) (same : SameSchema T (convertedTable W) (plainCount W) (pos (plainRoot W)) (W .least)) where
     has : HasPlainRows W (rows T)
     unfolding rows formulaRows
@@ -146,7 +146,7 @@ module _ (W : WideSchema) (converts : convertRefusal W ≡ none) where
     older-spares =
         formulas-spare W converts (rows T) has _ (row-spares W converts (rows T) has) (rowCount T) (T .schemaRows) (T .root) (T .least) (same .count) (same .sameRoot) (same .sameLeast)
 
-    refusal-spares : (formulas : Tableau → Option Verdict) → AllSpare (plainCount W) (formulas T) → AllSpare (plainCount W) (refusalWith formulas nodeRefusal T)
+    refusal-spares : (formulas : Tableau → Finding) → AllSpare (plainCount W) (formulas T) → AllSpare (plainCount W) (refusalWith formulas nodeRefusal T)
     unfolding refusalWith setRefusal parentRefusal nodeRefusal stepRefusal
     refusal-spares formulas f =
         other-whole _ _ (omega arith) and-then
@@ -166,7 +166,7 @@ module _ (W : WideSchema) (converts : convertRefusal W ≡ none) where
 
     -- neither the check nor the older one gives 6, or 7 or 8 at a plain row, whatever the proof rows and nodes are
     pub plain-spared : (older : Bool) → Spares (plainCount W) (checkAs older T)
-    unfolding checkAs if_then_else_ check checkOlder checkWith
+    unfolding checkAs if_then_else_ check refusal checkOlder checkWith
     plain-spared true = verdict-spares _ _ _ (refusal-spares olderFormulas older-spares)
     plain-spared false = verdict-spares _ _ _ (refusal-spares presentFormulas present-spares)
 

@@ -5,7 +5,6 @@ use mathlib.Core.Path.{_≡_, refl, sym, _∙_, ap, ap₂, subst}
 use mathlib.Core.Bool.{Bool, true, false, not}
 use mathlib.Core.Logic.{⊎-elim}
 use mathlib.Core.List.{List}
-use mathlib.Core.Option.{Option, none}
 use lib.Dec.{leb}
 use lib.ListN.{length}
 use lib.IntN.{ℤ, pos, negsuc, negℤ}
@@ -14,8 +13,9 @@ use Rattle.stab.specs.Basic.{if_then_else_, _and_, eqZ, nat, below, unless}
 use Rattle.stab.specs.Formula as F
 use Rattle.stab.specs.Formula.{Row, Op, Kind, constant, literal, junction, iteration, unknown, kindOf, decode, tree, offset, wellFormedAs}
 use Rattle.stab.specs.Check.{atUnless}
-use Rattle.stab.specs.declared.Verdict.{Verdict}
-use Rattle.stab.proofs.Bools.{and-left, and-right, if-false, otherwise-first, otherwise-second, unless-none}
+use Rattle.stab.specs.declared.Finding.{Finding}
+use Rattle.stab.specs.declared.Finding.the-variants.{Nothing}
+use Rattle.stab.proofs.Bools.{and-left, and-right, if-false, otherwise-first, otherwise-second, unless-nothing}
 use Rattle.stab.proofs.Whole.{num, of-eq, eqZ-not, nat-pos, at-least-0}
 use Rattle.stab.proofs.Trees.{below-nat}
 use Rattle.stab.proofs.Scans.{below-suc}
@@ -209,16 +209,16 @@ module _ (rows : ℕ → Row) (r : ℕ) where
   unfolding wideJudged
   row-kept facts =
       judged-kept (wideFormed rows r) (wideFactsOf (wideTree rows r)) r facts
-      ∙ ap (λ (o : Option Verdict). keptIf o facts r (wideFactsOf (wideTree rows r))) row-found
+      ∙ ap (λ (o : Finding). keptIf o facts r (wideFactsOf (wideTree rows r))) row-found
 
-  module _ (h : wideRowRefusal rows r ≡ none) where
+  module _ (h : wideRowRefusal rows r ≡ Nothing) where
     row-formed : wideFormed rows r ≡ true
     unfolding wideRowRefusal atUnless
-    row-formed = unless-none _ _ (otherwise-first _ _ h)
+    row-formed = unless-nothing _ _ _ (otherwise-first _ _ h)
 
     row-small : wideSmall rows r ≡ true
     unfolding wideRowRefusal atUnless
-    row-small = unless-none _ _ (otherwise-second (unless (wideFormed rows r) _) _ h)
+    row-small = unless-nothing _ _ _ (otherwise-second (unless (wideFormed rows r) _ _) _ h)
 
 pub passed-none : (rows : ℕ → Row) (facts : List ℕ) → WidePassed rows facts 0
 passed-none rows facts =
@@ -229,12 +229,12 @@ passed-none rows facts =
       small = λ a l. absurd (omega arith);
     }
 
-pub passed-more : (rows : ℕ → Row) (facts : List ℕ) (r : ℕ) → WidePassed rows facts r → 4 * r + 3 < length facts → wideRowRefusal rows r ≡ none
+pub passed-more : (rows : ℕ → Row) (facts : List ℕ) (r : ℕ) → WidePassed rows facts r → 4 * r + 3 < length facts → wideRowRefusal rows r ≡ Nothing
     → WidePassed rows (keptIf (wideRowRefusal rows r) facts r (wideFactsOf (wideTree rows r))) (r + 1)
 unfolding keptIf
 passed-more rows facts r passed room h =
     let f = wideFactsOf (wideTree rows r) in
-    subst (λ (o : Option Verdict). WidePassed rows (keptIf o facts r f) (r + 1)) (sym h)
+    subst (λ (o : Finding). WidePassed rows (keptIf o facts r f) (r + 1)) (sym h)
     record {
       room = omega (arith, kept-length facts r (f .size) (f .depth) (f .loose) (f .fixed));
       known = each-more r (λ a l. facts-other facts r f a l ∙ passed .known a l) (facts-here facts r f room);

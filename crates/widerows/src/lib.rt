@@ -1,13 +1,12 @@
 // The pass over wide rows: which are well formed and small enough. The numbers worked out for a row, and the table that keeps them,
 // are those of the pass over 01's rows.
 ghost use mathlib.Core.Path.{_≡_};
-ghost use mathlib.Core.Option.{none};
 ghost use Prim.Native.Nat.{_+_, _*_, _<_, _≤_};
 ghost use lib.ListN.{length};
 ghost use lib.IntN.{pos};
 ghost use Rattle.stab.specs.Basic.{scan};
 ghost use Rattle.stab.specs.Formula.{rowAt, formulaRows};
-ghost use Rattle.stab.specs.Check.{finding};
+ghost use Rattle.stab.specs.declared.Finding.the-variants.{Nothing, Found};
 ghost use Rattle.wide.specs.WideFormula.{wideKindOf, wideTree};
 ghost use Rattle.wide.specs.Convert.{wideRowRefusal, wideRefusal};
 ghost use Rattle.formula.specs.Cells.{rowOf};
@@ -98,7 +97,7 @@ fn row(schema: &[i32], s: usize, proof: &[i32], r: usize, facts: &[u32]) -> Judg
 // What is found at row r; its numbers are kept where that is nothing.
 fn step(schema: &[i32], s: usize, proof: &[i32], r: usize, facts: &mut [u32]) -> Finding
     requires { ⌜ (r < 1024) × (4 * r + 3 < length (now facts)) × WidePassed (formulaRows (now schema) s (now proof)) (now facts) r ⌝ }
-    ensures { λ v. ⌜ finding v ≡ wideRowRefusal (formulaRows (now (schema .entry)) s (now (proof .entry))) r ⌝ }
+    ensures { λ v. ⌜ v ≡ wideRowRefusal (formulaRows (now (schema .entry)) s (now (proof .entry))) r ⌝ }
     ensures { λ v. ⌜ now (facts .exit) ≡ keptIf (wideRowRefusal (formulaRows (now (schema .entry)) s (now (proof .entry))) r) (now (facts .entry)) r (wideFactsOf (wideTree (formulaRows (now (schema .entry)) s (now (proof .entry))) r)) ⌝ }
 {
     let found = row(schema, s, proof, r, facts);
@@ -108,8 +107,8 @@ fn step(schema: &[i32], s: usize, proof: &[i32], r: usize, facts: &mut [u32]) ->
 // What is found first among n rows. The table holds the numbers of each before it.
 fn each(schema: &[i32], s: usize, proof: &[i32], n: usize, facts: &mut [u32]) -> Finding
     requires { ⌜ (n ≤ 1024) × (4 * n ≤ length (now facts)) ⌝ }
-    ensures { λ v. ⌜ finding v ≡ scan (wideRowRefusal (formulaRows (now (schema .entry)) s (now (proof .entry)))) n ⌝ }
-    ensures { λ v. ⌜ (scan (wideRowRefusal (formulaRows (now (schema .entry)) s (now (proof .entry)))) n ≡ none → WidePassed (formulaRows (now (schema .entry)) s (now (proof .entry))) (now (facts .exit)) n) ⌝ }
+    ensures { λ v. ⌜ v ≡ scan (wideRowRefusal (formulaRows (now (schema .entry)) s (now (proof .entry)))) n ⌝ }
+    ensures { λ v. ⌜ (scan (wideRowRefusal (formulaRows (now (schema .entry)) s (now (proof .entry)))) n ≡ Nothing → WidePassed (formulaRows (now (schema .entry)) s (now (proof .entry))) (now (facts .exit)) n) ⌝ }
     ensures { λ v. ⌜ now (facts .exit) ≡ wideTable (formulaRows (now (schema .entry)) s (now (proof .entry))) (now (facts .entry)) n ⌝ }
 {
     let mut r = 0;
@@ -127,7 +126,7 @@ fn each(schema: &[i32], s: usize, proof: &[i32], n: usize, facts: &mut [u32]) ->
 // stands where a proof's rows would.
 pub fn wide_rows(wide: &[i32], n: usize, root: i32, least: i32, facts: &mut [u32]) -> Finding
     requires { ⌜ (n ≤ 1024) × (4 * n ≤ length (now wide)) × (4 * n ≤ length (now facts)) ⌝ }
-    ensures { λ v. ⌜ finding v ≡ wideRefusal (rowAt (now (wide .entry))) n root least ⌝ }
+    ensures { λ v. ⌜ v ≡ wideRefusal (rowAt (now (wide .entry))) n root least ⌝ }
     ensures { λ v. ⌜ now (facts .exit) ≡ wideRowsTable (rowAt (now (wide .entry))) (now (facts .entry)) n root least ⌝ }
 {
     if !root_fits(n, root, least) {

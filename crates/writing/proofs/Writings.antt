@@ -3,18 +3,21 @@ use Prim.Native.Nat.{ℕ, _<_, _≤_}
 use mathlib.Core.Path.{_≡_, refl, sym, _∙_, ap, ap₂, subst}
 use mathlib.Core.Bool.{Bool, true, false}
 use mathlib.Core.List.{List}
-use mathlib.Core.Option.{Option, none, some}
 use lib.Dec.{leb}
 use lib.ListN.{length, take}
 use borrow.Author.Tests.{le-leb, lt-leb}
-use Rattle.stab.specs.Basic.{_and_, _otherwise_, unless}
+use Rattle.stab.specs.Basic.{_and_, _otherwise_}
+use Rattle.stab.specs.Check.{wholeUnless}
 use Rattle.stab.specs.Text.{textLimit, padded}
 use Rattle.stab.specs.Write.{writeRefusal, outputRefusal, Writing, refused, wrote, writingOf, writing, written, output}
 use Rattle.stab.specs.declared.Refusal.{Refusal}
 use Rattle.stab.specs.declared.Refusal.the-variants.{TableTooShort, TooMany, Number, Output}
 use Rattle.stab.specs.declared.Written.{Written}
 use Rattle.stab.specs.declared.Written.the-variants.{Text}
-use Rattle.stab.proofs.Bools.{and-both, and-first-false, and-second-false, otherwise-none, otherwise-some, none-unless, some-unless}
+use Rattle.stab.specs.declared.Finding.the-variants.{Nothing, Found}
+use Rattle.stab.specs.declared.Finding.{Finding}
+use Rattle.stab.specs.declared.Place.the-variants.{Whole}
+use Rattle.stab.proofs.Bools.{and-both, and-first-false, and-second-false, otherwise-nothing, otherwise-found, nothing-unless, found-unless}
 use Rattle.digits.specs.Over.{over}
 use Rattle.digits.proofs.Overs.{padded-over}
 
@@ -32,47 +35,49 @@ and-grouped r false b d = refl
 
 -- 22
 module _ (n : ℕ) (text : List ℕ) where
-  unfit : (leb (length text) n and leb (length text) textLimit) ≡ false → writing none n text ≡ refused Output
-  unfolding writing writingOf outputRefusal _otherwise_
-  unfit e = ap (λ (q : Option Refusal). writingOf q text) (some-unless _ Output e)
+  unfit : (leb (length text) n and leb (length text) textLimit) ≡ false → writing Nothing n text ≡ refused Output Whole
+  unfolding writing writingOf outputRefusal wholeUnless _otherwise_
+  unfit e = ap (λ (x : Finding). writingOf x text) (found-unless _ _ _ e)
 
-  pub no-room : n < length text → writing none n text ≡ refused Output
+  pub no-room : n < length text → writing Nothing n text ≡ refused Output Whole
   no-room m = unfit (and-first-false _ _ (lt-leb (length text) n m))
 
-  pub too-long : 65536 < length text → writing none n text ≡ refused Output
+  pub too-long : 65536 < length text → writing Nothing n text ≡ refused Output Whole
   too-long m = unfit (and-second-false (leb (length text) n) _ (unfold textLimit in lt-leb (length text) 65536 m))
 
-  pub fitting : length text ≤ n → length text ≤ 65536 → writing none n text ≡ wrote text
-  unfolding writing writingOf outputRefusal _otherwise_ textLimit
+  pub fitting : length text ≤ n → length text ≤ 65536 → writing Nothing n text ≡ wrote text
+  unfolding writing writingOf outputRefusal wholeUnless _otherwise_ textLimit
   fitting a b =
-      ap (λ (q : Option Refusal). writingOf q text) (none-unless _ Output (and-both _ _ (le-leb (length text) n a) (le-leb (length text) 65536 b)))
+      ap (λ (x : Finding). writingOf x text) (nothing-unless _ _ _ (and-both _ _ (le-leb (length text) n a) (le-leb (length text) 65536 b)))
 
 -- 2, 5, 21, and what is left
 module _ (held few ok : Bool) (n : ℕ) (text : List ℕ) where
-  refusal-is : (why : Refusal) → writeRefusal held few ok ≡ some why → writing (writeRefusal held few ok) n text ≡ refused why
+  refusal-is : (why : Refusal) → writeRefusal held few ok ≡ Found why Whole → writing (writeRefusal held few ok) n text ≡ refused why Whole
   unfolding writing writingOf
-  refusal-is why e = ap (λ (o : Option Refusal). writingOf o text) (otherwise-some _ _ why e)
+  refusal-is why e = ap (λ (x : Finding). writingOf x text) (otherwise-found _ _ e)
 
-  pub too-short : held ≡ false → writing (writeRefusal held few ok) n text ≡ refused TableTooShort
-  too-short h = refusal-is TableTooShort (unfold writeRefusal in otherwise-some _ _ TableTooShort (some-unless held TableTooShort h))
+  pub too-short : held ≡ false → writing (writeRefusal held few ok) n text ≡ refused TableTooShort Whole
+  too-short h = refusal-is TableTooShort (unfold writeRefusal wholeUnless in otherwise-found _ _ (found-unless held _ _ h))
 
   module _ (h : held ≡ true) where
-    pub too-many : few ≡ false → writing (writeRefusal held few ok) n text ≡ refused TooMany
+    pub too-many : few ≡ false → writing (writeRefusal held few ok) n text ≡ refused TooMany Whole
     too-many f =
         refusal-is TooMany
-        (unfold writeRefusal in
-        otherwise-none _ _ (none-unless held TableTooShort h) ∙ otherwise-some _ _ TooMany (some-unless few TooMany f))
+        (unfold writeRefusal wholeUnless in
+        otherwise-nothing _ _ (nothing-unless held _ _ h) ∙ otherwise-found _ _ (found-unless few _ _ f))
 
     module _ (f : few ≡ true) where
-      unrefused : writeRefusal held few ok ≡ unless ok Number
-      unfolding writeRefusal
-      unrefused = otherwise-none _ _ (none-unless held TableTooShort h) ∙ otherwise-none _ _ (none-unless few TooMany f)
+      unrefused : writeRefusal held few ok ≡ wholeUnless ok Number
+      unfolding writeRefusal wholeUnless
+      unrefused = otherwise-nothing _ _ (nothing-unless held _ _ h) ∙ otherwise-nothing _ _ (nothing-unless few _ _ f)
 
-      pub no-number : ok ≡ false → writing (writeRefusal held few ok) n text ≡ refused Number
-      no-number o = refusal-is Number (unrefused ∙ some-unless ok Number o)
+      pub no-number : ok ≡ false → writing (writeRefusal held few ok) n text ≡ refused Number Whole
+      unfolding wholeUnless
+      no-number o = refusal-is Number (unrefused ∙ found-unless ok _ _ o)
 
-      pub left : ok ≡ true → writing (writeRefusal held few ok) n text ≡ writing none n text
-      left o = ap (λ (q : Option Refusal). writing q n text) (unrefused ∙ none-unless ok Number o)
+      pub left : ok ≡ true → writing (writeRefusal held few ok) n text ≡ writing Nothing n text
+      unfolding wholeUnless
+      left o = ap (λ (x : Finding). writing x n text) (unrefused ∙ nothing-unless ok _ _ o)
 
 -- the answer and the output of n bytes, by what writing comes to
 pub answered : {U W : Writing} (n : ℕ) {r : Written} {out : List ℕ} → W ≡ U

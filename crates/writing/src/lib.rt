@@ -9,7 +9,6 @@ use stab::Refusal;
 use stab::Written;
 use stab::heading;
 ghost use mathlib.Core.Path.{_≡_};
-ghost use mathlib.Core.Option.{none};
 ghost use Prim.Native.Nat.{_+_, _*_, _≤_};
 ghost use lib.ListN.{length, take};
 ghost use lib.Dec.{leb};
@@ -19,7 +18,9 @@ ghost use Rattle.stab.specs.Node.{setStart, setFollows};
 ghost use Rattle.stab.specs.Text.{fiveDigits, padded};
 ghost use Rattle.stab.specs.Check.{holds};
 ghost use Rattle.stab.specs.Write.{nodeWritable, nodesWritable, setsWritable, rowsWritable, proofText, writeSchema, writeProof, writeModel, refused, writing, written, output};
+ghost use Rattle.stab.specs.declared.Place.the-variants.{Whole};
 ghost use Rattle.stab.specs.declared.Written.the-variants.{Text};
+ghost use Rattle.stab.specs.declared.Finding.the-variants.{Nothing};
 ghost use Rattle.digits.specs.Over.{spread};
 ghost use Rattle.output.specs.NodeTexts.{columnsWidth, NodesWritable};
 ghost use Rattle.output.specs.Headed.{headedText, writeHeaded, Writable, Front, Short};
@@ -105,7 +106,7 @@ fn nodes_follow(nodes: &[i32], count: usize, m: usize) -> bool
 
 // The answer to a refusal, with the output all 0.
 fn refuse(out: &mut [u8], why: Refusal) -> Written
-    ensures { λ r. ⌜ (r ≡ written (refused why)) × (now (out .exit) ≡ output (length (now (out .entry))) (refused why)) ⌝ }
+    ensures { λ r. ⌜ (r ≡ written (refused why Whole)) × (now (out .exit) ≡ output (length (now (out .entry))) (refused why Whole)) ⌝ }
 {
     clear(out);
     Written::Refused {
@@ -134,8 +135,8 @@ fn fill_headed(
     out: &mut [u8],
 ) -> Written
     requires { ⌜ Short (now first) (now line) (now second) × Front (now line) × Writable w (now t) rows ⌝ }
-    ensures { λ r. ⌜ r ≡ written (writing none (length (now (out .entry))) (headedText (now (first .entry)) (now (line .entry)) (now (second .entry)) w (now (t .entry)) rows)) ⌝ }
-    ensures { λ r. ⌜ now (out .exit) ≡ output (length (now (out .entry))) (writing none (length (now (out .entry))) (headedText (now (first .entry)) (now (line .entry)) (now (second .entry)) w (now (t .entry)) rows)) ⌝ }
+    ensures { λ r. ⌜ r ≡ written (writing Nothing (length (now (out .entry))) (headedText (now (first .entry)) (now (line .entry)) (now (second .entry)) w (now (t .entry)) rows)) ⌝ }
+    ensures { λ r. ⌜ now (out .exit) ≡ output (length (now (out .entry))) (writing Nothing (length (now (out .entry))) (headedText (now (first .entry)) (now (line .entry)) (now (second .entry)) w (now (t .entry)) rows)) ⌝ }
 {
     let count = w * rows;
     let bytes = first.len() + second.len() + 2 + spread_width(line) + spread_width(&t[..count]);
@@ -247,8 +248,8 @@ fn fill_proof(
 ) -> Written
     requires { ⌜ Writable 4 (now t) rows × NodesWritable (now nodes) count (now members) × (nat (setStart (now nodes) count) ≡ m) ⌝ }
     requires { ⌜ (rows ≤ 1024) × (count ≤ 1024) × (m ≤ 8192) ⌝ }
-    ensures { λ r. ⌜ r ≡ written (writing none (length (now (out .entry))) (proofText (now (t .entry)) rows (now (nodes .entry)) count (now (members .entry)))) ⌝ }
-    ensures { λ r. ⌜ now (out .exit) ≡ output (length (now (out .entry))) (writing none (length (now (out .entry))) (proofText (now (t .entry)) rows (now (nodes .entry)) count (now (members .entry)))) ⌝ }
+    ensures { λ r. ⌜ r ≡ written (writing Nothing (length (now (out .entry))) (proofText (now (t .entry)) rows (now (nodes .entry)) count (now (members .entry)))) ⌝ }
+    ensures { λ r. ⌜ now (out .exit) ≡ output (length (now (out .entry))) (writing Nothing (length (now (out .entry))) (proofText (now (t .entry)) rows (now (nodes .entry)) count (now (members .entry)))) ⌝ }
 {
     let numbers = 4 * rows;
     let bytes = 43

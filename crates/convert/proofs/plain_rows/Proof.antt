@@ -13,7 +13,7 @@ use Rattle.stab.proofs.Bools.{asked-false, asked-true}
 use Rattle.stab.specs.declared.SchemaRead.the-variants.{Schema}
 use Rattle.stab.specs.Text.{padded}
 use Rattle.stab.specs.Formula.{rowAt}
-use Rattle.stab.specs.Check.{finding, formulasRefusal}
+use Rattle.stab.specs.Check.{formulasRefusal}
 use Rattle.stab.specs.Basic.{nat}
 use Rattle.signed.proofs.Signs.{read-back}
 use Rattle.wide.specs.Plain.{image}
@@ -114,7 +114,7 @@ table : (c : tie.After-plain-pass) → let w = W (start c) in c .before .before 
 unfolding plainTable
 table c = c .before .before .before .filled .ensures .1
 
-found : (c : tie.After-plain-pass) → let w = W (start c) in finding (c .plain-pass .result) ≡ formulasRefusal (rowAt (padded (pos 0) (w .room) (plainTable w))) (plainCount w) (plainCount w) (pos (plainRoot w)) (w .least)
+found : (c : tie.After-plain-pass) → let w = W (start c) in (c .plain-pass .result) ≡ formulasRefusal (rowAt (padded (pos 0) (w .room) (plainTable w))) (plainCount w) (plainCount w) (pos (plainRoot w)) (w .least)
 found c =
     let f = c .before .before .before in
     let k = counted (passed c .before .before) in
@@ -123,24 +123,22 @@ found c =
     ∙ (λ i. formulasRefusal (rowAt (table c i)) (k i) (k i) (root i) (toZ-ofZ (start c .fits .least) i))
 
 returns-2 : tie.Need-returns-2
-unfolding finding
 returns-2 c =
     let p = c .before .before .before .before .before in
     let w = W (start p) in
-    let h = answer-some w _ _ (pass-some w (start p .pre) (few p) (sym (found p) ∙ ap finding (c .before .before .before .enum-told2 .given .1))) in
+    let h = answer-some w _ _ (pass-some w (start p .pre) (few p) (sym (found p) ∙ (c .before .before .before .enum-told2 .given .1))) in
     (c .before .refused2 .ensures .0 ∙ h .0, c .before .refused2 .ensures .1 ∙ ap (λ (m : ℕ). padded (pos 0) m []) (p .before .before .before .filled .kept .1 .1 .1 .1 .0) ∙ h .1)
 
 same-length-3 : tie.Need-same-length-3
 same-length-3 c = search needs
 
 returns-3 : tie.Need-returns-3
-unfolding finding
 returns-3 c =
     let p = c .before .before in
     let s = start p in
     let w = W s in
     let k = counted (passed p .before .before) in
-    let h = answer-none w (pass-none w (s .pre) (few p) (sym (found p) ∙ ap finding (c .enum-told .given .1))) in
+    let h = answer-none w (pass-none w (s .pre) (few p) (sym (found p) ∙ (c .enum-told .given .1))) in
     let root = read-back _ (p .before .before .before .filled .ok) ∙ top p in
     ((λ i. Schema (root i) (toZ-ofZ (s .fits .least) i) (k i)) ∙ h .0, table p ∙ h .1)
 

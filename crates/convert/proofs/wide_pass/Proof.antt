@@ -6,9 +6,9 @@ use lib.ListN.{length}
 use mir.Facts.{toZ-ofZ}
 use borrow.Author.Tests.{lt-leb, le-leb, leb-true}
 use borrow.Author.Needs.{needs}
-use Rattle.stab.proofs.Bools.{asked-false, asked-true, none-unless, some-unless, otherwise-none, otherwise-some}
+use Rattle.stab.proofs.Bools.{asked-false, asked-true, nothing-unless, found-unless, otherwise-nothing, otherwise-found}
 use Rattle.stab.specs.Formula.{rowAt}
-use Rattle.stab.specs.Check.{finding, holds, atUnless, wholeUnless}
+use Rattle.stab.specs.Check.{holds, atUnless, wholeUnless}
 use Rattle.wide.specs.Convert.{wideRefusal}
 use Rattle.convert.specs.Emission.{inputRefusal}
 use Rattle.convert.proofs.wide_pass.Statement.{statement}
@@ -19,27 +19,27 @@ held : (c : tie.Else2) → let a = c .before .before .before .args in holds (a .
 held c = asked-true (c .before .holds .ensures) (c .if2 .left)
 
 returns : tie.Need-returns
-unfolding finding inputRefusal atUnless
-returns c = sym (otherwise-some _ _ _ (some-unless _ _ (lt-leb 4096 _ (c .if1 .taken))))
+unfolding inputRefusal atUnless
+returns c = sym (otherwise-found _ _ (found-unless _ _ _ (lt-leb 4096 _ (c .if1 .taken))))
 
 holds-requires : tie.Need-holds-requires
 holds-requires c κs = search needs
 
 returns-2 : tie.Need-returns-2
-unfolding finding inputRefusal atUnless wholeUnless
+unfolding inputRefusal atUnless wholeUnless
 returns-2 c =
     sym
-    (otherwise-none _ _ (none-unless _ _ (le-leb 4096 _ (c .before .before .if1 .left)))
-    ∙ otherwise-some _ _ _ (some-unless _ _ (asked-false (c .before .holds .ensures) (c .if2 .taken))))
+    (otherwise-nothing _ _ (nothing-unless _ _ _ (le-leb 4096 _ (c .before .before .if1 .left)))
+    ∙ otherwise-found _ _ (found-unless _ _ _ (asked-false (c .before .holds .ensures) (c .if2 .taken))))
 
 returns-3 : tie.Need-returns-3
-unfolding finding inputRefusal atUnless wholeUnless
+unfolding inputRefusal atUnless wholeUnless
 returns-3 c =
     let e = c .before in
     sym
-    (otherwise-none _ _ (none-unless _ _ (le-leb 4096 _ (e .before .before .if1 .left)))
-    ∙ otherwise-none _ _ (none-unless _ _ (held e))
-    ∙ otherwise-some _ _ _ (some-unless _ _ (lt-leb _ 1024 (c .if3 .taken))))
+    (otherwise-nothing _ _ (nothing-unless _ _ _ (le-leb 4096 _ (e .before .before .if1 .left)))
+    ∙ otherwise-nothing _ _ (nothing-unless _ _ _ (held e))
+    ∙ otherwise-found _ _ (found-unless _ _ _ (lt-leb _ 1024 (c .if3 .taken))))
 
 slice-aggregate-wide-rows : tie.Need-slice-aggregate-wide-rows
 slice-aggregate-wide-rows c = search needs
@@ -52,7 +52,7 @@ wide-rows-requires c κs =
     (c .before .if3 .left, leb-true (4 * a .n) (length (a .wide .now)) (held e), omega arith)
 
 returns-4 : tie.Need-returns-4
-unfolding finding inputRefusal atUnless wholeUnless
+unfolding inputRefusal atUnless wholeUnless
 returns-4 c =
     let g = c .before .before .before in
     let e = g .before in
@@ -61,9 +61,9 @@ returns-4 c =
     c .before .wide-rows .ensures .0
     ∙ ap₂ (wideRefusal (rowAt (a .wide .now)) (a .n)) (toZ-ofZ (s .fits .root)) (toZ-ofZ (s .fits .least))
     ∙ sym
-    (otherwise-none _ _ (none-unless _ _ (le-leb 4096 _ (e .before .before .if1 .left)))
-    ∙ otherwise-none _ _ (none-unless _ _ (held e))
-    ∙ otherwise-none _ _ (none-unless _ _ (le-leb _ 1024 (g .if3 .left))))
+    (otherwise-nothing _ _ (nothing-unless _ _ _ (le-leb 4096 _ (e .before .before .if1 .left)))
+    ∙ otherwise-nothing _ _ (nothing-unless _ _ _ (held e))
+    ∙ otherwise-nothing _ _ (nothing-unless _ _ _ (le-leb _ 1024 (g .if3 .left))))
 
 pub wide-pass-spec : {M : Type 1} → statement M
 wide-pass-spec =

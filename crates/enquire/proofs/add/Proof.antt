@@ -3,7 +3,6 @@ use native.Mathlib.Omega.{arith}
 use mathlib.Core.Path.{_≡_, refl, sym, _∙_, ap, ap₂}
 use mathlib.Core.Bool.{true, false}
 use mathlib.Core.List.{List}
-use mathlib.Core.Option.{none, some}
 use lib.IntN.{ℤ, pos}
 use mir.Facts.{toZ-ofZ}
 use denote.Ref.{now}
@@ -71,7 +70,7 @@ returns c =
     let k = c .before .before .before .before in
     let b = k .before .before .before .before in
     let v = call-refused (here b) (add (row b)) _ _ _ (sym (answer-is k) ∙ c .enum-told2 .given .1) in
-    (answer-is k ∙ call-answer (E b) (add (row b)), (λ i. record { held = left-is k i; waiting = now (b .args .waiting) }) ∙ sym (called-no (E b) (add (row b)) (v .0) (v .1)))
+    (answer-is k ∙ call-answer (E b) (add (row b)), (λ i. record { held = left-is k i; waiting = now (b .args .waiting) }) ∙ sym (called-no (E b) (add (row b)) (v .0) (v .1) (v .2)))
 
 empty-requires : tie.Need-empty-requires
 empty-requires c κs = search needs

@@ -3,7 +3,6 @@ use native.Mathlib.Omega.{arith}
 use mathlib.Core.Path.{_≡_, refl, sym, _∙_, ap, ap₂}
 use mathlib.Core.Bool.{true, false}
 use mathlib.Core.List.{List}
-use mathlib.Core.Option.{none, some}
 use lib.IntN.{ℤ, pos}
 use mir.Facts.{toZ-ofZ}
 use denote.Ref.{now}
@@ -11,7 +10,7 @@ use Rattle.stab.specs.Node.{Tableau}
 use Rattle.stab.specs.Basic.{_otherwise_}
 use Rattle.stab.specs.declared.Place.the-variants.{Whole}
 use Rattle.stab.specs.declared.Refusal.the-variants.{Waiting}
-use Rattle.stab.specs.declared.Verdict.the-variants.{Refused}
+use Rattle.stab.specs.declared.Finding.the-variants.{Found}
 use Rattle.stab.proofs.Bools.{asked-false, asked-true}
 use Rattle.branch.specs.Work.{tableau}
 use Rattle.growing.specs.Growing.{NodeRow, add, heldRefusal, growthBy, answered, after}
@@ -87,7 +86,7 @@ returns c =
     let t = c .before .before .before .before .before in
     let b = t .before .before .before .before in
     let h = asked-false (t .before .waits .ensures) (t .if1 .taken) in (
-      no-commit-answer (E b) h _ (λ U. c .turn-away .ensures U ∙ ap₂ (λ (r l : ℤ). growthBy (heldRefusal (lentAt b r l) otherwise some (Refused Waiting Whole)) (lentAt b r l) U) (toZ-ofZ (b .fits .root)) (toZ-ofZ (b .fits .least))),
+      no-commit-answer (E b) h _ (λ U. c .turn-away .ensures U ∙ ap₂ (λ (r l : ℤ). growthBy (heldRefusal (lentAt b r l) otherwise Found Waiting Whole) (lentAt b r l) U) (toZ-ofZ (b .fits .root)) (toZ-ofZ (b .fits .least))),
       sym (no-commit (E b) h),
     )
 
@@ -113,7 +112,7 @@ returns-2 c =
     let e = k .before .before .before .before .before .before in
     let b = start e in
     let v = call-refused (here b) (add (row b)) _ _ _ (sym (answer-is k) ∙ c .enum-told2 .given .1) in
-    (answer-is k ∙ commit-answer (E b) (waiting-is e), (λ i. record { held = left-is k i; waiting = now (b .args .waiting) }) ∙ sym (committed-no (E b) (waiting-is e) (v .0) (v .1)))
+    (answer-is k ∙ commit-answer (E b) (waiting-is e), (λ i. record { held = left-is k i; waiting = now (b .args .waiting) }) ∙ sym (committed-no (E b) (waiting-is e) (v .0) (v .1) (v .2)))
 
 empty-requires : tie.Need-empty-requires
 empty-requires c κs = search needs

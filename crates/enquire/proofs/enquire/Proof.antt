@@ -3,13 +3,13 @@ use native.Mathlib.Omega.{arith}
 use mathlib.Core.Path.{_≡_, refl, sym, _∙_, ap, ap₂}
 use mathlib.Core.Bool.{true, false}
 use mathlib.Core.List.{List}
-use mathlib.Core.Option.{none, some}
 use lib.IntN.{ℤ, pos}
 use lib.ListN.{length}
 use mir.Facts.{toZ-ofZ}
 use denote.Ref.{now}
 use Rattle.stab.specs.Node.{Tableau}
 use Rattle.stab.specs.Basic.{if_then_else_}
+use Rattle.stab.specs.declared.Finding.the-variants.{Nothing}
 use Rattle.growing.specs.Growing.{NodeRow, add, addRefusal, callRefusal, answered, after}
 use Rattle.growing.specs.Enquiry.{Editor, nothingWaits}
 use Rattle.growing.proofs.Enquiries.{accepted-few}
@@ -56,7 +56,7 @@ left-is c =
     ∙ ap₂ (λ (r l : ℤ). (lentAt b r l)) (toZ-ofZ (b .fits .root)) (toZ-ofZ (b .fits .least))
 
 -- the answer is yes
-yes : (t : tie.After-enum-told) → let b = t .before .before .before .before .before .before .before .before in callRefusal (here b) (add (row b)) ≡ none
+yes : (t : tie.After-enum-told) → let b = t .before .before .before .before .before .before .before .before in callRefusal (here b) (add (row b)) ≡ Nothing
 yes t = let k = t .before .before .before .before in call-held (here (k .before .before .before .before)) (add (row (k .before .before .before .before))) _ _ _ (sym (answer-is k) ∙ t .enum-told .given .1)
 
 try-row-requires : tie.Need-try-row-requires
@@ -85,7 +85,7 @@ returns c =
     let b = k .before .before .before .before in
     let l : length (now (b .args .waiting)) ≡ 1033 = search needs in
     let v = call-refused (here b) (add (row b)) _ _ _ (sym (answer-is k) ∙ t .enum-told2 .given .1) in
-    (answer-is k ∙ enquiry-answer (E b) (row b), (λ i. record { held = left-is k i; waiting = (c .clear .ensures ∙ cleared-padded (now (b .args .waiting)) 0 1033 (omega arith) l) i }) ∙ sym (enquired-no (E b) (row b) (v .0) (v .1)))
+    (answer-is k ∙ enquiry-answer (E b) (row b), (λ i. record { held = left-is k i; waiting = (c .clear .ensures ∙ cleared-padded (now (b .args .waiting)) 0 1033 (omega arith) l) i }) ∙ sym (enquired-no (E b) (row b) (v .0) (v .1) (v .2)))
 
 store-requires : tie.Need-store-requires
 unfolding callRefusal rowFrom

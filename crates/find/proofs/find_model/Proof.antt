@@ -6,7 +6,6 @@ use lib.ListN.{length}
 use mir.Facts.{toZ-ofZ}
 use denote.Ref.{now}
 use borrow.Author.Needs.{needs}
-use Rattle.stab.specs.Check.{finding}
 use Rattle.stab.specs.Occurs.{Wire, table}
 use Rattle.stab.specs.Text.{padded}
 use Rattle.signed.proofs.Tables.{cleared-padded}
@@ -25,7 +24,7 @@ abbrev here : tie.Start → Query
 here c = query c (c .args .root) (c .args .least) (c .args .n)
 
 -- a signed number is kept as bits, and read back from them
-query-known : (c : tie.After-query-pass) → finding (c .query-pass .result) ≡ queryRefusal (here (c .before .before))
+query-known : (c : tie.After-query-pass) → (c .query-pass .result) ≡ queryRefusal (here (c .before .before))
 query-known c =
     let start = c .before .before in
     c .query-pass .ensures .0
@@ -50,9 +49,8 @@ slice-aggregate-searched : tie.Need-slice-aggregate-searched
 slice-aggregate-searched c = search needs
 
 searched-requires : tie.Need-searched-requires
-unfolding finding
 searched-requires c κs =
-    c .before .before .before .before .before .query-pass .ensures .1 (sym (c .before .before .before .before .before .query-pass .ensures .0) ∙ ap finding (c .before .before .enum-told .given .1))
+    c .before .before .before .before .before .query-pass .ensures .1 (sym (c .before .before .before .before .before .query-pass .ensures .0) ∙ (c .before .before .enum-told .given .1))
 
 same-length : tie.Need-same-length
 same-length c = search needs

@@ -1,6 +1,5 @@
 use native.Mathlib.Omega.{arith}
 use mathlib.Core.Path.{_≡_, sym, _∙_, ap₂}
-use mathlib.Core.Option.{none}
 use lib.IntN.{ℤ, pos}
 use lib.Signed.{leZ}
 use mir.Facts.{toZ-ofZ}
@@ -8,7 +7,8 @@ use denote.Ref.{now}
 use borrow.Author.Needs.{needs}
 use Rattle.stab.specs.Basic.{_and_}
 use Rattle.stab.specs.Formula.{rowAt}
-use Rattle.stab.specs.Check.{finding, formulasRefusal}
+use Rattle.stab.specs.Check.{formulasRefusal}
+use Rattle.stab.specs.declared.Finding.the-variants.{Nothing}
 use Rattle.stab.proofs.Findings.{stays, nothing-found, later}
 use Rattle.stab.proofs.Bools.{otherwise-first}
 use Rattle.formula.specs.Rows.{Passed}
@@ -23,12 +23,12 @@ abbrev query : tie.Start → Query
 query c =
     record { schema = now (c .args .schema); schemaRows = c .args .schema-rows; root = c .args .root; least = c .args .least; n = c .args .n; room = c .args .room }
 
-tables-passed : (c : tie.After-enum-told) → tablesRefusal (c .before .before .before .before .args .room) (now (c .before .before .before .before .args .schema)) (c .before .before .before .before .args .schema-rows) ≡ none
+tables-passed : (c : tie.After-enum-told) → tablesRefusal (c .before .before .before .before .args .room) (now (c .before .before .before .before .args .schema)) (c .before .before .before .before .args .schema-rows) ≡ Nothing
 tables-passed c = nothing-found _ _ (c .before .before .tables-pass .ensures) (c .enum-told .given .1)
 
 formulas-are : (c : tie.After-schema-pass) →
     let a = c .before .before .before .before .before .before .args in
-    finding (c .schema-pass .result) ≡ formulasRefusal (rowAt (now (a .schema))) (a .schema-rows) (a .schema-rows) (a .root) (a .least)
+    (c .schema-pass .result) ≡ formulasRefusal (rowAt (now (a .schema))) (a .schema-rows) (a .schema-rows) (a .root) (a .least)
 formulas-are c =
     let start = c .before .before .before .before .before .before in
     c .schema-pass .ensures .0
@@ -38,7 +38,7 @@ formulas-are c =
 module _ (c : tie.After-enum-told3) where
   formulas-passed :
       let a = c .before .before .before .before .before .before .before .before .before .before .args in
-      formulasRefusal (rowAt (now (a .schema))) (a .schema-rows) (a .schema-rows) (a .root) (a .least) ≡ none
+      formulasRefusal (rowAt (now (a .schema))) (a .schema-rows) (a .schema-rows) (a .root) (a .least) ≡ Nothing
   formulas-passed = nothing-found _ _ (formulas-are (c .before .before .before .before)) (c .enum-told3 .given .1)
 
   rows-passed : Passed (rowAt (now (c .before .before .before .before .before .before .before .before .before .before .args .schema))) (c .before .before .before .before .schema-pass .last .1 .1 .1 .1 .0) (c .before .before .before .before .before .before .before .before .before .before .args .schema-rows)
@@ -93,7 +93,7 @@ same-length-2 : tie.Need-same-length-2
 same-length-2 c = search needs
 
 returns-3 : tie.Need-returns-3
-unfolding queryRefusal finding
+unfolding queryRefusal
 returns-3 c =
     (later _ _ _ (tables-passed (c .before .before .before .before .before .before .before .before)) (later _ _ _ (formulas-passed (c .before .before)) (sym (whole-none _ _ (sym (width-is (c .before)) ∙ c .if1 .taken)))), λ h. query-ready (query (c .before .before .before .before .before .before .before .before .before .before .before .before)) h _ (rows-passed (c .before .before)))
 

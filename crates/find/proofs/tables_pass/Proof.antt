@@ -3,7 +3,7 @@ use mathlib.Core.Bool.{true}
 use denote.Ref.{now}
 use borrow.Author.Needs.{needs}
 use borrow.Author.Tests.{le-leb, lt-leb}
-use Rattle.stab.specs.Check.{holds, finding}
+use Rattle.stab.specs.Check.{holds}
 use Rattle.stab.proofs.Bools.{false-of-not, true-of-not}
 use Rattle.model.proofs.Passes.{whole-none, found-last, found-here, found-later}
 use Rattle.find.specs.Search.{tablesRefusal}
@@ -40,7 +40,7 @@ returns-3 c =
     (found-later _ _ _ _ (held (c .before .before)) (found-last _ _ _ (c .whole2 .ensures) (lt-leb _ _ (c .before .if3 .taken))))
 
 returns-4 : tie.Need-returns-4
-unfolding tablesRefusal finding
+unfolding tablesRefusal
 returns-4 c =
     at-later _ _ _ _ _ (le-leb _ _ (c .before .before .before .if1 .left))
     (found-later _ _ _ _ (held (c .before)) (sym (whole-none _ _ (le-leb _ _ (c .if3 .left)))))

@@ -5,7 +5,6 @@ use lib.IntN.{ℤ}
 use mir.Facts.{toZ-ofZ}
 use denote.Ref.{now}
 use Rattle.stab.specs.Node.{Tableau}
-use Rattle.stab.specs.Check.{finding}
 use Rattle.branch.specs.Work.{tableau}
 use Rattle.growing.specs.Growing.{heldRefusal, holding, begun, beginRefusal}
 use Rattle.grow.specs.State.{state}
@@ -26,7 +25,7 @@ held-requires : tie.Need-held-requires
 held-requires c κs = search needs
 
 -- what is found once no node is held
-found : (c : tie.After-held) → finding (c .held .result) ≡ beginRefusal (here (c .before .before .before .before .before .before .before .before .before))
+found : (c : tie.After-held) → (c .held .result) ≡ beginRefusal (here (c .before .before .before .before .before .before .before .before .before))
 unfolding beginRefusal begun holding state tableau
 found c =
     let h = c .before .before .before .before .before in
@@ -57,11 +56,10 @@ same-length-2 : tie.Need-same-length-2
 same-length-2 c = search needs
 
 returns : tie.Need-returns
-unfolding finding
 returns c =
     let f = c .before .before .before in
     let h = f .before .before .before .before .before in
-    (sym (begun-refused _ _ _ (sym (found f) ∙ ap finding (c .before .why .given .1))), left h)
+    (sym (begun-refused _ _ _ (sym (found f) ∙ (c .before .why .given .1))), left h)
 
 same-length-3 : tie.Need-same-length-3
 same-length-3 c = search needs
@@ -70,11 +68,10 @@ same-length-4 : tie.Need-same-length-4
 same-length-4 c = search needs
 
 returns-2 : tie.Need-returns-2
-unfolding finding
 returns-2 c =
     let f = c .before .before in
     let h = f .before .before .before .before .before in
-    (sym (begun-answer _ (sym (found f) ∙ ap finding (c .enum-told .given .1))), left h)
+    (sym (begun-answer _ (sym (found f) ∙ (c .enum-told .given .1))), left h)
 
 pub begin-spec : {M : Type 1} → statement M
 begin-spec =

@@ -3,18 +3,17 @@ use Prim.Native.Nat.{ℕ, _*_, _-_, _<_}
 use native.Mathlib.Omega.{arith}
 use mathlib.Core.Path.{_≡_, sym, _∙_, ap, ap₂, subst}
 use mathlib.Core.List.{List}
-use mathlib.Core.Option.{Option, none, some}
 use lib.IntN.{ℤ, pos}
 use lib.ListN.{length, getD, take}
 use mir.Facts.{toZ-ofZ}
 use denote.Ref.{now}
 use Rattle.stab.specs.Basic.{count, nat, _otherwise_}
 use Rattle.stab.specs.Node.{Tableau, node, nodeAt}
-use Rattle.stab.specs.Check.{finding, isLink}
+use Rattle.stab.specs.Check.{isLink}
 use Rattle.stab.specs.Text.{padded}
 use Rattle.stab.specs.declared.Place.the-variants.{Whole}
 use Rattle.stab.specs.declared.Refusal.the-variants.{NoRow}
-use Rattle.stab.specs.declared.Verdict.the-variants.{Refused}
+use Rattle.stab.specs.declared.Finding.the-variants.{Nothing, Found}
 use Rattle.branch.specs.Work.{tableau}
 use Rattle.tidied.proofs.Tables.{set-within}
 use Rattle.growing.specs.Complete.{complete}
@@ -59,15 +58,15 @@ returns c =
     let t = c .before .before .before in
     let b = t .before .before .before in
     let e = no-row (here b) (t .if1 .taken) in (
-      turned-answer (here b) takeBack _ e _ (λ U. c .turn-away .ensures U ∙ ap₂ (λ (r l : ℤ). growthBy (heldRefusal (lentAt b r l) otherwise some (Refused NoRow Whole)) (lentAt b r l) U) (toZ-ofZ (b .fits .root)) (toZ-ofZ (b .fits .least))),
-      sym (turned-away (here b) takeBack _ _ e),
+      turned-answer (here b) takeBack _ e _ (λ U. c .turn-away .ensures U ∙ ap₂ (λ (r l : ℤ). growthBy (heldRefusal (lentAt b r l) otherwise Found NoRow Whole) (lentAt b r l) U) (toZ-ofZ (b .fits .root)) (toZ-ofZ (b .fits .least))),
+      sym (turned-away (here b) takeBack _ _ _ e),
     )
 
 held-requires : tie.Need-held-requires
 held-requires c κs = search needs
 
 -- what is found of the rows held
-found : (c : tie.After-held) → finding (c .held .result) ≡ heldRefusal (here (c .before .before .before .before .before .before))
+found : (c : tie.After-held) → (c .held .result) ≡ heldRefusal (here (c .before .before .before .before .before .before))
 unfolding state
 found c =
     let b = c .before .before .before .before .before .before in
@@ -83,9 +82,8 @@ enum-told c = search needs
 abbrev begun : tie.After-enum-told → tie.Start
 begun c = c .before .before .before .before .before .before .before .before
 
-nothing : (c : tie.After-enum-told) → heldRefusal (here (begun c)) ≡ none
-unfolding finding
-nothing c = sym (found (c .before .before)) ∙ ap finding (c .enum-told .given .1)
+nothing : (c : tie.After-enum-told) → heldRefusal (here (begun c)) ≡ Nothing
+nothing c = sym (found (c .before .before)) ∙ (c .enum-told .given .1)
 
 holds : (c : tie.After-enum-told) → Holds (here (begun c))
 holds c = held-clears (here (begun c)) .0 (nothing c)
@@ -132,13 +130,12 @@ same-length-4 c = search needs
 
 -- they are refused
 returns-2 : tie.Need-returns-2
-unfolding finding
 returns-2 c =
     let f = c .before .before .before in
     let b = f .before .before .before .before .before .before in
-    let h = sym (found f) ∙ ap finding (c .before .why .given .1) in
-    let e = back-refused (here b) _ h in
-    (turned-answer (here b) takeBack _ e _ (λ U. refused-growth (here b) U _ _ h), sym (refused-leaves (here b) takeBack _ e))
+    let h = sym (found f) ∙ (c .before .why .given .1) in
+    let e = back-refused (here b) _ _ h in
+    (turned-answer (here b) takeBack _ e _ (λ U. refused-growth (here b) U _ _ h), sym (refused-leaves (here b) takeBack _ _ e))
 
 same-length-5 : tie.Need-same-length-5
 same-length-5 c = search needs

@@ -5,7 +5,6 @@ use native.Mathlib.Numerals.{add-one}
 use mathlib.Core.Path.{_≡_, refl, sym, _∙_, ap, ap₂, subst}
 use mathlib.Core.Bool.{true, false}
 use mathlib.Core.List.{List}
-use mathlib.Core.Option.{Option, none, some}
 use lib.IntN.{ℤ, pos}
 use lib.ListN.{length, take, drop}
 use lib.Seq.{sets, length-sets}
@@ -13,12 +12,12 @@ use mir.Facts.{toZ-ofZ}
 use denote.Ref.{now}
 use Rattle.stab.specs.Basic.{count, _otherwise_}
 use Rattle.stab.specs.Node.{Tableau}
-use Rattle.stab.specs.Check.{finding, isLink}
+use Rattle.stab.specs.Check.{isLink}
 use Rattle.stab.specs.Text.{padded}
 use Rattle.stab.specs.declared.Place.{Place}
 use Rattle.stab.specs.declared.Place.the-variants.{Whole}
 use Rattle.stab.specs.declared.Refusal.the-variants.{Room}
-use Rattle.stab.specs.declared.Verdict.the-variants.{Refused}
+use Rattle.stab.specs.declared.Finding.the-variants.{Nothing, Found}
 use Rattle.stab.proofs.Bools.{if-true, if-false, asked-false, asked-true}
 use Rattle.branch.specs.Work.{tableau}
 use Rattle.growing.specs.Complete.{complete}
@@ -72,8 +71,8 @@ returns c =
     let t = c .before .before .before in
     let b = t .before .before .before .before in
     let e = no-room (here b) (row b) (asked-false (t .before .room .ensures) (t .if1 .taken)) in (
-      turned-answer (here b) (addRow (row b)) _ e _ (λ U. c .turn-away .ensures U ∙ ap₂ (λ (r l : ℤ). growthBy (heldRefusal (lentAt b r l) otherwise some (Refused Room Whole)) (lentAt b r l) U) (toZ-ofZ (b .fits .root)) (toZ-ofZ (b .fits .least))),
-      either (b .args .keep) _ (here b) (turned-away (here b) (addRow (row b)) _ _ e),
+      turned-answer (here b) (addRow (row b)) _ e _ (λ U. c .turn-away .ensures U ∙ ap₂ (λ (r l : ℤ). growthBy (heldRefusal (lentAt b r l) otherwise Found Room Whole) (lentAt b r l) U) (toZ-ofZ (b .fits .root)) (toZ-ofZ (b .fits .least))),
+      either (b .args .keep) _ (here b) (turned-away (here b) (addRow (row b)) _ _ _ e),
     )
 
 -- there is room
@@ -140,7 +139,7 @@ lay-of c = c .before .before .before .before .before .before .before
 
 found : (c : tie.After-held) →
     let b = start (else-of (lay-of c)) in
-    finding (c .held .result) ≡ heldRefusal (grown (here b) (row b))
+    (c .held .result) ≡ heldRefusal (grown (here b) (row b))
 unfolding state tableau grown rowFrom
 found c =
     let y = lay-of c in
@@ -159,11 +158,10 @@ lay-told c = lay-of (c .before .before)
 
 nothing : (c : tie.After-enum-told) →
     let b = start (else-of (lay-told c)) in
-    addRefusal (here b) (row b) ≡ none
-unfolding finding
+    addRefusal (here b) (row b) ≡ Nothing
 nothing c =
     let e = else-of (lay-told c) in
-    accepted (here (start e)) (row (start e)) (room-is e) (sym (found (c .before .before)) ∙ ap finding (c .enum-told .given .1))
+    accepted (here (start e)) (row (start e)) (room-is e) (sym (found (c .before .before)) ∙ (c .enum-told .given .1))
 
 add-settle : tie.Need-add-settle
 unfolding state tableau
@@ -220,13 +218,13 @@ unfolding state tableau
 add-show c = omega (arith, few-rows (lay-told (c .before .before)))
 
 show-requires : tie.Need-show-requires
-unfolding finding state tableau grown rowFrom
+unfolding state tableau grown rowFrom
 show-requires c κs =
     let t = c .before .before in
     let y = lay-told t in
     let e = else-of y in
     let b = start e in
-    let H = held-clears (grown (here b) (row b)) .0 (sym (found (t .before .before)) ∙ ap finding (t .enum-told .given .1)) in
+    let H = held-clears (grown (here b) (row b)) .0 (sym (found (t .before .before)) ∙ (t .enum-told .given .1)) in
     subst (Countable (y .lay .last .0) (here b .nodeRows + 1)) (sym (toZ-ofZ (b .fits .least))) (tried-countable (here b) (row b) (room-is e) H _ (y .lay .ensures .0))
 
 slice-aggregate-put-back : tie.Need-slice-aggregate-put-back
@@ -298,7 +296,7 @@ same-length-8 c = search needs
 
 -- it is refused
 returns-4 : tie.Need-returns-4
-unfolding finding state tableau rowFrom callRefusal nodeNumbers
+unfolding state tableau rowFrom callRefusal nodeNumbers
 returns-4 c =
     let p = c .before .before .before .before .before .before in
     let k = p .before .before .before .before .before in
@@ -317,10 +315,10 @@ returns-4 c =
     let rows : tableau (now (a .schema)) (a .schema-rows) (now (a .proof)) (a .proof-rows) _ _ _ n _ m ≡ T = λ i. tableau (now (a .schema)) (a .schema-rows) (now (a .proof)) (a .proof-rows) (toZ-ofZ (b .fits .root) i) (toZ-ofZ (b .fits .least) i) (nodes i) n (members i) m in
     let why = k .before .why .given .0 .0 in
     let place = k .before .why .given .0 .1 .0 in
-    let r = refused T w (room-is e) why place (sym (found f) ∙ ap finding (k .before .why .given .1)) in (
-      turned-answer T (addRow w) _ r _ (λ U. c .turn-away2 .ensures U ∙ (λ i. growthBy (heldRefusal (rows i) otherwise some (Refused why (c .before .place-of .ensures i))) (rows i) U)),
+    let r = refused T w (room-is e) why place (sym (found f) ∙ (k .before .why .given .1)) in (
+      turned-answer T (addRow w) _ r _ (λ U. c .turn-away2 .ensures U ∙ (λ i. growthBy (heldRefusal (rows i) otherwise Found why (c .before .place-of .ensures i)) (rows i) U)),
       (λ i. state (now (a .schema)) (a .schema-rows) (now (a .proof)) (a .proof-rows) (a .root) (a .least) (nodes i) (members i) (now (a .held)))
-          ∙ either (a .keep) _ T (turned-away T (addRow w) _ _ r),
+          ∙ either (a .keep) _ T (turned-away T (addRow w) _ _ _ r),
     )
 
 pub try-row-spec : {M : Type 1} → statement M

@@ -6,10 +6,9 @@ use Rattle.branch.specs.Work.{tableau}
 use Rattle.stab.proofs.Findings.{nothing-found}
 use Rattle.stab.proofs.Bools.{asked-false, asked-true}
 use Rattle.stab.specs.Node.{Tableau}
-use Rattle.stab.specs.Check.{finding}
+use Rattle.stab.specs.declared.Finding.the-variants.{Nothing}
 use mir.Facts.{toZ-ofZ}
 use lib.IntN.{ℤ}
-use mathlib.Core.Option.{none}
 use mathlib.Core.Bool.{true}
 use mathlib.Core.Path.{_≡_, sym, _∙_, ap}
 use borrow.Author.Needs.{needs}
@@ -43,10 +42,10 @@ start c = c .before .before .before .before .before .before .before
 has-room : (c : tie.After-refusal) → roomy (R (start c)) ≡ true
 has-room c = asked-true (c .before .before .full .ensures) (c .before .if1 .left)
 
-found-is : (c : tie.After-refusal) → let b = start c in finding (c .refusal .result) ≡ foundBefore (TA b) (TB b)
+found-is : (c : tie.After-refusal) → let b = start c in (c .refusal .result) ≡ foundBefore (TA b) (TB b)
 found-is c =
     let b = start c in
-    four (λ x y z w. finding (c .refusal .result) ≡ foundBefore (A b x y) (B b z w)) (toZ-ofZ (b .fits .first-root)) (toZ-ofZ (b .fits .first-least)) (toZ-ofZ (b .fits .second-root)) (toZ-ofZ (b .fits .second-least)) (c .refusal .ensures)
+    four (λ x y z w. (c .refusal .result) ≡ foundBefore (A b x y) (B b z w)) (toZ-ofZ (b .fits .first-root)) (toZ-ofZ (b .fits .first-least)) (toZ-ofZ (b .fits .second-root)) (toZ-ofZ (b .fits .second-least)) (c .refusal .ensures)
 
 full-requires : tie.Need-full-requires
 full-requires c κs = search needs
@@ -91,7 +90,7 @@ filled-requires c κs =
     let w = c .before .before .before .before in
     let d = w .before .before in
     let b = start d in
-    (has-room d, four (λ x y z w. foundBefore (A b x y) (B b z w) ≡ none) (sym (toZ-ofZ (b .fits .first-root))) (sym (toZ-ofZ (b .fits .first-least))) (sym (toZ-ofZ (b .fits .second-root))) (sym (toZ-ofZ (b .fits .second-least))) (nothing-found _ _ (found-is d) (w .enum-told .given .1)))
+    (has-room d, four (λ x y z w. foundBefore (A b x y) (B b z w) ≡ Nothing) (sym (toZ-ofZ (b .fits .first-root))) (sym (toZ-ofZ (b .fits .first-least))) (sym (toZ-ofZ (b .fits .second-root))) (sym (toZ-ofZ (b .fits .second-least))) (nothing-found _ _ (found-is d) (w .enum-told .given .1)))
 
 same-length-5 : tie.Need-same-length-5
 same-length-5 c = search needs
@@ -106,14 +105,13 @@ same-length-8 : tie.Need-same-length-8
 same-length-8 c = search needs
 
 returns-2 : tie.Need-returns-2
-unfolding finding
 returns-2 c =
     let e = c .before .before .before .before .refuse2 .ensures in
     let w = c .before .before .before .before .before .before .before .before .before .before in
     let d = w .before .before in
     let b = start d in
     answers (R b) (TA b) (TB b)
-    (refused-by (R b) (TA b) (TB b) (found-before (R b) (TA b) (TB b) (has-room d) _ (sym (found-is d) ∙ ap finding (w .why .given .1))) (e .0) (e .1 .0) (e .1 .1 .0) (e .1 .1 .1 .0) (e .1 .1 .1 .1))
+    (refused-by (R b) (TA b) (TB b) (found-before (R b) (TA b) (TB b) (has-room d) _ _ (sym (found-is d) ∙ (w .why .given .1))) (e .0) (e .1 .0) (e .1 .1 .0) (e .1 .1 .1 .0) (e .1 .1 .1 .1))
 
 same-length-9 : tie.Need-same-length-9
 same-length-9 c = search needs

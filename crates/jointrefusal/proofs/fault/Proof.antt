@@ -2,9 +2,9 @@ use mathlib.Core.Path.{_≡_, sym, _∙_, ap, ap₂}
 use lib.IntN.{ℤ}
 use mir.Facts.{toZ-ofZ}
 use Rattle.stab.specs.Node.{Tableau}
-use Rattle.stab.specs.Check.{finding, check}
+use Rattle.stab.specs.Check.{check}
 use Rattle.branch.specs.Work.{tableau}
-use Rattle.joint.specs.Joint.{refusalOf}
+use Rattle.stab.proofs.Exactness.Refusals.{accepted-finds, refused-finds}
 use borrow.Author.Needs.{needs}
 use Rattle.jointrefusal.proofs.fault.Statement.{statement}
 use Rattle.jointrefusal.proofs.fault.Tie as tie
@@ -30,12 +30,10 @@ enum-told : tie.Need-enum-told
 enum-told c = search needs
 
 returns : tie.Need-returns
-unfolding finding refusalOf
-returns c = let w = c .before in sym (ap refusalOf (sym (verdict-is (w .before .before)) ∙ w .why .given .1))
+returns c = let w = c .before in sym (refused-finds _ _ _ (sym (verdict-is (w .before .before)) ∙ w .why .given .1))
 
 returns-2 : tie.Need-returns-2
-unfolding finding refusalOf
-returns-2 c = sym (ap refusalOf (sym (verdict-is (c .before .before)) ∙ c .enum-told .given .1))
+returns-2 c = sym (accepted-finds _ _ _ (sym (verdict-is (c .before .before)) ∙ c .enum-told .given .1))
 
 pub fault-spec : {M : Type 1} → statement M
 fault-spec = tie.close (tie.spec check-requires enum-known-why enum-told returns returns-2)

@@ -2,23 +2,21 @@ use Prim.Native.Nat.{_+_}
 use native.Mathlib.Omega.{arith}
 use mathlib.Core.Path.{_≡_, sym, _∙_, ap, ap₂}
 use mathlib.Core.Bool.{Bool, true}
-use mathlib.Core.Option.{none}
 use lib.Dec.{ltb}
 use lib.IntN.{ℤ}
 use mir.Facts.{toZ-ofZ}
 use Rattle.stab.specs.Basic.{_and_, nat, eqZ}
 use Rattle.stab.specs.Formula.{formulaRows, tree}
 use Rattle.stab.specs.Node.{Tableau}
-use Rattle.stab.specs.Check.{finding, wholeUnless, check, formulasRefusal}
+use Rattle.stab.specs.Check.{wholeUnless, formulasRefusal, refusal as refusalIn}
 use Rattle.stab.specs.Keeps.{Keeps}
 use Rattle.stab.specs.declared.Place.the-variants.{Whole}
 use Rattle.stab.specs.declared.Refusal.the-variants.{Leasts, Joint}
-use Rattle.stab.specs.declared.Verdict.the-variants.{Refused}
-use Rattle.stab.proofs.Bools.{none-unless, some-unless, otherwise-some, asked-false, asked-true}
+use Rattle.stab.specs.declared.Finding.the-variants.{Nothing}
+use Rattle.stab.proofs.Bools.{nothing-unless, found-unless, otherwise-found, asked-false, asked-true}
 use Rattle.stab.proofs.Findings.{stays, nothing-found, later}
 use Rattle.stab.proofs.Whole.{eqZ-true}
 use Rattle.branch.specs.Work.{tableau}
-use Rattle.joint.specs.Joint.{refusalOf}
 use Rattle.jointrefusal.specs.Before.{orSmall, fitsBefore, foundBefore}
 use Rattle.jointrefusal.proofs.Before.{keeps, few-rows, schema-passes, or-is}
 use borrow.Author.Needs.{needs}
@@ -43,20 +41,20 @@ abbrev TB : tie.Start → Tableau
 TB b = B b (b .args .second-root) (b .args .second-least)
 
 -- what the check finds in each
-first-is : (c : tie.After-fault) → finding (c .fault .result) ≡ refusalOf (check (TA (c .before)))
+first-is : (c : tie.After-fault) → (c .fault .result) ≡ refusalIn (TA (c .before))
 first-is c =
     let b = c .before in
-    c .fault .ensures ∙ ap₂ (λ (x y : ℤ). refusalOf (check (A b x y))) (toZ-ofZ (b .fits .first-root)) (toZ-ofZ (b .fits .first-least))
+    c .fault .ensures ∙ ap₂ (λ (x y : ℤ). refusalIn (A b x y)) (toZ-ofZ (b .fits .first-root)) (toZ-ofZ (b .fits .first-least))
 
-first-passes : (c : tie.After-enum-told) → refusalOf (check (TA (c .before .before .before))) ≡ none
+first-passes : (c : tie.After-enum-told) → refusalIn (TA (c .before .before .before)) ≡ Nothing
 first-passes c = nothing-found _ _ (first-is (c .before .before)) (c .enum-told .given .1)
 
-second-is : (c : tie.After-fault2) → finding (c .fault2 .result) ≡ refusalOf (check (TB (c .before .before .before .before)))
+second-is : (c : tie.After-fault2) → (c .fault2 .result) ≡ refusalIn (TB (c .before .before .before .before))
 second-is c =
     let b = c .before .before .before .before in
-    c .fault2 .ensures ∙ ap₂ (λ (x y : ℤ). refusalOf (check (B b x y))) (toZ-ofZ (b .fits .second-root)) (toZ-ofZ (b .fits .second-least))
+    c .fault2 .ensures ∙ ap₂ (λ (x y : ℤ). refusalIn (B b x y)) (toZ-ofZ (b .fits .second-root)) (toZ-ofZ (b .fits .second-least))
 
-second-passes : (c : tie.After-enum-told3) → refusalOf (check (TB (c .before .before .before .before .before .before))) ≡ none
+second-passes : (c : tie.After-enum-told3) → refusalIn (TB (c .before .before .before .before .before .before)) ≡ Nothing
 second-passes c = nothing-found _ _ (second-is (c .before .before)) (c .enum-told3 .given .1)
 
 -- both are accepted
@@ -119,12 +117,12 @@ equal-requires : tie.Need-equal-requires
 equal-requires c κs = search needs
 
 returns-3 : tie.Need-returns-3
-unfolding foundBefore finding wholeUnless tableau
+unfolding foundBefore wholeUnless tableau
 returns-3 c =
     let q = c .before in
     later _ _ _ (first-passes (q .before .before .before .before))
     (later _ _ _ (second-passes (q .before))
-    (sym (otherwise-some _ _ (Refused Leasts Whole) (some-unless _ (Refused Leasts Whole) (asked-false (least-same q) (c .if1 .taken))))))
+    (sym (otherwise-found _ _ (found-unless _ _ _ (asked-false (least-same q) (c .if1 .taken))))))
 
 both-fit-requires : tie.Need-both-fit-requires
 unfolding tableau
@@ -139,22 +137,22 @@ both-fit-requires c κs =
     )
 
 returns-4 : tie.Need-returns-4
-unfolding foundBefore finding wholeUnless tableau
+unfolding foundBefore wholeUnless tableau
 returns-4 c =
     let k = c .before in
     let q = k .before .before in
     later _ _ _ (first-passes (q .before .before .before .before))
     (later _ _ _ (second-passes (q .before))
-    (later _ _ _ (none-unless _ _ (leasts (k .before))) (sym (some-unless _ (Refused Joint Whole) (asked-false (both-fit-is k) (c .if2 .taken))))))
+    (later _ _ _ (nothing-unless _ _ _ (leasts (k .before))) (sym (found-unless _ _ _ (asked-false (both-fit-is k) (c .if2 .taken))))))
 
 returns-5 : tie.Need-returns-5
-unfolding foundBefore finding wholeUnless tableau
+unfolding foundBefore wholeUnless tableau
 returns-5 c =
     let k = c .before in
     let q = k .before .before in
     later _ _ _ (first-passes (q .before .before .before .before))
     (later _ _ _ (second-passes (q .before))
-    (later _ _ _ (none-unless _ _ (leasts (k .before))) (sym (none-unless _ (Refused Joint Whole) (asked-true (both-fit-is k) (c .if2 .left))))))
+    (later _ _ _ (nothing-unless _ _ _ (leasts (k .before))) (sym (nothing-unless _ _ _ (asked-true (both-fit-is k) (c .if2 .left))))))
 
 pub refusal-spec : {M : Type 1} → statement M
 refusal-spec =

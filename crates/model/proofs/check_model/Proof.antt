@@ -4,7 +4,6 @@ use lib.IntN.{ℤ}
 use mir.Facts.{toZ-ofZ}
 use denote.Ref.{now}
 use borrow.Author.Needs.{needs}
-use Rattle.stab.specs.Check.{finding}
 use Rattle.stab.specs.Refuted.{Irrefutable}
 use Rattle.stab.specs.declared.Verdict.{Verdict}
 use Rattle.stab.specs.declared.Verdict.the-variants.{Accepted}
@@ -21,7 +20,7 @@ model c root least n =
 -- a signed number is kept as bits, and read back from them
 model-known : (c : tie.After-model-pass) →
     let start = c .before in
-    finding (c .model-pass .result) ≡ modelRefusal (model start (start .args .root) (start .args .least) (start .args .n))
+    (c .model-pass .result) ≡ modelRefusal (model start (start .args .root) (start .args .least) (start .args .n))
 model-known c =
     let start = c .before in
     c .model-pass .ensures

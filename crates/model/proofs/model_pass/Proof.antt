@@ -1,14 +1,14 @@
 use native.Mathlib.Omega.{arith}
 use mathlib.Core.Path.{_≡_, sym, _∙_, ap, ap₂}
-use mathlib.Core.Option.{none}
 use lib.IntN.{ℤ}
 use mir.Facts.{toZ-ofZ}
 use denote.Ref.{now}
 use borrow.Author.Needs.{needs}
 use Rattle.stab.specs.Basic.{nat, scan}
 use Rattle.stab.specs.Formula.{rowAt}
-use Rattle.stab.specs.Check.{finding, formulasRefusal}
+use Rattle.stab.specs.Check.{formulasRefusal}
 use Rattle.stab.specs.Model.{Model, pairRefusal}
+use Rattle.stab.specs.declared.Finding.the-variants.{Nothing}
 use Rattle.formula.specs.Facts.{AllFormed}
 use Rattle.model.specs.Passes.{tablesRefusal, truthRefusal}
 use Rattle.pairs.proofs.Keys.{scan-sorted}
@@ -24,12 +24,12 @@ model c =
 -- nothing was found in the tables' sizes, in the formula rows, in the pairs
 tables-passed : (c : tie.After-enum-told) →
     let a = c .before .before .before .args in
-    tablesRefusal (now (a .schema)) (a .schema-rows) (now (a .pairs)) (a .pair-rows) ≡ none
+    tablesRefusal (now (a .schema)) (a .schema-rows) (now (a .pairs)) (a .pair-rows) ≡ Nothing
 tables-passed c = nothing-found _ _ (c .before .before .tables-pass .ensures) (c .enum-told .given .1)
 
 formulas-are : (c : tie.After-formulas-pass) →
     let start = c .before .before .before .before in
-    finding (c .formulas-pass .result) ≡ formulasRefusal (rowAt (now (start .args .schema))) (start .args .schema-rows) (start .args .schema-rows) (start .args .root) (start .args .least)
+    (c .formulas-pass .result) ≡ formulasRefusal (rowAt (now (start .args .schema))) (start .args .schema-rows) (start .args .schema-rows) (start .args .root) (start .args .least)
 formulas-are c =
     let start = c .before .before .before .before in
     c .formulas-pass .ensures .0
@@ -37,7 +37,7 @@ formulas-are c =
 
 formulas-passed : (c : tie.After-enum-told3) →
     let a = c .before .before .before .before .before .before .args in
-    formulasRefusal (rowAt (now (a .schema))) (a .schema-rows) (a .schema-rows) (a .root) (a .least) ≡ none
+    formulasRefusal (rowAt (now (a .schema))) (a .schema-rows) (a .schema-rows) (a .root) (a .least) ≡ Nothing
 formulas-passed c = nothing-found _ _ (formulas-are (c .before .before)) (c .enum-told3 .given .1)
 
 all-formed : (c : tie.After-enum-told3) →
@@ -48,7 +48,7 @@ all-formed c =
 
 pairs-passed : (c : tie.After-enum-told5) →
     let a = c .before .before .before .before .before .before .before .before .before .args in
-    scan (pairRefusal (now (a .pairs))) (a .pair-rows) ≡ none
+    scan (pairRefusal (now (a .pairs))) (a .pair-rows) ≡ Nothing
 pairs-passed c = nothing-found _ _ (c .before .before .pairs-pass .ensures) (c .enum-told5 .given .1)
 
 tables-pass-requires : tie.Need-tables-pass-requires

@@ -4,7 +4,7 @@ use denote.Ref.{now}
 use borrow.Author.Needs.{needs}
 use borrow.Author.Tests.{le-leb, lt-leb}
 use Rattle.stab.specs.Basic.{_and_}
-use Rattle.stab.specs.Check.{holds, finding}
+use Rattle.stab.specs.Check.{holds}
 use Rattle.stab.proofs.Bools.{false-of-not, true-of-not, and-both, and-first-false, and-second-false}
 use Rattle.model.specs.Passes.{tablesRefusal}
 use Rattle.model.proofs.Passes.{whole-none, found-last, found-here, found-later}
@@ -55,7 +55,7 @@ unfolding tablesRefusal
 returns-4 c = found-later _ _ _ _ (held (c .before .before .before)) (found-last _ _ _ (c .whole4 .ensures) (and-second-false _ _ (lt-leb _ _ (c .before .if4 .taken))))
 
 returns-5 : tie.Need-returns-5
-unfolding tablesRefusal finding
+unfolding tablesRefusal
 returns-5 c = found-later _ _ _ _ (held (c .before .before)) (sym (whole-none _ _ (and-both _ _ (le-leb _ _ (c .before .if3 .left)) (le-leb _ _ (c .if4 .left)))))
 
 pub tables-pass-spec : {M : Type 1} → statement M

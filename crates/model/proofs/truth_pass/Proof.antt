@@ -13,7 +13,6 @@ use Rattle.stab.specs.Basic.{_and_, nat}
 use Rattle.stab.specs.Formula.{rowAt, tree}
 use Rattle.stab.specs.Meaning.{value, truth}
 use Rattle.stab.specs.Model.{listed}
-use Rattle.stab.specs.Check.{finding}
 use Rattle.stab.proofs.Bools.{false-of-not, true-of-not}
 use Rattle.model.specs.Passes.{truthRefusal}
 use Rattle.pairs.specs.Index.{unbiased}
@@ -87,7 +86,7 @@ unfolding truthRefusal
 returns-2 c = found-later _ _ _ _ (width (c .before .before .before .before .before)) (found-last _ _ _ (c .whole2 .ensures) (value-is (c .before .before) ∙ ne-eqb _ _ (c .before .if2 .taken)))
 
 returns-3 : tie.Need-returns-3
-unfolding truthRefusal finding
+unfolding truthRefusal
 returns-3 c = found-later _ _ _ _ (width (c .before .before .before .before)) (sym (whole-none _ _ (value-is (c .before) ∙ eq-eqb _ _ (c .if2 .left))))
 
 pub truth-pass-spec : {M : Type 1} → statement M

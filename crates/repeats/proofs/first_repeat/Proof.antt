@@ -1,11 +1,11 @@
 use native.Mathlib.Omega.{arith}
 use Prim.Native.Nat.{_-_, _≤_}
 use mathlib.Core.Path.{_≡_, refl, sym, _∙_, ap}
-use mathlib.Core.Option.{none}
 use lib.ListN.{length}
 use Rattle.stab.specs.Basic.{scan}
 use Rattle.stab.specs.Formula.{formulaRows}
-use Rattle.stab.specs.Check.{finding, repeatRefusal}
+use Rattle.stab.specs.Check.{repeatRefusal}
+use Rattle.stab.specs.declared.Finding.the-variants.{Nothing}
 use Rattle.stab.proofs.Scans.{scan-more, scan-found}
 use Rattle.repeats.specs.Places.{Linked}
 use Rattle.repeats.proofs.Links.{linked-none}
@@ -19,7 +19,7 @@ Inv-loop schema s proof from n next₀ heads₀ r₀ next heads r =
     × (length next ≡ length next₀)
     × (length heads ≡ length heads₀)
     × Linked (formulaRows schema s proof) next heads r
-    × (scan (repeatRefusal (formulaRows schema s proof) from) r ≡ none)
+    × (scan (repeatRefusal (formulaRows schema s proof) from) r ≡ Nothing)
 
 abbrev μ-loop : tie.MeasureT-loop
 μ-loop schema s proof from n next₀ heads₀ r₀ next heads r = n - r
@@ -47,12 +47,11 @@ same-length-2 c =
     s .step .kept .1 .1 .1 .1 .1 .1 .0 ∙ s .before .before .before .before .loop .inv .2
 
 returns : tie.Need-returns Inv-loop μ-loop
-unfolding finding
 returns c =
     let s = c .before .before .before .before .before in
     let l = s .before .before .before .before .loop in
     sym
-    (scan-found _ _ (l .r) _ (s .before .before .before .loop-test .taken) (l .inv .4)
+    (scan-found _ _ (l .r) (s .before .before .before .loop-test .taken) (l .inv .4)
     (repeat-found _ _ (l .r) (sym (s .step .ensures .0) ∙ c .if1 .taken)))
 
 add-r : tie.Need-add-r Inv-loop μ-loop
@@ -79,7 +78,6 @@ same-length-4 : tie.Need-same-length-4 Inv-loop μ-loop
 same-length-4 c = c .before .loop .inv .2
 
 returns-2 : tie.Need-returns-2 Inv-loop μ-loop
-unfolding finding
 returns-2 c =
     let b = c .before .before .before .before in
     let l = c .before .loop in

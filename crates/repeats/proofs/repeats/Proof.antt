@@ -2,15 +2,13 @@ use borrow.Author.Needs.{needs}
 use native.Mathlib.Omega.{arith}
 use mathlib.Core.Path.{sym}
 use lib.ListN.{getD-replicate}
-use Rattle.stab.specs.Check.{finding}
-use Rattle.stab.proofs.Scans.{scan-none}
+use Rattle.stab.proofs.Scans.{scan-nothing}
 use Rattle.repeats.proofs.RepeatedLaws.{repeat-before}
 use Rattle.repeats.proofs.repeats.Statement.{statement}
 use Rattle.repeats.proofs.repeats.Tie as tie
 
 returns : tie.Need-returns
-unfolding finding
-returns c = sym (scan-none _ _ (λ r l. repeat-before _ _ r (omega arith)))
+returns c = sym (scan-nothing _ _ (λ r l. repeat-before _ _ r (omega arith)))
 
 slice-aggregate-first-repeat : tie.Need-slice-aggregate-first-repeat
 slice-aggregate-first-repeat c = search needs

@@ -6,9 +6,9 @@ use mathlib.Core.Path.{_≡_, refl, sym, _∙_, ap}
 use mathlib.Core.Bool.{true}
 use lib.IntN.{pos}
 use Rattle.stab.specs.Node.{setStart}
-use Rattle.stab.specs.Check.{finding, atUnless}
-use Rattle.stab.proofs.Bools.{none-unless, some-unless}
-use Rattle.stab.proofs.Scans.{scan-none, scan-found}
+use Rattle.stab.specs.Check.{atUnless}
+use Rattle.stab.proofs.Bools.{nothing-unless, found-unless}
+use Rattle.stab.proofs.Scans.{scan-nothing, scan-found}
 use Rattle.branch.specs.Sets.{setRight, placeFits}
 use Rattle.sets.specs.Faults.{setFault}
 use Rattle.sets.proofs.SetLaws.{right-place, place-within, place-next}
@@ -33,12 +33,12 @@ set-is-right-requires c κs =
     (b .pre .0, b .pre .2, c .loop-test .taken, b .pre .1, i .2, i .1)
 
 returns : tie.Need-returns Inv-loop μ-loop
-unfolding finding setFault atUnless
+unfolding setFault atUnless
 returns c =
     let l = c .before .before .before .loop in
-    sym (scan-found _ _ (l .j) _ (c .before .before .loop-test .taken)
-    (scan-none _ (l .j) (λ i q. none-unless _ _ (l .inv .3 i q)))
-    (some-unless _ _ (sym (c .before .set-is-right .ensures) ∙ not-true (c .before .set-is-right .result) (c .if1 .taken))))
+    sym (scan-found _ _ (l .j) (c .before .before .loop-test .taken)
+    (scan-nothing _ (l .j) (λ i q. nothing-unless _ _ _ (l .inv .3 i q)))
+    (found-unless _ _ _ (sym (c .before .set-is-right .ensures) ∙ not-true (c .before .set-is-right .result) (c .if1 .taken))))
 
 -- past the test the set is right, so it ends within the members
 right :
@@ -85,8 +85,8 @@ loop-again c =
     )
 
 returns-2 : tie.Need-returns-2 Inv-loop μ-loop
-unfolding finding setFault atUnless
-returns-2 c = sym (scan-none _ _ (λ i q. none-unless _ _ (c .before .loop .inv .3 i (omega arith))))
+unfolding setFault atUnless
+returns-2 c = sym (scan-nothing _ _ (λ i q. nothing-unless _ _ _ (c .before .loop .inv .3 i (omega arith))))
 
 pub sets-spec : {M : Type 1} → statement M
 sets-spec =

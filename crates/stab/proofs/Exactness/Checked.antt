@@ -3,7 +3,6 @@ use Prim.Native.Nat.{ℕ, _*_, _<_}
 use native.Mathlib.Omega.{arith}
 use mathlib.Core.Path.{_≡_, _∙_}
 use mathlib.Core.Logic.{Iff·trans}
-use mathlib.Core.Option.{Option, none}
 use lib.ListN.{length}
 use Rattle.stab.specs.Basic.{_otherwise_}
 use Rattle.stab.specs.Node.{Tableau, rows, rowCount}
@@ -11,15 +10,17 @@ use Rattle.stab.specs.Check.{holds, setRefusal, parentRefusal, nodeRefus
 use Rattle.stab.specs.Keeps.{KeepsParent, KeepsTables, KeepsNode, KeepsOlder, Keeps}
 use Rattle.stab.specs.declared.Refusal.the-variants.{TableTooShort, TooMany, Parent}
 use Rattle.stab.specs.declared.Verdict.{Verdict}
-use Rattle.stab.proofs.Bools.{otherwise-same, otherwise-first, otherwise-second, otherwise-none}
-use Rattle.stab.proofs.Scans.{scan-same, scan-none, none-scan}
+use Rattle.stab.specs.declared.Finding.{Finding}
+use Rattle.stab.specs.declared.Finding.the-variants.{Nothing}
+use Rattle.stab.proofs.Bools.{otherwise-same, otherwise-first, otherwise-second, otherwise-nothing}
+use Rattle.stab.proofs.Scans.{scan-same, scan-nothing, nothing-scan}
 use Rattle.stab.proofs.Tests.{_&_, le-tests, lt-tests, _clears_, whole-clears, _then_, scan-clears}
 use Rattle.stab.proofs.Exactness.Formulas.{formulas-clears, present-clears}
 use Rattle.stab.proofs.Exactness.Nodes.{set-clears, parent-clears}
 use Rattle.stab.proofs.Exactness.Steps.{step-clears}
 
 -- by any finding about formulas that clears a statement
-module _ (T : Tableau) (found : Tableau → Option Verdict) (F : Type 0) (found-clears : found T clears F) where
+module _ (T : Tableau) (found : Tableau → Finding) (F : Type 0) (found-clears : found T clears F) where
   record Cleared : Type 0 where
     tables : KeepsTables T
     formulas : F
@@ -99,7 +100,7 @@ tableau-clears T =
     )
 
 -- two judges of nodes find the same in a tableau if they find the same at each node before which nothing is found
-pub refusal-by-same : (judge judge′ : Tableau → ℕ → Option Verdict) (T : Tableau) → (((k : ℕ) → k < T .nodeRows → KeepsParent T k) → (j : ℕ) → j < T .nodeRows → ((k : ℕ) → k < j → judge′ T k ≡ none) → judge T j ≡ judge′ T j) → refusalWith olderFormulas judge T ≡ refusalWith olderFormulas judge′ T
+pub refusal-by-same : (judge judge′ : Tableau → ℕ → Finding) (T : Tableau) → (((k : ℕ) → k < T .nodeRows → KeepsParent T k) → (j : ℕ) → j < T .nodeRows → ((k : ℕ) → k < j → judge′ T k ≡ Nothing) → judge T j ≡ judge′ T j) → refusalWith olderFormulas judge T ≡ refusalWith olderFormulas judge′ T
 unfolding refusalWith
 refusal-by-same judge judge′ T same =
     otherwise-same _ _ _ (λ a.
@@ -109,14 +110,14 @@ refusal-by-same judge judge′ T same =
     otherwise-same _ _ _ (λ e.
     otherwise-same _ _ _ (λ p.
     scan-same (judge T) (judge′ T) (T .nodeRows) (λ j l h.
-    same (scan-clears (parentRefusal T) (T .nodeRows) (λ i m. parent-clears T i) .0 p) j l (none-scan (judge′ T) j h))))))))
+    same (scan-clears (parentRefusal T) (T .nodeRows) (λ i m. parent-clears T i) .0 p) j l (nothing-scan (judge′ T) j h))))))))
 
 -- nothing is found at last, where nothing is found first
-at-last : {x y z : Option Verdict} → (x otherwise y) ≡ none → (x ≡ none → y ≡ none → z ≡ none) → (x otherwise z) ≡ none
-at-last {x} {y} {z} h f = otherwise-none x z (otherwise-first x y h) ∙ f (otherwise-first x y h) (otherwise-second x y h)
+at-last : {x y z : Finding} → (x otherwise y) ≡ Nothing → (x ≡ Nothing → y ≡ Nothing → z ≡ Nothing) → (x otherwise z) ≡ Nothing
+at-last {x} {y} {z} h f = otherwise-nothing x z (otherwise-first x y h) ∙ f (otherwise-first x y h) (otherwise-second x y h)
 
 -- where one judge of nodes finds nothing in a tableau, neither does another that finds nothing at any node then
-pub refusal-by-kept : (judge judge′ : Tableau → ℕ → Option Verdict) (T : Tableau) → (((k : ℕ) → k < T .nodeRows → KeepsParent T k) → ((k : ℕ) → k < T .nodeRows → judge T k ≡ none) → (j : ℕ) → j < T .nodeRows → judge′ T j ≡ none) → refusalWith olderFormulas judge T ≡ none → refusalWith olderFormulas judge′ T ≡ none
+pub refusal-by-kept : (judge judge′ : Tableau → ℕ → Finding) (T : Tableau) → (((k : ℕ) → k < T .nodeRows → KeepsParent T k) → ((k : ℕ) → k < T .nodeRows → judge T k ≡ Nothing) → (j : ℕ) → j < T .nodeRows → judge′ T j ≡ Nothing) → refusalWith olderFormulas judge T ≡ Nothing → refusalWith olderFormulas judge′ T ≡ Nothing
 unfolding refusalWith
 refusal-by-kept judge judge′ T kept h =
     at-last h (λ a h₁.
@@ -125,5 +126,5 @@ refusal-by-kept judge judge′ T kept h =
     at-last h₃ (λ d h₄.
     at-last h₄ (λ e h₅.
     at-last h₅ (λ p h₆.
-    scan-none (judge′ T) (T .nodeRows)
-    (kept (scan-clears (parentRefusal T) (T .nodeRows) (λ i m. parent-clears T i) .0 p) (none-scan (judge T) (T .nodeRows) h₆))))))))
+    scan-nothing (judge′ T) (T .nodeRows)
+    (kept (scan-clears (parentRefusal T) (T .nodeRows) (λ i m. parent-clears T i) .0 p) (nothing-scan (judge T) (T .nodeRows) h₆))))))))

@@ -4,7 +4,6 @@ use native.Mathlib.Omega.{arith}
 use mathlib.Core.Path.{_≡_, refl, sym, _∙_, ap}
 use mathlib.Core.Bool.{Bool, true}
 use mathlib.Core.List.{List, [], _++_}
-use mathlib.Core.Option.{Option, none, some}
 use lib.Dec.{leb}
 use lib.IntN.{ℤ, pos}
 use lib.ListN.{length, replicate, length-append}
@@ -13,11 +12,13 @@ use borrow.Author.Tests.{leb-true, le-leb}
 use Rattle.stab.specs.Basic.{_and_, allOf}
 use Rattle.stab.specs.Text.{Line, lines, fiveDigits, textLimit, padded}
 use Rattle.stab.specs.Read.{Reading, read, stopped, require, readText, tableOf}
-use Rattle.stab.specs.Check.{holds}
+use Rattle.stab.specs.Check.{holds, wholeUnless}
 use Rattle.stab.specs.Write.{wrote, writing, writingOf, writeRefusal, outputRefusal, rowsWritable}
+use Rattle.stab.specs.declared.Finding.{Finding}
+use Rattle.stab.specs.declared.Finding.the-variants.{Nothing, Found}
 use Rattle.stab.specs.declared.Refusal.{Refusal}
 use Rattle.stab.specs.declared.Refusal.the-variants.{TextTooLong, TableTooShort}
-use Rattle.stab.proofs.Bools.{and-left, and-right, and-both, unless-none, none-unless, otherwise-first, otherwise-second, otherwise-none}
+use Rattle.stab.proofs.Bools.{and-left, and-right, and-both, unless-nothing, nothing-unless, otherwise-first, otherwise-second, otherwise-nothing}
 use Rattle.stab.proofs.Texts.Rows.{require-true, require-read}
 
 -- ---- reading
@@ -51,23 +52,23 @@ pub record Written (held few writable : Bool) (n : ℕ) (text out : List ℕ) : 
   pub fits : length text ≤ n
   pub short : length text ≤ 65536
 
-written-none : (o : Option Refusal) (text out : List ℕ) → writingOf o text ≡ wrote out → (o ≡ none) × (text ≡ out)
+written-nothing : (x : Finding) (text out : List ℕ) → writingOf x text ≡ wrote out → (x ≡ Nothing) × (text ≡ out)
 unfolding writingOf
-written-none none text out h = (refl, cc)
-written-none (some why) text out h = (cc, cc)
+written-nothing Nothing text out h = (refl, cc)
+written-nothing (Found why place) text out h = (cc, cc)
 
 pub written : (held few writable : Bool) (n : ℕ) (text out : List ℕ)
     → writing (writeRefusal held few writable) n text ≡ wrote out → Written held few writable n text out
-unfolding writing writeRefusal outputRefusal textLimit
+unfolding writing writeRefusal outputRefusal wholeUnless textLimit
 written held few writable n text out h =
-    let a = written-none _ text out h in
+    let a = written-nothing _ text out h in
     let b = otherwise-first _ _ (a .0) in
     let c = otherwise-second _ _ b in
-    let d = unless-none (leb (length text) n and leb (length text) 65536) _ (otherwise-second _ _ (a .0)) in
+    let d = unless-nothing (leb (length text) n and leb (length text) 65536) _ _ (otherwise-second _ _ (a .0)) in
     record {
-      holding = unless-none held _ (otherwise-first _ _ b);
-      counted = unless-none few _ (otherwise-first _ _ c);
-      digits = unless-none writable _ (otherwise-second _ _ c);
+      holding = unless-nothing held _ _ (otherwise-first _ _ b);
+      counted = unless-nothing few _ _ (otherwise-first _ _ c);
+      digits = unless-nothing writable _ _ (otherwise-second _ _ c);
       same = a .1;
       fits = leb-true (length text) n (and-left _ _ d);
       short = leb-true (length text) 65536 (and-right (leb (length text) n) _ d);
@@ -75,13 +76,13 @@ written held few writable n text out h =
 
 pub write-text : (held few writable : Bool) (n : ℕ) (text out : List ℕ) → Written held few writable n text out
     → writing (writeRefusal held few writable) n text ≡ wrote out
-unfolding writing writingOf writeRefusal outputRefusal textLimit
+unfolding writing writingOf writeRefusal outputRefusal wholeUnless textLimit
 write-text held few writable n text out w =
-    let none-left =
-    otherwise-none _ _ (none-unless held _ (w .holding)) ∙ otherwise-none _ _ (none-unless few _ (w .counted)) ∙ none-unless writable _ (w .digits) in
-    ap (λ (o : Option Refusal). writingOf o text)
-    (otherwise-none _ _ none-left
-    ∙ none-unless _ _ (and-both _ _ (le-leb (length text) n (w .fits)) (le-leb (length text) 65536 (w .short))))
+    let nothing-left =
+    otherwise-nothing _ _ (nothing-unless held _ _ (w .holding)) ∙ otherwise-nothing _ _ (nothing-unless few _ _ (w .counted)) ∙ nothing-unless writable _ _ (w .digits) in
+    ap (λ (x : Finding). writingOf x text)
+    (otherwise-nothing _ _ nothing-left
+    ∙ nothing-unless _ _ _ (and-both _ _ (le-leb (length text) n (w .fits)) (le-leb (length text) 65536 (w .short))))
     ∙ ap wrote (w .same)
 
 -- rows that were read can be written, whatever stands behind them in the table

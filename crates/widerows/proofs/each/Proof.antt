@@ -2,13 +2,12 @@ use native.Mathlib.Omega.{arith}
 use Prim.Native.Nat.{ℕ, _+_, _-_, _≤_}
 use mathlib.Core.Path.{_≡_, refl, sym, _∙_, ap, subst}
 use mathlib.Core.List.{List}
-use mathlib.Core.Option.{none}
 use borrow.Author.Needs.{needs}
 use lib.ListN.{length}
 use Rattle.stab.specs.Basic.{scan}
-use Rattle.stab.specs.Check.{finding}
 use Rattle.stab.specs.Formula.{formulaRows}
-use Rattle.stab.proofs.Scans.{scan-none, scan-more, scan-found}
+use Rattle.stab.specs.declared.Finding.the-variants.{Nothing}
+use Rattle.stab.proofs.Scans.{scan-nothing, scan-more, scan-found}
 use Rattle.wide.specs.Convert.{wideRowRefusal}
 use Rattle.formula.proofs.RowLaws.{never, none-kept, table-none, table-more, table-stays}
 use Rattle.widerows.specs.WideRows.{wideTable, WidePassed}
@@ -20,7 +19,7 @@ abbrev Inv-loop : tie.InvT-loop
 Inv-loop schema s proof n facts₀ r₀ facts r =
     (r ≤ n)
     × (length facts ≡ length facts₀)
-    × (scan (wideRowRefusal (formulaRows schema s proof)) r ≡ none)
+    × (scan (wideRowRefusal (formulaRows schema s proof)) r ≡ Nothing)
     × WidePassed (formulaRows schema s proof) facts r
     × (facts ≡ wideTable (formulaRows schema s proof) facts₀ r)
 
@@ -29,7 +28,7 @@ abbrev μ-loop : tie.MeasureT-loop
 
 loop-holds : tie.Need-loop-holds Inv-loop μ-loop
 unfolding wideTable
-loop-holds c = (omega arith, refl, scan-none _ 0 (λ k l. absurd (omega arith)), passed-none _ _, table-none _ _ _)
+loop-holds c = (omega arith, refl, scan-nothing _ 0 (λ k l. absurd (omega arith)), passed-none _ _, table-none _ _ _)
 
 step-requires : tie.Need-step-requires Inv-loop μ-loop
 step-requires c κs = (omega arith, omega arith, c .before .before .loop .inv .3)
@@ -46,13 +45,13 @@ same-length c =
     s .step .kept .1 .1 .1 .1 .0 ∙ s .before .before .before .loop .inv .1
 
 returns : tie.Need-returns Inv-loop μ-loop
-unfolding finding wideTable
+unfolding wideTable
 returns c =
     let s = c .before .before .before .before in
-    let e = ap finding (c .enum-told2 .given .1) in
+    let e = (c .enum-told2 .given .1) in
     let l = s .before .before .before .loop in
     let found = sym (s .step .ensures .0) ∙ e in
-    let h = sym (scan-found _ _ _ _ (s .before .before .loop-test .taken) (l .inv .2) found) in (
+    let h = sym (scan-found _ _ _ (s .before .before .loop-test .taken) (l .inv .2) found) in (
       e ∙ h,
       (
         never h,
@@ -70,10 +69,10 @@ loop-less : tie.Need-loop-less Inv-loop μ-loop
 loop-less c = omega arith
 
 loop-again : tie.Need-loop-again Inv-loop μ-loop
-unfolding finding wideTable
+unfolding wideTable
 loop-again c =
     let s = c .before .before .before .before in
-    let h = sym (s .step .ensures .0) ∙ ap finding (c .enum-told .given .1) in
+    let h = sym (s .step .ensures .0) ∙ (c .enum-told .given .1) in
     let l = s .before .before .before .loop in
     let more = scan-more _ _ (l .inv .2) h in
     let a = s .before .before .before .before .before .args in (
@@ -88,13 +87,12 @@ same-length-2 : tie.Need-same-length-2 Inv-loop μ-loop
 same-length-2 c = c .before .loop .inv .1
 
 returns-2 : tie.Need-returns-2 Inv-loop μ-loop
-unfolding finding
 returns-2 c =
     let a = c .before .before .before .args in
     let i = c .before .loop .inv in
     let rows = formulaRows (a .schema .now) (a .s) (a .proof .now) in
     let e : c .before .loop .r ≡ a .n = omega arith in (
-      sym (subst (λ (m : ℕ). scan (wideRowRefusal rows) m ≡ none) e (i .2)),
+      sym (subst (λ (m : ℕ). scan (wideRowRefusal rows) m ≡ Nothing) e (i .2)),
       (
         λ _. subst (λ (m : ℕ). WidePassed rows (c .before .loop .facts) m) e (i .3),
         subst (λ (m : ℕ). c .before .loop .facts ≡ wideTable rows (a .facts .now) m) e (i .4),

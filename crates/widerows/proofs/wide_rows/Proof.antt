@@ -2,12 +2,12 @@ use native.Mathlib.Omega.{arith}
 use Prim.Native.Nat.{ℕ, _<_}
 use mathlib.Core.Path.{_≡_, sym, _∙_, ap, ap₂, subst}
 use mathlib.Core.Bool.{Bool, true}
-use mathlib.Core.Option.{none}
 use mir.Facts.{toZ-ofZ}
 use borrow.Author.Needs.{needs}
 use Rattle.stab.specs.Basic.{nat, scan}
-use Rattle.stab.specs.Check.{rootFits, finding}
+use Rattle.stab.specs.Check.{rootFits}
 use Rattle.stab.specs.Formula.{Row, rowAt}
+use Rattle.stab.specs.declared.Finding.the-variants.{Nothing}
 use Rattle.stab.proofs.Bools.{and-left, if-true, if-false}
 use Rattle.stab.proofs.Trees.{below-nat}
 use Rattle.wide.specs.WideFormula.{wideTree, wideLoose, isWideOuter}
@@ -37,7 +37,7 @@ said c =
     c .root-fits .ensures ∙ ap₂ (rootFits (a .args .n)) (toZ-ofZ (a .fits .root)) (toZ-ofZ (a .fits .least))
 
 returns : tie.Need-returns
-unfolding finding wideRefusal isWideOuter wideRowsTable
+unfolding wideRefusal isWideOuter wideRowsTable
 returns c =
     let unfit = fails _ (said (c .before)) (c .if1 .taken) in
     (formulas-root _ _ _ _ _ (root-loose (c .before .before .before)) unfit, sym (if-false _ _ _ unfit))
@@ -76,7 +76,7 @@ fits : (c : tie.After-each) → let a = start c .args in rootFits (a .n) (a .roo
 fits c = let e = c .before .before .before in passes _ (said (e .before)) (e .if1 .left)
 
 -- what was found among the rows, and what is kept of them
-found : (c : tie.After-each) → finding (c .each .result) ≡ scan (wideRowRefusal (rows (start c))) (start c .args .n)
+found : (c : tie.After-each) → (c .each .result) ≡ scan (wideRowRefusal (rows (start c))) (start c .args .n)
 found c =
     let a = start c .args in
     c .each .ensures .0 ∙ ap (λ (w : ℕ → Row). scan (wideRowRefusal w) (a .n)) (formula-rows-part (a .wide .now) (a .n))
@@ -90,10 +90,10 @@ table-is c =
     ∙ sym (if-true _ _ _ (fits c))
 
 returns-2 : tie.Need-returns-2
-unfolding finding wideRefusal isWideOuter
+unfolding wideRefusal isWideOuter
 returns-2 c =
     let e = c .before .before .before .before in
-    let f = ap finding (c .enum-told2 .given .1) in
+    let f = (c .enum-told2 .given .1) in
     (f ∙ formulas-row _ _ _ _ _ (root-loose (start e)) (fits e) (sym f ∙ found e), table-is e)
 
 natural-requires : tie.Need-natural-requires
@@ -103,17 +103,15 @@ natural-requires c κs = search needs
 abbrev passed : tie.After-natural → tie.After-each
 passed c = c .before .before .before .before .before .before
 
-nothing : (c : tie.After-natural) → let s = start (passed c) in scan (wideRowRefusal (rows s)) (s .args .n) ≡ none
-unfolding finding
-nothing c = sym (found (passed c)) ∙ ap finding (c .before .before .enum-told .given .1)
+nothing : (c : tie.After-natural) → let s = start (passed c) in scan (wideRowRefusal (rows s)) (s .args .n) ≡ Nothing
+nothing c = sym (found (passed c)) ∙ (c .before .before .enum-told .given .1)
 
 rows-passed : (c : tie.After-natural) → let s = start (passed c) in WidePassed (rows s) (passed c .each .last .1 .1 .1 .1 .0) (s .args .n)
-unfolding finding
 rows-passed c =
     let e = passed c .each .ensures in
     let a = start (passed c) .args in
     subst (λ (w : ℕ → Row). WidePassed w (passed c .each .last .1 .1 .1 .1 .0) (a .n)) (formula-rows-part (a .wide .now) (a .n))
-    (e .1 .0 (sym (e .0) ∙ ap finding (c .before .before .enum-told .given .1)))
+    (e .1 .0 (sym (e .0) ∙ (c .before .before .enum-told .given .1)))
 
 root-is : (c : tie.After-natural) → c .natural .result ≡ nat (start (passed c) .args .root)
 root-is c = c .natural .ensures ∙ ap nat (toZ-ofZ (start (passed c) .fits .root))
@@ -135,7 +133,7 @@ same-length-2 : tie.Need-same-length-2
 same-length-2 c = search needs
 
 returns-3 : tie.Need-returns-3
-unfolding finding wideRefusal isWideOuter wideFactsOf
+unfolding wideRefusal isWideOuter wideFactsOf
 returns-3 c =
     let k = c .before .before in
     let b = k .before in
@@ -146,7 +144,7 @@ same-length-3 : tie.Need-same-length-3
 same-length-3 c = search needs
 
 returns-4 : tie.Need-returns-4
-unfolding finding wideRefusal isWideOuter wideFactsOf
+unfolding wideRefusal isWideOuter wideFactsOf
 returns-4 c =
     let k = c .before .before in
     let b = k .before in

@@ -1,13 +1,13 @@
 use native.Mathlib.Omega.{arith}
 use Prim.Native.Nat.{ℕ, _-_, _≤_}
 use mathlib.Core.Path.{_≡_, refl, sym, _∙_, ap, subst}
-use mathlib.Core.Option.{none}
 use borrow.Author.Needs.{needs}
 use lib.ListN.{length}
 use Rattle.stab.specs.Basic.{scan}
-use Rattle.stab.specs.Check.{rowRefusal, finding}
+use Rattle.stab.specs.Check.{rowRefusal}
 use Rattle.stab.specs.Formula.{formulaRows}
-use Rattle.stab.proofs.Scans.{scan-none, scan-more, scan-found}
+use Rattle.stab.specs.declared.Finding.the-variants.{Nothing}
+use Rattle.stab.proofs.Scans.{scan-nothing, scan-more, scan-found}
 use Rattle.formula.specs.Rows.{factsTable, Passed}
 use Rattle.formula.proofs.RowLaws.{passed-none, never, none-kept, table-none, table-more, table-stays}
 use Rattle.formula.proofs.rows.each.Statement.{statement}
@@ -17,7 +17,7 @@ abbrev Inv-loop : tie.InvT-loop
 Inv-loop schema s proof n facts₀ r₀ facts r =
     (r ≤ n)
     × (length facts ≡ length facts₀)
-    × (scan (rowRefusal (formulaRows schema s proof)) r ≡ none)
+    × (scan (rowRefusal (formulaRows schema s proof)) r ≡ Nothing)
     × Passed (formulaRows schema s proof) facts r
     × (facts ≡ factsTable (formulaRows schema s proof) facts₀ r)
 
@@ -26,7 +26,7 @@ abbrev μ-loop : tie.MeasureT-loop
 
 loop-holds : tie.Need-loop-holds Inv-loop μ-loop
 unfolding factsTable
-loop-holds c = (omega arith, refl, scan-none _ 0 (λ k l. absurd (omega arith)), passed-none _ _, table-none _ _ _)
+loop-holds c = (omega arith, refl, scan-nothing _ 0 (λ k l. absurd (omega arith)), passed-none _ _, table-none _ _ _)
 
 step-requires : tie.Need-step-requires Inv-loop μ-loop
 step-requires c κs = (omega arith, c .before .before .loop .inv .3)
@@ -43,13 +43,13 @@ same-length c =
     s .step .kept .1 .1 .1 .1 .0 ∙ s .before .before .before .loop .inv .1
 
 returns : tie.Need-returns Inv-loop μ-loop
-unfolding finding factsTable
+unfolding factsTable
 returns c =
     let s = c .before .before .before .before in
-    let e = ap finding (c .enum-told2 .given .1) in
+    let e = (c .enum-told2 .given .1) in
     let l = s .before .before .before .loop in
     let found = sym (s .step .ensures .0) ∙ e in
-    let h = sym (scan-found _ _ _ _ (s .before .before .loop-test .taken) (l .inv .2) found) in (
+    let h = sym (scan-found _ _ _ (s .before .before .loop-test .taken) (l .inv .2) found) in (
       e ∙ h,
       (
         never h,
@@ -67,10 +67,10 @@ loop-less : tie.Need-loop-less Inv-loop μ-loop
 loop-less c = omega arith
 
 loop-again : tie.Need-loop-again Inv-loop μ-loop
-unfolding finding factsTable
+unfolding factsTable
 loop-again c =
     let s = c .before .before .before .before in
-    let h = sym (s .step .ensures .0) ∙ ap finding (c .enum-told .given .1) in
+    let h = sym (s .step .ensures .0) ∙ (c .enum-told .given .1) in
     let l = s .before .before .before .loop in
     let more = scan-more _ _ (l .inv .2) h in
     (omega arith, s .step .kept .1 .1 .1 .1 .0 ∙ l .inv .1, more, s .step .ensures .1 .0 h, table-more _ _ _ _ more h (l .inv .4) (s .step .ensures .1 .1))
@@ -79,13 +79,12 @@ same-length-2 : tie.Need-same-length-2 Inv-loop μ-loop
 same-length-2 c = c .before .loop .inv .1
 
 returns-2 : tie.Need-returns-2 Inv-loop μ-loop
-unfolding finding
 returns-2 c =
     let a = c .before .before .before .args in
     let i = c .before .loop .inv in
     let rows = formulaRows (a .schema .now) (a .s) (a .proof .now) in
     let e : c .before .loop .r ≡ a .n = omega arith in (
-      sym (subst (λ (m : ℕ). scan (rowRefusal rows) m ≡ none) e (i .2)),
+      sym (subst (λ (m : ℕ). scan (rowRefusal rows) m ≡ Nothing) e (i .2)),
       (
         λ _. subst (λ (m : ℕ). Passed rows (c .before .loop .facts) m) e (i .3),
         subst (λ (m : ℕ). c .before .loop .facts ≡ factsTable rows (a .facts .now) m) e (i .4),

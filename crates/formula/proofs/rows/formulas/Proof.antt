@@ -2,12 +2,12 @@ use native.Mathlib.Omega.{arith}
 use Prim.Native.Nat.{_<_}
 use mathlib.Core.Path.{_≡_, sym, _∙_, ap, ap₂}
 use mathlib.Core.Bool.{Bool, true}
-use mathlib.Core.Option.{none}
 use mir.Facts.{toZ-ofZ}
 use borrow.Author.Needs.{needs}
 use Rattle.stab.specs.Basic.{nat, scan}
-use Rattle.stab.specs.Check.{rootFits, rowRefusal, formulasBy, formulasRefusal, finding}
+use Rattle.stab.specs.Check.{rootFits, rowRefusal, formulasBy, formulasRefusal}
 use Rattle.stab.specs.Formula.{formulaRows, tree, loose, isOuter}
+use Rattle.stab.specs.declared.Finding.the-variants.{Nothing}
 use Rattle.stab.proofs.Bools.{and-left, if-true, if-false}
 use Rattle.stab.proofs.Trees.{below-nat}
 use Rattle.formula.specs.Rows.{factsOf, factsAt, formulasTable}
@@ -29,7 +29,7 @@ abbrev root-loose : tie.Start → Bool
 root-loose s = let a = s .args in loose (tree (formulaRows (a .schema .now) (a .s) (a .proof .now)) (nat (a .root)))
 
 returns : tie.Need-returns
-unfolding finding formulasTable formulasRefusal formulasBy isOuter
+unfolding formulasTable formulasRefusal formulasBy isOuter
 returns c =
     let unfit = fails _ (said (c .before)) (c .if1 .taken) in
     let h = formulas-root _ _ _ _ _ (root-loose (c .before .before .before)) unfit in
@@ -48,10 +48,10 @@ same-length : tie.Need-same-length
 same-length c = search needs
 
 returns-2 : tie.Need-returns-2
-unfolding finding formulasTable formulasRefusal formulasBy isOuter
+unfolding formulasTable formulasRefusal formulasBy isOuter
 returns-2 c =
     let e = c .before .before .before .before in
-    let f = ap finding (c .enum-told2 .given .1) in
+    let f = (c .enum-told2 .given .1) in
     let fit = passes _ (said (e .before .before .before)) (e .before .before .if1 .left) in
     let h = formulas-row _ _ _ _ _ (root-loose (e .before .before .before .before .before)) fit (sym f ∙ e .each .ensures .0) in
     (f ∙ h, (never h, e .each .ensures .1 .1 ∙ sym (if-true _ _ _ fit)))
@@ -69,9 +69,8 @@ start c = passed c .before .before .before .before .before
 fits : (c : tie.After-natural) → let a = start c .args in rootFits (a .s) (a .root) (a .least) ≡ true
 fits c = passes _ (said (passed c .before .before .before)) (passed c .before .before .if1 .left)
 
-nothing : (c : tie.After-natural) → let a = start c .args in scan (rowRefusal (formulaRows (a .schema .now) (a .s) (a .proof .now))) (a .n) ≡ none
-unfolding finding
-nothing c = sym (passed c .each .ensures .0) ∙ ap finding (c .before .before .enum-told .given .1)
+nothing : (c : tie.After-natural) → let a = start c .args in scan (rowRefusal (formulaRows (a .schema .now) (a .s) (a .proof .now))) (a .n) ≡ Nothing
+nothing c = sym (passed c .each .ensures .0) ∙ (c .before .before .enum-told .given .1)
 
 root-is : (c : tie.After-natural) → c .natural .result ≡ nat (start c .args .root)
 root-is c = c .natural .ensures ∙ ap nat (toZ-ofZ (start c .fits .root))
@@ -95,7 +94,7 @@ same-length-2 : tie.Need-same-length-2
 same-length-2 c = search needs
 
 returns-3 : tie.Need-returns-3
-unfolding finding formulasTable formulasRefusal formulasBy isOuter
+unfolding formulasTable formulasRefusal formulasBy isOuter
 returns-3 c =
     let k = c .before .before in
     let b = k .before in (
@@ -107,7 +106,7 @@ same-length-3 : tie.Need-same-length-3
 same-length-3 c = search needs
 
 returns-4 : tie.Need-returns-4
-unfolding finding formulasTable formulasRefusal formulasBy isOuter
+unfolding formulasTable formulasRefusal formulasBy isOuter
 returns-4 c =
     let k = c .before .before in
     let b = k .before in

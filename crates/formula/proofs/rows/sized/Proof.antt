@@ -1,7 +1,6 @@
 use mathlib.Core.Path.{_∙_}
 use borrow.Author.Needs.{needs}
 use borrow.Author.Tests.{lt-leb}
-use Rattle.stab.specs.Check.{finding}
 use Rattle.stab.proofs.Bools.{and-first-false, and-second-false}
 use Rattle.formula.proofs.RowLaws.{ill-found, large-found, small-found}
 use Rattle.formula.proofs.rows.sized.Statement.{statement}
@@ -14,17 +13,14 @@ enum-told : tie.Need-enum-told
 enum-told c = search needs
 
 returns : tie.Need-returns
-unfolding finding
 returns c = ill-found _ _ (c .enum-told .given .1)
 
 returns-2 : tie.Need-returns-2
-unfolding finding
 returns-2 c =
     let k = c .before .before .before in
     large-found _ _ _ (k .row .given .1) (and-first-false _ _ (lt-leb _ 4096 (c .if1 .taken)))
 
 returns-3 : tie.Need-returns-3
-unfolding finding
 returns-3 c =
     let k = c .before .before .before .before .before in
     large-found _ _ _ (k .row .given .1) (and-second-false _ _ (lt-leb _ 64 (c .if2 .taken)))
@@ -36,7 +32,6 @@ same-length : tie.Need-same-length
 same-length c = search needs
 
 returns-4 : tie.Need-returns-4
-unfolding finding
 returns-4 c =
     let e = c .before .before .before .before in
     let k = e .before .before .before .before .before in

@@ -1,7 +1,7 @@
 use Rattle.formula.specs.declared.rows.Facts.{Facts}
 use Rattle.formula.specs.Rows.{factsAt, Passed}
 use Rattle.stab.proofs.Trees.{below-nat}
-use Rattle.stab.proofs.Bools.{and-left, and-right, unless-none, otherwise-first}
+use Rattle.stab.proofs.Bools.{and-left, and-right, unless-nothing, otherwise-first}
 use Rattle.stab.specs.Check.{wholeUnless, rootFits, formulasBy, formulasRefusal}
 use Rattle.stab.specs.Formula.{Row, formulaRows, tree, smallEnough}
 use Rattle.stab.specs.Formula as F
@@ -30,7 +30,7 @@ facts c = c .formulas .last .1 .1 .1 .1 .1 .1 .0
 
 root-below : (b : tie.Start) → nat (b .args .root) < b .args .s
 unfolding formulasRefusal formulasBy wholeUnless rootFits
-root-below b = below-nat (b .args .s) (b .args .root) (and-left (below (b .args .s) (b .args .root)) _ (unless-none (rootFits (b .args .s) (b .args .root) (b .args .least)) _ (otherwise-first _ _ (b .pre .1))))
+root-below b = below-nat (b .args .s) (b .args .root) (and-left (below (b .args .s) (b .args .root)) _ (unless-nothing (rootFits (b .args .s) (b .args .root) (b .args .least)) _ _ (otherwise-first _ _ (b .pre .1))))
 
 passed : (c : tie.After-formulas) → Passed (rows (start c)) (facts c) (start c .args .s)
 passed c =

@@ -4,7 +4,7 @@ use lib.IntN.{ℤ, pos}
 use denote.Ref.{now}
 use borrow.Author.Needs.{needs}
 use Rattle.stab.specs.Formula.{Row}
-use Rattle.stab.specs.Check.{finding, formulasRefusal}
+use Rattle.stab.specs.Check.{formulasRefusal}
 use Rattle.stab.proofs.Findings.{nothing-found}
 use Rattle.signed.proofs.Signs.{read-back}
 use Rattle.formula.proofs.Columns.{formula-rows-part}
@@ -16,7 +16,7 @@ abbrev start : tie.After-formulas → tie.Start
 start c = c .before .before .before .before
 
 -- the rest of the table stands where a proof's rows would
-formulas-are : (c : tie.After-formulas) → let s = start c in finding (c .formulas .result) ≡ passes (s .args .n) (now (s .args .table)) (s .pre .0) (s .pre .1)
+formulas-are : (c : tie.After-formulas) → let s = start c in (c .formulas .result) ≡ passes (s .args .n) (now (s .args .table)) (s .pre .0) (s .pre .1)
 formulas-are c =
     let s = start c in
     let t = now (s .args .table) in
@@ -66,11 +66,10 @@ returns c =
     sym (passes-listed (s .args .n) (now (s .args .table)) (s .pre .0) (s .pre .1) (s .pre .3) (nothing-found _ _ (formulas-are f) (c .enum-told .given .1)))
 
 returns-2 : tie.Need-returns-2
-unfolding finding
 returns-2 c =
     let f = c .before .before .before in
     let s = start f in
-    sym (fails-unlisted (s .args .n) (now (s .args .table)) (s .pre .0) (s .pre .1) _ (sym (formulas-are f) ∙ ap finding (c .enum-told2 .given .1)))
+    sym (fails-unlisted (s .args .n) (now (s .args .table)) (s .pre .0) (s .pre .1) _ _ (sym (formulas-are f) ∙ (c .enum-told2 .given .1)))
 
 pub on-list-spec : {M : Type 1} → statement M
 on-list-spec =

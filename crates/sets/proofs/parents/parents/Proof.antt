@@ -8,9 +8,9 @@ use lib.IntN.{ℤ}
 use mir.Syntax.{w32}
 use mir.Val.{toZ}
 use mir.Facts.{toZ-ofZ}
-use Rattle.stab.specs.Check.{finding, atUnless}
-use Rattle.stab.proofs.Bools.{none-unless, some-unless}
-use Rattle.stab.proofs.Scans.{scan-none, scan-found}
+use Rattle.stab.specs.Check.{atUnless}
+use Rattle.stab.proofs.Bools.{nothing-unless, found-unless}
+use Rattle.stab.proofs.Scans.{scan-nothing, scan-found}
 use Rattle.branch.specs.Parents.{parentRight}
 use Rattle.sets.specs.Faults.{parentFault}
 use Rattle.sets.proofs.parents.parents.Statement.{statement}
@@ -29,15 +29,15 @@ parent-is-right-requires : tie.Need-parent-is-right-requires Inv-loop μ-loop
 parent-is-right-requires c κs = (omega arith, c .before .before .pre .1 (c .before .loop .j) (c .loop-test .taken))
 
 returns : tie.Need-returns Inv-loop μ-loop
-unfolding finding parentFault atUnless
+unfolding parentFault atUnless
 returns c =
     let b = c .before .before .before .before in
     let a = b .args in
     let l = c .before .before .before .loop in
     let e = toZ-ofZ (b .fits .root) in
-    sym (scan-found _ _ (l .j) _ (c .before .before .loop-test .taken)
-    (scan-none _ (l .j) (λ i q. none-unless _ _ (rw e at (l .inv .1 i q))))
-    (some-unless _ _ (ap (λ (z : ℤ). parentRight (a .nodes .now) (a .members .now) z (l .j)) (sym e) ∙ sym (c .before .parent-is-right .ensures) ∙ not-true (c .before .parent-is-right .result) (c .if1 .taken))))
+    sym (scan-found _ _ (l .j) (c .before .before .loop-test .taken)
+    (scan-nothing _ (l .j) (λ i q. nothing-unless _ _ _ (rw e at (l .inv .1 i q))))
+    (found-unless _ _ _ (ap (λ (z : ℤ). parentRight (a .nodes .now) (a .members .now) z (l .j)) (sym e) ∙ sym (c .before .parent-is-right .ensures) ∙ not-true (c .before .parent-is-right .result) (c .if1 .taken))))
 
 add-j : tie.Need-add-j Inv-loop μ-loop
 add-j c = omega arith
@@ -50,10 +50,10 @@ loop-again c =
     (omega arith, below-more _ _ (c .before .before .before .loop .inv .1) (sym (c .before .parent-is-right .ensures) ∙ not-false (c .before .parent-is-right .result) (c .if1 .left)))
 
 returns-2 : tie.Need-returns-2 Inv-loop μ-loop
-unfolding finding parentFault atUnless
+unfolding parentFault atUnless
 returns-2 c =
     let e = toZ-ofZ (c .before .before .fits .root) in
-    sym (scan-none _ _ (λ i q. none-unless _ _ (rw e at (c .before .loop .inv .1 i (omega arith)))))
+    sym (scan-nothing _ _ (λ i q. nothing-unless _ _ _ (rw e at (c .before .loop .inv .1 i (omega arith)))))
 
 pub parents-spec : {M : Type 1} → statement M
 parents-spec =

@@ -2,12 +2,11 @@ use borrow.Author.Needs.{needs}
 use Prim.Native.Nat.{ℕ, _-_, _≤_}
 use native.Mathlib.Omega.{arith}
 use mathlib.Core.Path.{_≡_, refl, sym, _∙_, ap, subst}
-use mathlib.Core.Option.{none}
 use lib.ListN.{length}
 use Rattle.stab.specs.Basic.{scan}
 use Rattle.stab.specs.Formula.{formulaRows}
-use Rattle.stab.specs.Check.{finding}
-use Rattle.stab.proofs.Scans.{scan-none, scan-more, scan-found}
+use Rattle.stab.specs.declared.Finding.the-variants.{Nothing}
+use Rattle.stab.proofs.Scans.{scan-nothing, scan-more, scan-found}
 use Rattle.classes.specs.Agreed.{Remembers}
 use Rattle.branch.specs.Lent.{lent}
 use Rattle.steps.specs.Judged.{nodeRefusalAs}
@@ -17,7 +16,7 @@ use Rattle.steps.proofs.steps.each_node.Tie as tie
 abbrev Inv-loop : tie.InvT-loop
 Inv-loop whole schema proof nodes members facts forms work h agreed₀ j₀ agreed j =
     (j ≤ h .«node_rows»)
-    × (scan (nodeRefusalAs whole (lent schema proof nodes members h)) j ≡ none)
+    × (scan (nodeRefusalAs whole (lent schema proof nodes members h)) j ≡ Nothing)
     × Remembers (formulaRows schema (h .«schema_rows») proof) agreed
     × (length agreed ≡ length agreed₀)
 
@@ -28,7 +27,7 @@ abbrev begin : tie.At-loop Inv-loop μ-loop → tie.Start Inv-loop μ-loop
 begin l = l .before .before .before .before .before
 
 loop-holds : tie.Need-loop-holds Inv-loop μ-loop
-loop-holds c = (omega arith, scan-none _ 0 (λ k l. absurd (omega arith)), c .before .before .before .before .pre .1 .0, refl)
+loop-holds c = (omega arith, scan-nothing _ 0 (λ k l. absurd (omega arith)), c .before .before .before .before .pre .1 .0, refl)
 
 judge-requires : tie.Need-judge-requires Inv-loop μ-loop
 judge-requires c κs =
@@ -53,11 +52,10 @@ same-length : tie.Need-same-length Inv-loop μ-loop
 same-length c = as-long (c .before .before .before .before)
 
 returns : tie.Need-returns Inv-loop μ-loop
-unfolding finding
 returns c =
     let n = c .before .before .before .before in
-    let e = ap finding (c .enum-told2 .given .1) in
-    (e ∙ sym (scan-found _ _ _ _ (n .before .before .if1 .taken) (within n .loop .inv .1) (sym (n .judge .ensures .0) ∙ e)), n .judge .ensures .1)
+    let e = (c .enum-told2 .given .1) in
+    (e ∙ sym (scan-found _ _ _ (n .before .before .if1 .taken) (within n .loop .inv .1) (sym (n .judge .ensures .0) ∙ e)), n .judge .ensures .1)
 
 add-j : tie.Need-add-j Inv-loop μ-loop
 add-j c = omega (arith, begin (within (c .before .before .before .before)) .pre .0 .nodeLimit)
@@ -66,21 +64,19 @@ loop-less : tie.Need-loop-less Inv-loop μ-loop
 loop-less c = omega arith
 
 loop-again : tie.Need-loop-again Inv-loop μ-loop
-unfolding finding
 loop-again c =
     let n = c .before .before .before .before in
-    (omega arith, scan-more _ _ (within n .loop .inv .1) (sym (n .judge .ensures .0) ∙ ap finding (c .enum-told .given .1)), n .judge .ensures .1, as-long n)
+    (omega arith, scan-more _ _ (within n .loop .inv .1) (sym (n .judge .ensures .0) ∙ (c .enum-told .given .1)), n .judge .ensures .1, as-long n)
 
 same-length-2 : tie.Need-same-length-2 Inv-loop μ-loop
 same-length-2 c = c .before .before .loop .inv .3
 
 returns-2 : tie.Need-returns-2 Inv-loop μ-loop
-unfolding finding
 returns-2 c =
     let l = c .before .before in
     let s = begin l in
     let e : l .loop .j ≡ s .args .h .«node_rows» = omega arith in
-    (sym (subst (λ (n : ℕ). scan (nodeRefusalAs (s .args .whole) (lent (s .args .schema .now) (s .args .proof .now) (s .args .nodes .now) (s .args .members .now) (s .args .h))) n ≡ none) e (l .loop .inv .1)), l .loop .inv .2)
+    (sym (subst (λ (n : ℕ). scan (nodeRefusalAs (s .args .whole) (lent (s .args .schema .now) (s .args .proof .now) (s .args .nodes .now) (s .args .members .now) (s .args .h))) n ≡ Nothing) e (l .loop .inv .1)), l .loop .inv .2)
 
 pub each-node-spec : {M : Type 1} → statement M
 each-node-spec =

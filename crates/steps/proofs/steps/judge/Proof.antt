@@ -2,13 +2,13 @@ use borrow.Author.Needs.{needs}
 use native.Mathlib.Omega.{arith}
 use Prim.Native.Nat.{ℕ}
 use mathlib.Core.Path.{_≡_, sym, _∙_, ap}
-use mathlib.Core.Option.{none}
 use mathlib.Core.Bool.{Bool}
 use lib.Dec.{eqb, leb}
 use Rattle.stab.specs.Basic.{if_then_else_}
 use Rattle.stab.specs.Node.{Tableau, node, nodeAt, childCount}
 use Rattle.stab.specs.Rule.{ruleOf, rule, childrenFit}
-use Rattle.stab.specs.Check.{finding, stepRefusal}
+use Rattle.stab.specs.Check.{stepRefusal}
+use Rattle.stab.specs.declared.Finding.the-variants.{Nothing}
 use Rattle.branch.specs.Lent.{lent}
 use Rattle.steps.specs.Judged.{childrenAs}
 use Rattle.fields.proofs.FieldParts.{fields-known}
@@ -33,11 +33,10 @@ same-length : tie.Need-same-length
 same-length c = c .before .before .before .before .step .kept .1 .1 .1 .1 .1 .1 .1 .1 .1 .0
 
 returns : tie.Need-returns
-unfolding finding
 returns c =
-    let f = ap finding (c .enum-told2 .given .1) in
+    let f = (c .enum-told2 .given .1) in
     let s = c .before .before .before .before in
-    (f ∙ step-found (Lent (s .before .before .before .before .before .before)) _ _ _ (sym (s .step .ensures .0) ∙ f), s .step .ensures .1)
+    (f ∙ step-found (Lent (s .before .before .before .before .before .before)) _ _ _ _ (sym (s .step .ensures .0) ∙ f), s .step .ensures .1)
 
 -- where 11 to 16 found nothing
 abbrev told : tie.After-enum-told → tie.After-step
@@ -46,9 +45,8 @@ told c = c .before .before .before .before
 abbrev Begin : tie.After-enum-told → tie.Start
 Begin c = told c .before .before .before .before .before .before
 
-stepped : (c : tie.After-enum-told) → stepRefusal (Lent (Begin c)) (Begin c .args .j) ≡ none
-unfolding finding
-stepped c = sym (told c .step .ensures .0) ∙ ap finding (c .enum-told .given .1)
+stepped : (c : tie.After-enum-told) → stepRefusal (Lent (Begin c)) (Begin c .args .j) ≡ Nothing
+stepped c = sym (told c .step .ensures .0) ∙ (c .enum-told .given .1)
 
 children-fit-requires : tie.Need-children-fit-requires
 unfolding node

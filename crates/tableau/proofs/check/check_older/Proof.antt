@@ -1,16 +1,16 @@
 use Prim.Native.Nat.{ℕ}
 use mathlib.Core.Path.{_≡_, sym, _∙_, ap, ap₂}
 use mathlib.Core.Bool.{true}
-use mathlib.Core.Option.{Option}
 use lib.IntN.{ℤ}
 use mir.Facts.{toZ-ofZ}
 use denote.Ref.{now}
 use borrow.Author.Needs.{needs}
 use Rattle.stab.specs.Node.{Tableau}
-use Rattle.stab.specs.Check.{finding, nodeRefusal, refusalWith, olderFormulas, linkCount, verdict, checkWith, checkOlder}
+use Rattle.stab.specs.Check.{nodeRefusal, refusalWith, olderFormulas, linkCount, verdict, checkWith, checkOlder}
 use Rattle.stab.specs.Refuted.{Refuted}
 use Rattle.stab.specs.declared.Verdict.{Verdict}
 use Rattle.stab.specs.declared.Verdict.the-variants.{Accepted}
+use Rattle.stab.specs.declared.Finding.{Finding}
 use Rattle.stab.proofs.Soundness.{sound-older}
 use Rattle.branch.specs.Work.{tableau}
 use Rattle.tableau.specs.Passes.{refusalAs}
@@ -28,7 +28,7 @@ abbrev lent : tie.Start → Tableau
 lent c = lentAt c (c .args .root) (c .args .least)
 
 -- what was found first, proof rows that repeat aside
-first-found : (c : tie.After-first-refusal) → finding (c .first-refusal .result) ≡ refusalWith olderFormulas nodeRefusal (lent (c .before))
+first-found : (c : tie.After-first-refusal) → (c .first-refusal .result) ≡ refusalWith olderFormulas nodeRefusal (lent (c .before))
 unfolding tableau
 first-found c =
     let start = c .before in
@@ -50,7 +50,7 @@ verdict-is : (c : tie.After-verdict-on) → c .verdict-on .result ≡ checkOlder
 unfolding checkOlder checkWith linkCount
 verdict-is c =
     let T = lent (c .before .before) in
-    c .verdict-on .ensures ∙ ap (λ (x : Option Verdict). verdict x (Accepted (T .nodeRows) (linkCount T))) (first-found (c .before))
+    c .verdict-on .ensures ∙ ap (λ (x : Finding). verdict x (Accepted (T .nodeRows) (linkCount T))) (first-found (c .before))
 
 returns : tie.Need-returns
 returns c = both (c .before .before) _ (verdict-is c)

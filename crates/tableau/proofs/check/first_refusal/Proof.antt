@@ -2,7 +2,6 @@ use Prim.Native.Nat.{_+_, _*_, _≤_}
 use native.Mathlib.Omega.{arith}
 use mathlib.Core.Path.{_≡_, sym, _∙_, ap₂}
 use mathlib.Core.Bool.{true}
-use mathlib.Core.Option.{Option}
 use lib.Dec.{leb}
 use lib.ListN.{length}
 use lib.IntN.{ℤ}
@@ -13,9 +12,9 @@ use denote.Ref.{now}
 use borrow.Author.Tests.{leb-true}
 use Rattle.stab.specs.Basic.{_otherwise_, scan}
 use Rattle.stab.specs.Node.{Tableau, rowCount}
-use Rattle.stab.specs.declared.Verdict.{Verdict}
 use Rattle.stab.specs.Check.{olderFormulas, holds, tablesHold, withinLimits}
 use Rattle.stab.specs.declared.Refusal.the-variants.{TableTooShort, TooMany}
+use Rattle.stab.specs.declared.Finding.{Finding}
 use Rattle.stab.proofs.Bools.{and-left, and-right, asked-false, asked-true}
 use Rattle.stab.proofs.Findings.{later}
 use Rattle.branch.specs.Work.{tableau}
@@ -65,7 +64,7 @@ returns-2 c =
     ∙ sym (refusal-is T _)
 
 -- what is found after the first two tests is what is found first
-after-limits : (c : tie.Else2) (x : Option Verdict) →
+after-limits : (c : tie.Else2) (x : Finding) →
     let w = c .before .before .before .before .args .whole in
     let T = lent (c .before .before .before .before) in
     x ≡ ((rowsRefusal T otherwise nodesRefusal w T) otherwise scan (nodeRefusalAs w T) (T .nodeRows)) → x ≡ refusalAs w olderFormulas T
@@ -96,7 +95,7 @@ sizes c =
     )
 
 -- the same of what is found with root and least as they are passed on
-after-limits-as : (c : tie.Else2) (x : Option Verdict) →
+after-limits-as : (c : tie.Else2) (x : Finding) →
     let start = c .before .before .before .before in
     let T = lentAt start (toZ w32 (ofZ w32 (start .args .root))) (toZ w32 (ofZ w32 (start .args .least))) in
     x ≡ ((rowsRefusal T otherwise nodesRefusal (start .args .whole) T) otherwise scan (nodeRefusalAs (start .args .whole) T) (start .args .k)) → x ≡ refusalAs (start .args .whole) olderFormulas (lent start)

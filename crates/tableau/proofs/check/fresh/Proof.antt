@@ -8,7 +8,7 @@ use denote.Ref.{now}
 use borrow.Author.Needs.{needs}
 use Rattle.stab.specs.Basic.{scan}
 use Rattle.stab.specs.Formula.{formulaRows}
-use Rattle.stab.specs.Check.{finding, repeatRefusal, rootFits}
+use Rattle.stab.specs.Check.{repeatRefusal, rootFits}
 use Rattle.stab.proofs.Findings.{stays, nothing-found, later}
 use Rattle.tableau.specs.Fresh.{reached, countIn}
 use Rattle.tableau.proofs.FreshLaws.{count-few, reached-few}
@@ -28,19 +28,19 @@ rows-reached-requires c κs = search needs
 count-is : (c : tie.After-rows-reached) →
     let start = c .before .before .before in
     let a = start .args in
-    c .rows-reached .result ≡ reached (finding (a .found)) (rootFits (a .s) (a .root) (a .least)) (countIn (a .s) (a .p))
+    c .rows-reached .result ≡ reached ((a .found)) (rootFits (a .s) (a .root) (a .least)) (countIn (a .s) (a .p))
 count-is c =
     let start = c .before .before .before in
     let a = start .args in
     c .rows-reached .ensures
-    ∙ ap₂ (reached (finding (a .found)))
+    ∙ ap₂ (reached ((a .found)))
     (c .before .before .root-fits .ensures ∙ ap₂ (rootFits (a .s)) (toZ-ofZ (start .fits .root)) (toZ-ofZ (start .fits .least)))
     (c .before .count-in .ensures)
 
 repeats-requires : tie.Need-repeats-requires
 repeats-requires c κs =
     let a = c .before .before .before .args in
-    omega (arith, count-is c, reached-few (finding (a .found)) (rootFits (a .s) (a .root) (a .least)) (countIn (a .s) (a .p)), count-few (a .s) (a .p))
+    omega (arith, count-is c, reached-few ((a .found)) (rootFits (a .s) (a .root) (a .least)) (countIn (a .s) (a .p)), count-few (a .s) (a .p))
 
 enum-told : tie.Need-enum-told
 enum-told c = search needs
@@ -51,7 +51,7 @@ enum-told-2 c = search needs
 -- what is found among them
 again-found : (c : tie.After-repeats) →
     let a = c .before .before .before .before .args in
-    finding (c .repeats .result) ≡ scan (repeatRefusal (formulaRows (now (a .schema)) (a .s) (now (a .proof))) (a .s)) (reached (finding (a .found)) (rootFits (a .s) (a .root) (a .least)) (countIn (a .s) (a .p)))
+    (c .repeats .result) ≡ scan (repeatRefusal (formulaRows (now (a .schema)) (a .s) (now (a .proof))) (a .s)) (reached ((a .found)) (rootFits (a .s) (a .root) (a .least)) (countIn (a .s) (a .p)))
 again-found c =
     let a = c .before .before .before .before .args in
     c .repeats .ensures ∙ ap (scan (repeatRefusal (formulaRows (now (a .schema)) (a .s) (now (a .proof))) (a .s))) (count-is (c .before))

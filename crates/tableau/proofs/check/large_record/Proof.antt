@@ -6,7 +6,6 @@ use mir.Facts.{toZ-ofZ}
 use denote.Ref.{now}
 use Rattle.stab.specs.Basic.{_otherwise_, scan}
 use Rattle.stab.specs.Node.{Tableau}
-use Rattle.stab.specs.Check.{finding}
 use Rattle.stab.proofs.Findings.{stays, nothing-found, later}
 use Rattle.classes.proofs.Remembering.{nothing-agreed}
 use Rattle.branch.specs.Work.{tableau}
@@ -41,7 +40,7 @@ enum-told-2 c = search needs
 -- what the passes found
 passes-found : (c : tie.After-passes) →
     let T = lent (c .before .before) in
-    finding (c .passes .result) ≡ (rowsRefusal T otherwise nodesRefusal (c .before .before .args .whole) T)
+    (c .passes .result) ≡ (rowsRefusal T otherwise nodesRefusal (c .before .before .args .whole) T)
 passes-found c =
     let start = c .before .before in
     c .passes .ensures .0
@@ -66,13 +65,12 @@ slice-aggregate-single-steps-5 : tie.Need-slice-aggregate-single-steps-5
 slice-aggregate-single-steps-5 c = search needs
 
 single-steps-requires : tie.Need-single-steps-requires
-unfolding finding
 single-steps-requires c κs =
     let told = c .before .before .before .before .before in
     let found = told .before .before .before in
     let p = found .before .before .pre in (
       (omega (arith, p .0), omega (arith, p .0), omega (arith, p .0), omega (arith, p .1), p .2, p .3, p .4, omega (arith, p .1)),
-      (found .passes .ensures .1 (ap finding (told .enum-told .given .1)), (nothing-found _ _ (found .passes .ensures .0) (told .enum-told .given .1), (nothing-agreed _ 1024, omega (arith, p .0)))),
+      (found .passes .ensures .1 ((told .enum-told .given .1)), (nothing-found _ _ (found .passes .ensures .0) (told .enum-told .given .1), (nothing-agreed _ 1024, omega (arith, p .0)))),
     )
 
 returns-2 : tie.Need-returns-2

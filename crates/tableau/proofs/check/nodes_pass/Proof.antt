@@ -1,6 +1,5 @@
 use native.Mathlib.Omega.{arith}
 use mathlib.Core.Path.{_≡_, _∙_, ap}
-use mathlib.Core.Option.{none}
 use lib.IntN.{ℤ}
 use lib.Dec.{ltb}
 use mir.Facts.{toZ-ofZ}
@@ -8,8 +7,9 @@ use denote.Ref.{now}
 use borrow.Author.Needs.{needs}
 use Rattle.stab.specs.Basic.{_implies_, scan}
 use Rattle.stab.specs.Node.{Tableau}
-use Rattle.stab.specs.Check.{finding, setRefusal, parentRefusal}
+use Rattle.stab.specs.Check.{setRefusal, parentRefusal}
 use Rattle.stab.specs.declared.Refusal.the-variants.{Parent}
+use Rattle.stab.specs.declared.Finding.the-variants.{Nothing}
 use Rattle.stab.proofs.Bools.{asked-false, asked-true}
 use Rattle.stab.proofs.Findings.{stays, nothing-found, later}
 use Rattle.branch.specs.Work.{tableau}
@@ -33,7 +33,7 @@ sets-requires : tie.Need-sets-requires
 sets-requires c κs = search needs
 
 -- what the pass over sets found
-sets-found : (c : tie.After-sets) → finding (c .sets .result) ≡ scan (setRefusal (lent (c .before .before) (c .before .before .args .root))) (c .before .before .args .k)
+sets-found : (c : tie.After-sets) → (c .sets .result) ≡ scan (setRefusal (lent (c .before .before) (c .before .before .args .root))) (c .before .before .args .k)
 sets-found c =
     let a = c .before .before .args in
     c .sets .ensures
@@ -45,7 +45,7 @@ enum-told c = search needs
 -- it found nothing
 sets-passed : (c : tie.After-enum-told) →
     let start = c .before .before .before .before in
-    scan (setRefusal (lent start (start .args .root))) (start .args .k) ≡ none
+    scan (setRefusal (lent start (start .args .root))) (start .args .k) ≡ Nothing
 sets-passed c = nothing-found _ _ (sets-found (c .before .before)) (c .enum-told .given .1)
 
 enum-told-2 : tie.Need-enum-told-2

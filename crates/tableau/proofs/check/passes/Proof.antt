@@ -1,12 +1,12 @@
 use Prim.Native.Nat.{_+_}
 use mathlib.Core.Path.{_≡_, _∙_, ap₂}
-use mathlib.Core.Option.{none}
 use lib.IntN.{ℤ}
 use mir.Facts.{toZ-ofZ}
 use denote.Ref.{now}
 use Rattle.stab.specs.Formula.{formulaRows}
 use Rattle.stab.specs.Node.{Tableau, rows, rowCount}
-use Rattle.stab.specs.Check.{finding, formulasRefusal}
+use Rattle.stab.specs.Check.{formulasRefusal}
+use Rattle.stab.specs.declared.Finding.the-variants.{Nothing}
 use Rattle.stab.proofs.Findings.{stays, nothing-found, later}
 use Rattle.branch.specs.Work.{tableau}
 use Rattle.tableau.specs.Passes.{rowsRefusal, nodesRefusal}
@@ -40,7 +40,7 @@ same-length : tie.Need-same-length
 same-length c = search needs
 
 -- what the pass over rows found, and that it found nothing
-rows-found : (c : tie.After-formulas) → finding (c .formulas .result) ≡ rowsRefusal (lent (c .before .before .before))
+rows-found : (c : tie.After-formulas) → (c .formulas .result) ≡ rowsRefusal (lent (c .before .before .before))
 unfolding rowsRefusal rows rowCount tableau
 rows-found c =
     let start = c .before .before .before in
@@ -48,7 +48,7 @@ rows-found c =
     c .formulas .ensures .0
     ∙ ap₂ (formulasRefusal (formulaRows (now (a .schema)) (a .s) (now (a .proof))) (a .s + a .p) (a .s)) (toZ-ofZ (start .fits .root)) (toZ-ofZ (start .fits .least))
 
-rows-passed : (c : tie.After-enum-told) → rowsRefusal (lent (c .before .before .before .before .before .before .before)) ≡ none
+rows-passed : (c : tie.After-enum-told) → rowsRefusal (lent (c .before .before .before .before .before .before .before)) ≡ Nothing
 rows-passed c = nothing-found _ _ (rows-found (c .before .before .before .before)) (c .enum-told .given .1)
 
 returns : tie.Need-returns

@@ -2,7 +2,6 @@ use Prim.Native.Nat.{ℕ}
 use mathlib.Core.Path.{_≡_, sym, _∙_, ap}
 use borrow.Author.Tests.{le-leb, lt-leb}
 use borrow.Author.Needs.{needs}
-use Rattle.stab.specs.Check.{finding}
 use Rattle.stab.specs.declared.Finding.{Finding}
 use Rattle.stab.proofs.Bools.{if-true, if-false}
 use Rattle.tableau.specs.Fresh.{rowsBefore, reached}
@@ -16,10 +15,10 @@ enum-told : tie.Need-enum-told
 enum-told c = search needs
 
 returns : tie.Need-returns
-unfolding finding reached
+unfolding reached
 returns c =
     let a = c .before .before .args in
-    ap (λ (f : Finding). reached (finding f) (a .fits) (a .n)) (sym (c .enum-told .given .1))
+    ap (λ (f : Finding). reached (f) (a .fits) (a .n)) (sym (c .enum-told .given .1))
 
 number-requires : tie.Need-number-requires
 number-requires c κs = search needs
@@ -27,12 +26,12 @@ number-requires c κs = search needs
 -- by the number that was asked for
 reached-is : (c : tie.After-number) →
     let a = c .before .before .before .before .args in
-    rowsBefore (c .number .result) (c .before .before .found .given .0 .1 .0) (a .fits) (a .n) ≡ reached (finding (a .found)) (a .fits) (a .n)
-unfolding finding reached
+    rowsBefore (c .number .result) (c .before .before .found .given .0 .1 .0) (a .fits) (a .n) ≡ reached ((a .found)) (a .fits) (a .n)
+unfolding reached
 reached-is c =
     let a = c .before .before .before .before .args in
     ap (λ (k : ℕ). rowsBefore k (c .before .before .found .given .0 .1 .0) (a .fits) (a .n)) (c .number .ensures)
-    ∙ ap (λ (f : Finding). reached (finding f) (a .fits) (a .n)) (sym (c .before .before .found .given .1))
+    ∙ ap (λ (f : Finding). reached (f) (a .fits) (a .n)) (sym (c .before .before .found .given .1))
 
 returns-2 : tie.Need-returns-2
 unfolding rowsBefore

@@ -1,6 +1,5 @@
 use native.Mathlib.Omega.{arith}
 use mathlib.Core.Path.{_≡_, _∙_, ap₂}
-use mathlib.Core.Option.{none}
 use lib.IntN.{ℤ}
 use mir.Syntax.{w32}
 use mir.Val.{toZ, ofZ}
@@ -8,6 +7,7 @@ use mir.Facts.{toZ-ofZ}
 use denote.Ref.{now}
 use Rattle.stab.specs.Basic.{_otherwise_, scan}
 use Rattle.stab.specs.Node.{Tableau, rows, rowCount}
+use Rattle.stab.specs.declared.Finding.the-variants.{Nothing}
 use Rattle.stab.proofs.Bools.{otherwise-first, otherwise-second}
 use Rattle.branch.specs.Work.{tableau}
 use Rattle.steps.specs.Judged.{nodeRefusalAs}
@@ -28,15 +28,15 @@ lentAt c root least =
 abbrev lent : tie.Start → Tableau
 lent c = lentAt c (toZ w32 (ofZ w32 (c .args .root))) (toZ w32 (ofZ w32 (c .args .least)))
 
-passed : (c : tie.Start) → (rowsRefusal (lent c) otherwise nodesRefusal (c .args .whole) (lent c)) ≡ none
+passed : (c : tie.Start) → (rowsRefusal (lent c) otherwise nodesRefusal (c .args .whole) (lent c)) ≡ Nothing
 passed c =
     ap₂ (λ (r l : ℤ). rowsRefusal (lentAt c r l) otherwise nodesRefusal (c .args .whole) (lentAt c r l)) (toZ-ofZ (c .fits .root)) (toZ-ofZ (c .fits .least))
     ∙ c .pre .1 .1 .0
 
-rows-passed : (c : tie.Start) → rowsRefusal (lent c) ≡ none
+rows-passed : (c : tie.Start) → rowsRefusal (lent c) ≡ Nothing
 rows-passed c = otherwise-first _ _ (passed c)
 
-nodes-passed : (c : tie.Start) → nodesRefusal (c .args .whole) (lent c) ≡ none
+nodes-passed : (c : tie.Start) → nodesRefusal (c .args .whole) (lent c) ≡ Nothing
 nodes-passed c = otherwise-second (rowsRefusal (lent c)) _ (passed c)
 
 work-out-requires : tie.Need-work-out-requires

@@ -1,7 +1,7 @@
 use mathlib.Core.Path.{sym, _∙_, ap}
 use borrow.Author.Needs.{needs}
 use Rattle.stab.specs.Basic.{count}
-use Rattle.stab.specs.Check.{finding, isLink, verdict}
+use Rattle.stab.specs.Check.{isLink, verdict}
 use Rattle.stab.specs.declared.Finding.{Finding}
 use Rattle.stab.specs.declared.Verdict.the-variants.{Accepted}
 use Rattle.tableau.proofs.check.verdict_on.Statement.{statement}
@@ -14,21 +14,20 @@ enum-told : tie.Need-enum-told
 enum-told c = search needs
 
 links-requires : tie.Need-links-requires
-unfolding finding
-links-requires c κs = c .before .before .pre (ap finding (c .enum-told .given .1))
+links-requires c κs = c .before .before .pre ((c .enum-told .given .1))
 
 returns : tie.Need-returns
-unfolding finding verdict
+unfolding verdict
 returns c =
     let a = c .before .before .before .args in
-    ap (λ (f : Finding). verdict (finding f) (Accepted (a .k) (count (isLink (a .nodes .now)) (a .k)))) (sym (c .before .found .given .1))
+    ap (λ (f : Finding). verdict (f) (Accepted (a .k) (count (isLink (a .nodes .now)) (a .k)))) (sym (c .before .found .given .1))
 
 returns-2 : tie.Need-returns-2
-unfolding finding verdict
+unfolding verdict
 returns-2 c =
     let a = c .before .before .before .args in
     ap (Accepted (a .k)) (c .links .ensures)
-    ∙ ap (λ (f : Finding). verdict (finding f) (Accepted (a .k) (count (isLink (a .nodes .now)) (a .k)))) (sym (c .before .enum-told .given .1))
+    ∙ ap (λ (f : Finding). verdict (f) (Accepted (a .k) (count (isLink (a .nodes .now)) (a .k)))) (sym (c .before .enum-told .given .1))
 
 pub verdict-on-spec : {M : Type 1} → statement M
 verdict-on-spec = tie.close (tie.spec enum-known-found enum-told links-requires returns returns-2)

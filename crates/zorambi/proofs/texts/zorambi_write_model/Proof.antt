@@ -3,7 +3,7 @@ use mir.Facts.{toZ-ofZ}
 use borrow.Author.Needs.{needs}
 use Rattle.stab.specs.Entry.{writtenPacked, WrittenFits}
 use Rattle.stab.specs.Write.{writeModel}
-use Rattle.stab.proofs.Entries.{written-fits}
+use Rattle.stab.proofs.Entries.{written-fits, write-near}
 use Rattle.zorambi.proofs.texts.zorambi_write_model.Statement.{statement}
 use Rattle.zorambi.proofs.texts.zorambi_write_model.Tie as tie
 
@@ -12,7 +12,7 @@ write-model-requires c κs = tt
 
 written-requires : tie.Need-written-requires
 unfolding writeModel
-written-requires c κs = subst WrittenFits (sym (c .before .before .write-model .ensures .0)) (written-fits _ _ _)
+written-requires c κs = subst WrittenFits (sym (c .before .before .write-model .ensures .0)) (written-fits _ _ _ (write-near _ _ _))
 
 same-length : tie.Need-same-length
 same-length c = search needs

@@ -2,7 +2,7 @@ use mathlib.Core.Path.{sym, _∙_, ap, subst}
 use borrow.Author.Needs.{needs}
 use Rattle.stab.specs.Entry.{writtenPacked, WrittenFits}
 use Rattle.stab.specs.Write.{writeProof}
-use Rattle.stab.proofs.Entries.{written-fits}
+use Rattle.stab.proofs.Entries.{written-fits, write-near}
 use Rattle.zorambi.proofs.texts.zorambi_write_proof.Statement.{statement}
 use Rattle.zorambi.proofs.texts.zorambi_write_proof.Tie as tie
 
@@ -11,7 +11,7 @@ write-proof-requires c κs = tt
 
 written-requires : tie.Need-written-requires
 unfolding writeProof
-written-requires c κs = subst WrittenFits (sym (c .before .before .write-proof .ensures .0)) (written-fits _ _ _)
+written-requires c κs = subst WrittenFits (sym (c .before .before .write-proof .ensures .0)) (written-fits _ _ _ (write-near _ _ _))
 
 same-length : tie.Need-same-length
 same-length c = search needs

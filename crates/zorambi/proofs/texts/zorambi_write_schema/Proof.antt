@@ -3,7 +3,7 @@ use mir.Facts.{toZ-ofZ}
 use borrow.Author.Needs.{needs}
 use Rattle.stab.specs.Entry.{writtenPacked, WrittenFits}
 use Rattle.stab.specs.Write.{writeSchema}
-use Rattle.stab.proofs.Entries.{written-fits}
+use Rattle.stab.proofs.Entries.{written-fits, write-near}
 use Rattle.zorambi.proofs.texts.zorambi_write_schema.Statement.{statement}
 use Rattle.zorambi.proofs.texts.zorambi_write_schema.Tie as tie
 
@@ -12,7 +12,7 @@ write-schema-requires c κs = tt
 
 written-requires : tie.Need-written-requires
 unfolding writeSchema
-written-requires c κs = subst WrittenFits (sym (c .before .before .write-schema .ensures .0)) (written-fits _ _ _)
+written-requires c κs = subst WrittenFits (sym (c .before .before .write-schema .ensures .0)) (written-fits _ _ _ (write-near _ _ _))
 
 same-length : tie.Need-same-length
 same-length c = search needs
