@@ -1,12 +1,12 @@
 // Rows of one hash, each with the one before it: among them an earlier row of the same class is looked for.
 use crate::form::Form;
+use crate::held::head_at;
+use crate::held::held_at;
 use formula::KIND;
-use formula::kept::kept_at;
-use formula::kept::number_at;
 use formula::natural_in;
 use formula::spread::spread;
 ghost use mathlib.Core.Path.{_≡_};
-ghost use Prim.Native.Nat.{_+_, _*_, _<_, _^_};
+ghost use Prim.Native.Nat.{_+_, _*_, _<_, _≤_, _^_};
 ghost use lib.Dec.{eqb};
 ghost use lib.ListN.{length, getD, set};
 ghost use Rattle.stab.specs.Basic.{_and_, nat};
@@ -19,7 +19,7 @@ pub fn hash(kind: usize, low: usize, high: usize) -> usize
     requires { ⌜ (kind < 2 ^ 32) × (low < 2 ^ 32) × (high < 2 ^ 32) ⌝ }
     ensures { λ v. ⌜ v ≡ hashOf kind low high ⌝ }
 {
-    spread(low, high, kind, 0) / 524288
+    spread(low, high, kind, 0) / 2097152
 }
 
 // Row q has that key.
@@ -33,16 +33,16 @@ fn has_key(
     low: usize,
     high: usize,
 ) -> bool
-    requires { ⌜ q < 1024 ⌝ }
+    requires { ⌜ (q < 1024) × (2 * q + 1 < length (now sides)) ⌝ }
     ensures { λ v. ⌜ v ≡ (eqb (nat (formulaRows (now (schema .entry)) s (now (proof .entry)) q .kind)) kind and eqb (getD (now (sides .entry)) (2 * q) 0) low and eqb (getD (now (sides .entry)) (2 * q + 1) 0) high) ⌝ }
 {
     if natural_in(schema, s, proof, q, KIND) != kind {
         return false;
     }
-    if kept_at(sides, 2 * q) != low {
+    if held_at(sides, 2 * q) != low {
         return false;
     }
-    kept_at(sides, 2 * q + 1) == high
+    held_at(sides, 2 * q + 1) == high
 }
 
 // The class of row r, whose kind is given, whose numbers are f and whose hash is h: that of an earlier row with its key, else its
@@ -59,19 +59,19 @@ pub fn class_of(
     sides: &[u32],
     heads: &[u16],
 ) -> usize
-    requires { ⌜ (r < 1024) × (kind ≡ nat (formulaRows (now schema) s (now proof) r .kind)) ⌝ }
+    requires { ⌜ (r < 1024) × (kind ≡ nat (formulaRows (now schema) s (now proof) r .kind)) × (4 * r ≤ length (now forms)) × (2 * r ≤ length (now sides)) × (h < length (now heads)) ⌝ }
     requires { ⌜ AllFormed (formulaRows (now schema) s (now proof)) (r + 1) ⌝ }
     requires { ⌜ Done (formulaRows (now schema) s (now proof)) (now forms) (now sides) (now heads) r ⌝ }
     requires { ⌜ (f ≡ formOf (formulaRows (now schema) s (now proof)) r) × (h ≡ hashAt (formulaRows (now schema) s (now proof)) r) ⌝ }
     ensures { λ v. ⌜ v ≡ classOf (formulaRows (now (schema .entry)) s (now (proof .entry))) r ⌝ }
 {
-    let mut next = number_at(heads, h);
+    let mut next = head_at(heads, h);
     while 0 < next {
         let q = next - 1;
         if has_key(schema, s, proof, sides, q, kind, f.low, f.high) {
-            return kept_at(forms, 4 * q);
+            return held_at(forms, 4 * q);
         }
-        next = kept_at(forms, 4 * q + 3);
+        next = held_at(forms, 4 * q + 3);
     }
     r
 }

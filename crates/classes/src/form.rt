@@ -1,12 +1,12 @@
 // The numbers of one row, by what is kept for smaller rows.
+use crate::held::held_at;
 use formula::cells::Cells;
-use formula::kept::kept_at;
 ghost use mathlib.Core.Path.{_≡_};
 ghost use mathlib.Core.Bool.{true};
 ghost use mathlib.Core.Option.{some};
 ghost use Prim.Native.Nat.{_+_, _*_, _<_, _≤_};
 ghost use lib.IntN.{negℤ};
-ghost use lib.ListN.{getD};
+ghost use lib.ListN.{length, getD};
 ghost use Rattle.stab.specs.Basic.{nat};
 ghost use Rattle.stab.specs.Formula.{offset};
 ghost use Rattle.formula.specs.Cells.{rowOf};
@@ -51,12 +51,12 @@ fn smaller(p: usize, q: usize) -> usize
 
 // The code of a part a in a row whose shift is m.
 fn code(forms: &[u32], a: usize, m: usize) -> usize
-    requires { ⌜ a < 1024 ⌝ }
+    requires { ⌜ (a < 1024) × (4 * a + 3 < length (now forms)) ⌝ }
     requires { ⌜ (1 ≤ getD (now forms) (4 * a + 1) 0 → m ≤ getD (now forms) (4 * a + 1) 0) ⌝ }
     ensures { λ v. ⌜ v ≡ keptCode (now (forms .entry)) m a ⌝ }
 {
-    let class = kept_at(forms, 4 * a);
-    let shift = kept_at(forms, 4 * a + 1);
+    let class = held_at(forms, 4 * a);
+    let shift = held_at(forms, 4 * a + 1);
     if shift == 0 {
         return class + 1024 * 32767;
     }
@@ -87,12 +87,12 @@ fn literal(w: Cells, r: usize) -> Form
 
 // An and or an or: the parts' codes, in order.
 fn junction(w: Cells, forms: &[u32]) -> Form
-    requires { ⌜ (nat (w .a) < 1024) × (nat (w .b) < 1024) ⌝ }
+    requires { ⌜ (nat (w .a) < 1024) × (nat (w .b) < 1024) × (4 * nat (w .a) + 3 < length (now forms)) × (4 * nat (w .b) + 3 < length (now forms)) ⌝ }
     ensures { λ v. ⌜ v ≡ junctionForm (rowOf w) (now (forms .entry)) ⌝ }
 {
     let a = signed::natural(w.a);
     let b = signed::natural(w.b);
-    let shift = smaller(kept_at(forms, 4 * a + 1), kept_at(forms, 4 * b + 1));
+    let shift = smaller(held_at(forms, 4 * a + 1), held_at(forms, 4 * b + 1));
     let left = code(forms, a, shift);
     let right = code(forms, b, shift);
     if left <= right {
@@ -113,12 +113,12 @@ fn junction(w: Cells, forms: &[u32]) -> Form
 
 // An iteration: its body's class and shift, and where its range starts.
 fn iteration(w: Cells, r: usize, forms: &[u32]) -> Form
-    requires { ⌜ (nat (w .a) < 1024) × (offset (w .b) ≡ true) × (offset (w .c) ≡ true) ⌝ }
+    requires { ⌜ (nat (w .a) < 1024) × (offset (w .b) ≡ true) × (offset (w .c) ≡ true) × (4 * nat (w .a) + 3 < length (now forms)) ⌝ }
     ensures { λ v. ⌜ v ≡ iterationForm r (rowOf w) (now (forms .entry)) ⌝ }
 {
     let body = signed::natural(w.a);
-    let class = kept_at(forms, 4 * body);
-    let shift = kept_at(forms, 4 * body + 1);
+    let class = held_at(forms, 4 * body);
+    let shift = held_at(forms, 4 * body + 1);
     let low = class + 1024 * shift;
     let high = raised(w.b);
     Form {
@@ -131,7 +131,7 @@ fn iteration(w: Cells, r: usize, forms: &[u32]) -> Form
 
 // Those of row r, whose columns are w and whose kind is given.
 pub fn of_row(w: Cells, r: usize, kind: usize, forms: &[u32]) -> Form
-    requires { ⌜ (r < 1024) × (kind ≡ nat (w .kind)) × FormedAt r (rowOf w) ⌝ }
+    requires { ⌜ (r < 1024) × (kind ≡ nat (w .kind)) × FormedAt r (rowOf w) × (4 * r ≤ length (now forms)) ⌝ }
     ensures { λ v. ⌜ v ≡ keptForm r (rowOf w) (now (forms .entry)) ⌝ }
 {
     if kind < 2 {

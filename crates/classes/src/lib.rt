@@ -3,6 +3,7 @@ mod agreed;
 mod chain;
 pub mod compare;
 mod form;
+mod held;
 mod numbers;
 
 use formula::cells;

@@ -66,7 +66,7 @@ of-row-requires-2 : tie.Need-of-row-requires-2
 of-row-requires-2 c κs =
     let k = c .before in
     let b = begin k in
-    (b .pre .0 .0, kind-column k, record { rows = rowsFrom b; row = sym (columns-are k); formed = b .pre .1 .0 (b .args .r) (omega arith) })
+    (b .pre .0 .0, kind-column k, record { rows = rowsFrom b; row = sym (columns-are k); formed = b .pre .1 .0 (b .args .r) (omega arith) }, omega (arith, b .pre .0 .1))
 
 hash-requires : tie.Need-hash-requires
 hash-requires c κs =
@@ -78,7 +78,7 @@ class-of-requires : tie.Need-class-of-requires
 class-of-requires c κs =
     let d = c .before .before .before in
     let b = start (d .before) in
-    ((b .pre .0 .0, kind-is (d .before)), (b .pre .1 .0, (b .pre .1 .1, (form-is (d .before), hash-is d))))
+    ((b .pre .0 .0, kind-is (d .before), omega (arith, b .pre .0 .1), omega (arith, b .pre .0 .2), omega (arith, hash-is d, hash-small (rows (d .before)) (b .args .r), b .pre .0 .3)), (b .pre .1 .0, (b .pre .1 .1, (form-is (d .before), hash-is d))))
 
 keep-requires : tie.Need-keep-requires
 keep-requires c κs =

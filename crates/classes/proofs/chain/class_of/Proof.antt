@@ -32,49 +32,49 @@ row-below c =
     let b = start c in
     walk-row (rows c) (b .args .r) (b .pre .0 .0) (b .pre .1 .0) (b .args .h) (c .before .loop .next) (b .pre .1 .1 .1 .1) (c .before .loop .inv) (c .loop-test .taken)
 
-number-at-requires : tie.Need-number-at-requires Inv-loop μ-loop
-number-at-requires c κs = search needs
+head-at-requires : tie.Need-head-at-requires Inv-loop μ-loop
+head-at-requires c κs = search needs
 
 loop-holds : tie.Need-loop-holds Inv-loop μ-loop
 loop-holds c =
     let b = c .before .before .before .before in
-    walk-start _ (b .args .r) (b .pre .0 .0) (b .pre .1 .0) (b .args .h) _ (c .number-at .ensures ∙ b .pre .1 .1 .0 .latest-of (b .args .h) (omega (arith, b .pre .1 .1 .1 .1, hash-small (formulaRows (b .args .schema .now) (b .args .s) (b .args .proof .now)) (b .args .r))))
+    walk-start _ (b .args .r) (b .pre .0 .0) (b .pre .1 .0) (b .args .h) _ (c .head-at .ensures ∙ b .pre .1 .1 .0 .latest-of (b .args .h) (omega (arith, b .pre .1 .1 .1 .1, hash-small (formulaRows (b .args .schema .now) (b .args .s) (b .args .proof .now)) (b .args .r))))
 
 sub-q : tie.Need-sub-q Inv-loop μ-loop
 sub-q c = omega arith
 
 has-key-requires : tie.Need-has-key-requires Inv-loop μ-loop
-has-key-requires c κs = omega (arith, row-below c, start c .pre .0 .0)
+has-key-requires c κs = let p = start c .pre .0 in (omega (arith, row-below c, p .0), omega (arith, row-below c, p .3))
 
-mul-kept-at : tie.Need-mul-kept-at Inv-loop μ-loop
-mul-kept-at c = let d = c .before .before in omega (arith, row-below d, start d .pre .0 .0)
+mul-held-at : tie.Need-mul-held-at Inv-loop μ-loop
+mul-held-at c = let d = c .before .before in omega (arith, row-below d, start d .pre .0 .0)
 
-kept-at-requires : tie.Need-kept-at-requires Inv-loop μ-loop
-kept-at-requires c κs = search needs
+held-at-requires : tie.Need-held-at-requires Inv-loop μ-loop
+held-at-requires c κs = let d = c .before .before in omega (arith, row-below d, start d .pre .0 .2)
 
 returns : tie.Need-returns Inv-loop μ-loop
 returns c =
     let d = c .before .before .before in
     let b = start d in
-    c .kept-at .ensures .0
+    c .held-at .ensures .0
     ∙ b .pre .1 .1 .0 .worked _ (row-below d) .class
     ∙ walk-found (rows d) (b .args .r) (b .pre .0 .0) (b .pre .1 .0) (b .args .h) _ (b .pre .1 .1 .1 .1) (d .before .loop .inv) (d .loop-test .taken) (kind-is d) (b .pre .1 .1 .1 .0) (b .pre .1 .1 .0 .listed _ (row-below d))
     (sym (c .before .before .has-key .ensures) ∙ c .before .if1 .taken)
 
-mul-kept-at-2 : tie.Need-mul-kept-at-2 Inv-loop μ-loop
-mul-kept-at-2 c = let d = c .before .before in omega (arith, row-below d, start d .pre .0 .0)
+mul-held-at-2 : tie.Need-mul-held-at-2 Inv-loop μ-loop
+mul-held-at-2 c = let d = c .before .before in omega (arith, row-below d, start d .pre .0 .0)
 
-add-kept-at : tie.Need-add-kept-at Inv-loop μ-loop
-add-kept-at c = let d = c .before .before in omega (arith, row-below d, start d .pre .0 .0)
+add-held-at : tie.Need-add-held-at Inv-loop μ-loop
+add-held-at c = let d = c .before .before in omega (arith, row-below d, start d .pre .0 .0)
 
-kept-at-requires-2 : tie.Need-kept-at-requires-2 Inv-loop μ-loop
-kept-at-requires-2 c κs = search needs
+held-at-requires-2 : tie.Need-held-at-requires-2 Inv-loop μ-loop
+held-at-requires-2 c κs = let d = c .before .before in omega (arith, row-below d, start d .pre .0 .2)
 
 loop-less : tie.Need-loop-less Inv-loop μ-loop
 loop-less c =
     let d = c .before .before .before in
     let b = start d in
-    walk-falls (rows d) (b .args .r) (b .pre .0 .0) (b .pre .1 .0) (b .args .h) _ (b .pre .1 .1 .1 .1) (d .before .loop .inv) (d .loop-test .taken) (kind-is d) (b .pre .1 .1 .1 .0) (b .pre .1 .1 .0 .listed _ (row-below d)) (c .kept-at2 .ensures .0)
+    walk-falls (rows d) (b .args .r) (b .pre .0 .0) (b .pre .1 .0) (b .args .h) _ (b .pre .1 .1 .1 .1) (d .before .loop .inv) (d .loop-test .taken) (kind-is d) (b .pre .1 .1 .1 .0) (b .pre .1 .1 .0 .listed _ (row-below d)) (c .held-at2 .ensures .0)
 
 loop-again : tie.Need-loop-again Inv-loop μ-loop
 loop-again c =
@@ -82,7 +82,7 @@ loop-again c =
     let b = start d in
     walk-next (rows d) (b .args .r) (b .pre .0 .0) (b .pre .1 .0) (b .args .h) _ (b .pre .1 .1 .1 .1) (d .before .loop .inv) (d .loop-test .taken) (kind-is d) (b .pre .1 .1 .1 .0) (b .pre .1 .1 .0 .listed _ (row-below d))
     (sym (c .before .before .has-key .ensures) ∙ c .before .if1 .left)
-    (c .kept-at2 .ensures .0)
+    (c .held-at2 .ensures .0)
 
 returns-2 : tie.Need-returns-2 Inv-loop μ-loop
 returns-2 c =
@@ -95,16 +95,16 @@ class-of-spec =
     (tie.spec
     Inv-loop
     μ-loop
-    number-at-requires
+    head-at-requires
     loop-holds
     sub-q
     has-key-requires
-    mul-kept-at
-    kept-at-requires
+    mul-held-at
+    held-at-requires
     returns
-    mul-kept-at-2
-    add-kept-at
-    kept-at-requires-2
+    mul-held-at-2
+    add-held-at
+    held-at-requires-2
     loop-less
     loop-again
     returns-2)

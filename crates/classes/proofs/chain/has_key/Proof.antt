@@ -28,35 +28,35 @@ returns c =
     let b = c .before .before .before in
     sym (and-first-false _ _ (ne-eqb (kindIn b) (b .args .kind) (λ e. omega (arith, c .before .natural-in .ensures, c .if1 .taken))))
 
-mul-kept-at : tie.Need-mul-kept-at
-mul-kept-at c = search needs
+mul-held-at : tie.Need-mul-held-at
+mul-held-at c = search needs
 
-kept-at-requires : tie.Need-kept-at-requires
-kept-at-requires c κs = search needs
+held-at-requires : tie.Need-held-at-requires
+held-at-requires c κs = search needs
 
 returns-2 : tie.Need-returns-2
 unfolding column
 returns-2 c =
     sym
     (and-first-true _ _ (eq-eqb _ _ (kinds-same (c .before .before)))
-    ∙ and-first-false _ _ (ne-eqb _ _ (λ e. c .if2 .taken (c .before .kept-at .ensures .0 ∙ e))))
+    ∙ and-first-false _ _ (ne-eqb _ _ (λ e. c .if2 .taken (c .before .held-at .ensures .0 ∙ e))))
 
-mul-kept-at-2 : tie.Need-mul-kept-at-2
-mul-kept-at-2 c = search needs
+mul-held-at-2 : tie.Need-mul-held-at-2
+mul-held-at-2 c = search needs
 
-add-kept-at : tie.Need-add-kept-at
-add-kept-at c = search needs
+add-held-at : tie.Need-add-held-at
+add-held-at c = search needs
 
-kept-at-requires-2 : tie.Need-kept-at-requires-2
-kept-at-requires-2 c κs = search needs
+held-at-requires-2 : tie.Need-held-at-requires-2
+held-at-requires-2 c κs = search needs
 
 returns-3 : tie.Need-returns-3
 unfolding column
 returns-3 c =
-    ap (λ (n : ℕ). eqb n (c .before .before .before .before .before .before .args .high)) (c .kept-at2 .ensures .0)
+    ap (λ (n : ℕ). eqb n (c .before .before .before .before .before .before .args .high)) (c .held-at2 .ensures .0)
     ∙ sym
     (and-first-true _ _ (eq-eqb _ _ (kinds-same (c .before .before .before)))
-    ∙ and-first-true _ _ (eq-eqb _ _ (sym (c .before .before .kept-at .ensures .0) ∙ c .before .if2 .left)))
+    ∙ and-first-true _ _ (eq-eqb _ _ (sym (c .before .before .held-at .ensures .0) ∙ c .before .if2 .left)))
 
 pub has-key-spec : {M : Type 1} → statement M
 has-key-spec =
@@ -64,10 +64,10 @@ has-key-spec =
     (tie.spec
     natural-in-requires
     returns
-    mul-kept-at
-    kept-at-requires
+    mul-held-at
+    held-at-requires
     returns-2
-    mul-kept-at-2
-    add-kept-at
-    kept-at-requires-2
+    mul-held-at-2
+    add-held-at
+    held-at-requires-2
     returns-3)

@@ -8,20 +8,20 @@ use Rattle.classes.proofs.Shifts.{above-none, above-some}
 use Rattle.classes.proofs.form.code.Statement.{statement}
 use Rattle.classes.proofs.form.code.Tie as tie
 
-mul-kept-at : tie.Need-mul-kept-at
-mul-kept-at c = search needs
+mul-held-at : tie.Need-mul-held-at
+mul-held-at c = search needs
 
-kept-at-requires : tie.Need-kept-at-requires
-kept-at-requires c κs = search needs
+held-at-requires : tie.Need-held-at-requires
+held-at-requires c κs = search needs
 
-mul-kept-at-2 : tie.Need-mul-kept-at-2
-mul-kept-at-2 c = search needs
+mul-held-at-2 : tie.Need-mul-held-at-2
+mul-held-at-2 c = search needs
 
-add-kept-at : tie.Need-add-kept-at
-add-kept-at c = search needs
+add-held-at : tie.Need-add-held-at
+add-held-at c = search needs
 
-kept-at-requires-2 : tie.Need-kept-at-requires-2
-kept-at-requires-2 c κs = search needs
+held-at-requires-2 : tie.Need-held-at-requires-2
+held-at-requires-2 c κs = search needs
 
 mul-result : tie.Need-mul-result
 mul-result c = search needs
@@ -32,13 +32,13 @@ add-result c = search needs
 returns : tie.Need-returns
 unfolding keptCode
 returns c =
-    let e = above-none (c .before .before .before .before .args .m) _ (sym (c .before .kept-at2 .ensures .0) ∙ c .if1 .taken) in
-    omega (arith, c .before .before .kept-at .ensures .0)
+    let e = above-none (c .before .before .before .before .args .m) _ (sym (c .before .held-at2 .ensures .0) ∙ c .if1 .taken) in
+    omega (arith, c .before .before .held-at .ensures .0)
 
 sub-result : tie.Need-sub-result
 sub-result c =
-    let l = c .before .before .before .before .pre .1 (omega (arith, c .before .kept-at2 .ensures .0, c .if1 .left)) in
-    omega (arith, c .before .kept-at2 .ensures .0)
+    let l = c .before .before .before .before .pre .1 (omega (arith, c .before .held-at2 .ensures .0, c .if1 .left)) in
+    omega (arith, c .before .held-at2 .ensures .0)
 
 mul-result-2 : tie.Need-mul-result-2
 mul-result-2 c = search needs
@@ -50,18 +50,18 @@ returns-2 : tie.Need-returns-2
 unfolding keptCode
 returns-2 c =
     let b = c .before .before .before .before .args in
-    let e = above-some (b .m) (getD (b .forms .now) (4 * b .a + 1) 0) (omega (arith, c .before .kept-at2 .ensures .0, c .if1 .left)) in
-    omega (arith, c .before .before .kept-at .ensures .0, c .before .kept-at2 .ensures .0)
+    let e = above-some (b .m) (getD (b .forms .now) (4 * b .a + 1) 0) (omega (arith, c .before .held-at2 .ensures .0, c .if1 .left)) in
+    omega (arith, c .before .before .held-at .ensures .0, c .before .held-at2 .ensures .0)
 
 pub code-spec : {M : Type 1} → statement M
 code-spec =
     tie.close
     (tie.spec
-    mul-kept-at
-    kept-at-requires
-    mul-kept-at-2
-    add-kept-at
-    kept-at-requires-2
+    mul-held-at
+    held-at-requires
+    mul-held-at-2
+    add-held-at
+    held-at-requires-2
     mul-result
     add-result
     returns

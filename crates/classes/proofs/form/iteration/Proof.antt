@@ -28,26 +28,26 @@ body-small c = omega (arith, body-is c, start c .pre .0)
 natural-requires : tie.Need-natural-requires
 natural-requires c κs = search needs
 
-mul-kept-at : tie.Need-mul-kept-at
-mul-kept-at c = omega (arith, body-small c)
+mul-held-at : tie.Need-mul-held-at
+mul-held-at c = omega (arith, body-small c)
 
-kept-at-requires : tie.Need-kept-at-requires
-kept-at-requires c κs = search needs
+held-at-requires : tie.Need-held-at-requires
+held-at-requires c κs = omega (arith, body-is c, start c .pre .3)
 
-mul-kept-at-2 : tie.Need-mul-kept-at-2
-mul-kept-at-2 c = omega (arith, body-small (c .before))
+mul-held-at-2 : tie.Need-mul-held-at-2
+mul-held-at-2 c = omega (arith, body-small (c .before))
 
-add-kept-at : tie.Need-add-kept-at
-add-kept-at c = omega (arith, body-small (c .before))
+add-held-at : tie.Need-add-held-at
+add-held-at c = omega (arith, body-small (c .before))
 
-kept-at-requires-2 : tie.Need-kept-at-requires-2
-kept-at-requires-2 c κs = search needs
+held-at-requires-2 : tie.Need-held-at-requires-2
+held-at-requires-2 c κs = omega (arith, body-is (c .before), start (c .before) .pre .3)
 
 mul-low : tie.Need-mul-low
 mul-low c = search needs
 
 add-low : tie.Need-add-low
-add-low c = omega (arith, body-small (c .before .before), c .before .kept-at .ensures .1, c .kept-at2 .ensures .1)
+add-low c = omega (arith, body-small (c .before .before), c .before .held-at .ensures .1, c .held-at2 .ensures .1)
 
 raised-requires : tie.Need-raised-requires
 raised-requires c κs = search (needs, offset-read)
@@ -65,8 +65,8 @@ returns c =
     (c .mirrored .ensures ∙ ap (λ (z : ℤ). shiftCode (some (negℤ z))) (read-back (b .args .w .c) (c .before .struct-told3 .given .1 .1 .1 .0 .1)))
     refl
     (ap₂ (λ (x y : ℕ). x + 1024 * y)
-    (r .before .before .before .kept-at .ensures .0 ∙ ap (λ (m : ℕ). getD (b .args .forms .now) (4 * m) 0) (body-is d))
-    (r .before .before .kept-at2 .ensures .0 ∙ ap (λ (m : ℕ). getD (b .args .forms .now) (4 * m + 1) 0) (body-is d)))
+    (r .before .before .before .held-at .ensures .0 ∙ ap (λ (m : ℕ). getD (b .args .forms .now) (4 * m) 0) (body-is d))
+    (r .before .before .held-at2 .ensures .0 ∙ ap (λ (m : ℕ). getD (b .args .forms .now) (4 * m + 1) 0) (body-is d)))
     (r .raised .ensures ∙ ap (λ (z : ℤ). shiftCode (some z)) (read-back (b .args .w .b) (r .before .struct-told2 .given .1 .1 .0 .1)))
 
 pub iteration-spec : {M : Type 1} → statement M
@@ -74,11 +74,11 @@ iteration-spec =
     tie.close
     (tie.spec
     natural-requires
-    mul-kept-at
-    kept-at-requires
-    mul-kept-at-2
-    add-kept-at
-    kept-at-requires-2
+    mul-held-at
+    held-at-requires
+    mul-held-at-2
+    add-held-at
+    held-at-requires-2
     mul-low
     add-low
     raised-requires

@@ -41,7 +41,7 @@ right-row c = omega (arith, right-is c, start c .pre .1)
 
 -- the shift, by what is kept for the parts
 shift-of : (c : tie.After-smaller) → let p = c .before .before .before in c .smaller .result ≡ smaller (getD (forms p) (4 * p .before .before .natural .result + 1) 0) (getD (forms p) (4 * p .natural2 .result + 1) 0)
-shift-of c = c .smaller .ensures ∙ ap₂ smaller (c .before .before .kept-at .ensures .0) (c .before .kept-at2 .ensures .0)
+shift-of c = c .smaller .ensures ∙ ap₂ smaller (c .before .before .held-at .ensures .0) (c .before .held-at2 .ensures .0)
 
 -- the parts with their codes
 abbrev parts : tie.After-code2 → Parts
@@ -66,23 +66,23 @@ natural-requires c κs = search needs
 natural-requires-2 : tie.Need-natural-requires-2
 natural-requires-2 c κs = search needs
 
-mul-kept-at : tie.Need-mul-kept-at
-mul-kept-at c = omega (arith, left-row c)
+mul-held-at : tie.Need-mul-held-at
+mul-held-at c = omega (arith, left-row c)
 
-add-kept-at : tie.Need-add-kept-at
-add-kept-at c = omega (arith, left-row c)
+add-held-at : tie.Need-add-held-at
+add-held-at c = omega (arith, left-row c)
 
-kept-at-requires : tie.Need-kept-at-requires
-kept-at-requires c κs = search needs
+held-at-requires : tie.Need-held-at-requires
+held-at-requires c κs = omega (arith, left-is c, start c .pre .2)
 
-mul-kept-at-2 : tie.Need-mul-kept-at-2
-mul-kept-at-2 c = omega (arith, right-row (c .before))
+mul-held-at-2 : tie.Need-mul-held-at-2
+mul-held-at-2 c = omega (arith, right-row (c .before))
 
-add-kept-at-2 : tie.Need-add-kept-at-2
-add-kept-at-2 c = omega (arith, right-row (c .before))
+add-held-at-2 : tie.Need-add-held-at-2
+add-held-at-2 c = omega (arith, right-row (c .before))
 
-kept-at-requires-2 : tie.Need-kept-at-requires-2
-kept-at-requires-2 c κs = search needs
+held-at-requires-2 : tie.Need-held-at-requires-2
+held-at-requires-2 c κs = omega (arith, right-is (c .before), start (c .before) .pre .3)
 
 smaller-requires : tie.Need-smaller-requires
 smaller-requires c κs = search needs
@@ -90,7 +90,7 @@ smaller-requires c κs = search needs
 code-requires : tie.Need-code-requires
 code-requires c κs =
     let p = c .before .before .before in (
-      omega (arith, left-row p),
+      (omega (arith, left-row p), omega (arith, left-is p, start p .pre .2)),
       λ l. subst (λ (m : ℕ). m ≤ getD (forms p) (4 * p .before .before .natural .result + 1) 0) (sym (shift-of c)) (smaller-below _ _ .0 l .1),
     )
 
@@ -98,7 +98,7 @@ code-requires-2 : tie.Need-code-requires-2
 code-requires-2 c κs =
     let d = c .before in
     let p = d .before .before .before in (
-      omega (arith, right-row p),
+      (omega (arith, right-row p), omega (arith, right-is p, start p .pre .3)),
       λ l. subst (λ (m : ℕ). m ≤ getD (forms p) (4 * p .natural2 .result + 1) 0) (sym (shift-of d)) (smaller-below _ _ .1 l .1),
     )
 
@@ -116,12 +116,12 @@ junction-spec =
     (tie.spec
     natural-requires
     natural-requires-2
-    mul-kept-at
-    add-kept-at
-    kept-at-requires
-    mul-kept-at-2
-    add-kept-at-2
-    kept-at-requires-2
+    mul-held-at
+    add-held-at
+    held-at-requires
+    mul-held-at-2
+    add-held-at-2
+    held-at-requires-2
     smaller-requires
     code-requires
     code-requires-2

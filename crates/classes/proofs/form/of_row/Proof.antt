@@ -1,7 +1,8 @@
 use native.Mathlib.Omega.{arith}
 use mathlib.Core.Path.{_≡_, sym, _∙_, ap, subst}
 use mathlib.Core.Bool.{Bool, true}
-use Prim.Native.Nat.{ℕ, _<_}
+use lib.ListN.{length}
+use Prim.Native.Nat.{_+_, _*_, _<_}
 use Rattle.stab.specs.Basic.{nat}
 use Rattle.stab.specs.Formula.{Row, Op, Kind, literal, junction, iteration, kindOf, offset}
 use Rattle.formula.specs.Cells.{rowOf}
@@ -61,9 +62,10 @@ unfolding rowOf
 junction-requires c κs =
     let b = c .before .before .before .before in
     let o = junction-is c in
-    let few : (n : ℕ) → n < b .args .r → n < 1024 = λ n l. omega (arith, b .pre .0) in
-    subst (λ (u : Row). (nat (u .a) < 1024) × (nat (u .b) < 1024)) (among b .row)
-    (few _ (left-less _ _ (among b .formed) _ (o .1)), few _ (right-less _ _ (among b .formed) _ (o .1)))
+    let l = left-less _ _ (among b .formed) _ (o .1) in
+    let r = right-less _ _ (among b .formed) _ (o .1) in
+    subst (λ (u : Row). (nat (u .a) < 1024) × (nat (u .b) < 1024) × (4 * nat (u .a) + 3 < length (b .args .forms .now)) × (4 * nat (u .b) + 3 < length (b .args .forms .now))) (among b .row)
+    (omega (arith, l, b .pre .0), omega (arith, r, b .pre .0), omega (arith, l, b .pre .3), omega (arith, r, b .pre .3))
 
 returns-3 : tie.Need-returns-3
 unfolding keptFormAs
@@ -75,8 +77,9 @@ iteration-requires c κs =
     let b = c .before .before .before .before in
     let o = iteration-is c in
     let h = among b .formed in
-    subst (λ (u : Row). (nat (u .a) < 1024) × (offset (u .b) ≡ true) × (offset (u .c) ≡ true)) (among b .row)
-    (omega (arith, body-less _ _ h _ (o .1), b .pre .0), first-offset _ _ h _ (o .1), limit-offset _ _ h _ (o .1))
+    let l = body-less _ _ h _ (o .1) in
+    subst (λ (u : Row). (nat (u .a) < 1024) × (offset (u .b) ≡ true) × (offset (u .c) ≡ true) × (4 * nat (u .a) + 3 < length (b .args .forms .now))) (among b .row)
+    (omega (arith, l, b .pre .0), first-offset _ _ h _ (o .1), limit-offset _ _ h _ (o .1), omega (arith, l, b .pre .3))
 
 returns-4 : tie.Need-returns-4
 unfolding keptFormAs
