@@ -67,7 +67,7 @@ module _ (rows : ℕ → Row) (h : ℕ) where
       (omega (arith, i .0), i .1, λ p a b g. ⊎-elim (λ m. i .2 p a m g) (λ m. f (ap (hashAt rows) (sym m) ∙ g)) (below-suc p n b)))
       (decide (eqb (hashAt rows n) h))
 
-pub hash-small : (rows : ℕ → Row) (r : ℕ) → hashAt rows r < 2048
+pub hash-small : (rows : ℕ → Row) (r : ℕ) → hashAt rows r < 512
 unfolding hashAt
 hash-small rows r = omega (arith, spread-small (lowOf rows r) (highOf rows r) (nat (rows r .kind)) 0)
 
@@ -204,7 +204,7 @@ module _ (rows : ℕ → Row) (forms sides heads : List ℕ) (r : ℕ) (f : Form
   sides-other i l =
       getD-set-other sides₁ (2 * r + 1) i (f .high) 0 (omega arith) ∙ getD-set-other sides (2 * r) i (f .low) 0 (omega arith)
 
-  module _ (done : Done rows forms sides heads r) (room : 4 * r + 3 < length forms) (space : 2 * r + 1 < length sides) (small : h < 2048) (place : h < length heads) (ef : f ≡ formOf rows r) (eh : h ≡ hashAt rows r) where
+  module _ (done : Done rows forms sides heads r) (room : 4 * r + 3 < length forms) (space : 2 * r + 1 < length sides) (small : h < 512) (place : h < length heads) (ef : f ≡ formOf rows r) (eh : h ≡ hashAt rows r) where
     worked-before : (q : ℕ) → q < r → Worked rows forms₄ q
     worked-before q l =
         let w = done .worked q l in
@@ -258,7 +258,7 @@ module _ (rows : ℕ → Row) (forms sides heads : List ℕ) (r : ℕ) (f : Form
           high = getD-set-same sides₁ (2 * r + 1) (f .high) 0 (simp length-set (omega arith)) ∙ ap (λ (g : Form). g .high) ef;
         }
 
-    latest-more : (x : ℕ) → x < 2048 → getD (set heads h (r + 1)) x 0 ≡ latest rows x (suc r)
+    latest-more : (x : ℕ) → x < 512 → getD (set heads h (r + 1)) x 0 ≡ latest rows x (suc r)
     latest-more x l =
         ⊎-elim
         (λ t.
@@ -290,7 +290,7 @@ module _ (rows : ℕ → Row) (forms sides heads : List ℕ) (r : ℕ) (f : Form
         })))
 
 -- no row yet
-pub done-none : (rows : ℕ → Row) (forms sides heads : List ℕ) → ((h : ℕ) → h < 2048 → getD heads h 0 ≡ 0) → Done rows forms sides heads 0
+pub done-none : (rows : ℕ → Row) (forms sides heads : List ℕ) → ((h : ℕ) → h < 512 → getD heads h 0 ≡ 0) → Done rows forms sides heads 0
 unfolding latest
 done-none rows forms sides heads z =
     record { worked = λ a l. absurd (omega arith); listed = λ a l. absurd (omega arith); latest-of = z }

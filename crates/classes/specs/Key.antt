@@ -108,9 +108,9 @@ pub record FormedAt (r : ℕ) (w : Row) : Type 0 where
 
 -- ---- rows of one hash
 
--- where rows with such a key are looked for: one of 2,048 places, by the high bits
+-- where rows with such a key are looked for: one of 512 places, by the high bits
 abbrev pub hashOf : ℕ → ℕ → ℕ → ℕ
-hashOf kind low high = spreadOf low high kind 0 / 524288
+hashOf kind low high = spreadOf low high kind 0 / 2097152
 
 unfoldable pub hashAt : (ℕ → Row) → ℕ → ℕ
 hashAt rows r = hashOf (nat (rows r .kind)) (lowOf rows r) (highOf rows r)
@@ -130,7 +130,7 @@ pub record Listed (rows : ℕ → Row) (forms sides : List ℕ) (r : ℕ) : Type
 pub record Done (rows : ℕ → Row) (forms sides heads : List ℕ) (n : ℕ) : Type 0 where
   pub worked : AllWorked rows forms n
   pub listed : (r : ℕ) → r < n → Listed rows forms sides r
-  pub latest-of : (h : ℕ) → h < 2048 → getD heads h 0 ≡ latest rows h n
+  pub latest-of : (h : ℕ) → h < 512 → getD heads h 0 ≡ latest rows h n
 
 -- the tables with the numbers of row r
 unfoldable pub formsWith : List ℕ → ℕ → ℕ → Form → ℕ → List ℕ

@@ -25,7 +25,7 @@ fn step(
     sides: &mut [u32],
     heads: &mut [u16],
 )
-    requires { ⌜ (r < 1024) × (4 * r + 3 < length (now forms)) × (2 * r + 1 < length (now sides)) × (2048 ≤ length (now heads)) ⌝ }
+    requires { ⌜ (r < 1024) × (4 * r + 3 < length (now forms)) × (2 * r + 1 < length (now sides)) × (512 ≤ length (now heads)) ⌝ }
     requires { ⌜ AllFormed (formulaRows (now schema) s (now proof)) (r + 1) ⌝ }
     requires { ⌜ Done (formulaRows (now schema) s (now proof)) (now forms) (now sides) (now heads) r ⌝ }
     ensures { λ _. ⌜ now (forms .exit) ≡ formsWith (now (forms .entry)) r (classOf (formulaRows (now (schema .entry)) s (now (proof .entry))) r) (formOf (formulaRows (now (schema .entry)) s (now (proof .entry))) r) (latest (formulaRows (now (schema .entry)) s (now (proof .entry))) (hashAt (formulaRows (now (schema .entry)) s (now (proof .entry))) r) r) ⌝ }
@@ -42,7 +42,7 @@ fn step(
 }
 
 // The class, the shift and the leading part of each of n well-formed rows. What is lent: four numbers a row, which keep them;
-// two numbers a row and 2,048 numbers, of which the latter are 0.
+// two numbers a row and 512 numbers, of which the latter are 0.
 pub fn work_out(
     schema: &[i32],
     s: usize,
@@ -52,8 +52,8 @@ pub fn work_out(
     sides: &mut [u32],
     heads: &mut [u16],
 )
-    requires { ⌜ (n ≤ 1024) × (4 * n ≤ length (now forms)) × (2 * n ≤ length (now sides)) × (2048 ≤ length (now heads)) ⌝ }
-    requires { ⌜ ((h : ℕ) → h < 2048 → getD (now heads) h 0 ≡ 0) ⌝ }
+    requires { ⌜ (n ≤ 1024) × (4 * n ≤ length (now forms)) × (2 * n ≤ length (now sides)) × (512 ≤ length (now heads)) ⌝ }
+    requires { ⌜ ((h : ℕ) → h < 512 → getD (now heads) h 0 ≡ 0) ⌝ }
     requires { ⌜ AllFormed (formulaRows (now schema) s (now proof)) n ⌝ }
     ensures { λ _. ⌜ now (forms .exit) ≡ formsAfter (formulaRows (now (schema .entry)) s (now (proof .entry))) (now (forms .entry)) n ⌝ }
     ensures { λ _. ⌜ now (sides .exit) ≡ sidesAfter (formulaRows (now (schema .entry)) s (now (proof .entry))) (now (sides .entry)) n ⌝ }

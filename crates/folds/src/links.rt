@@ -41,8 +41,8 @@ pub fn first(
 
 // The schema rows are linked. What is lent: a number for each row, and one for each place, which are 0.
 pub fn schema_rows(schema: &[i32], s: usize, table: &[i32], next: &mut [u16], heads: &mut [u16])
-    requires { ⌜ (s ≤ 2049) × (s ≤ length (now next)) × (4096 ≤ length (now heads)) ⌝ }
-    requires { ⌜ ((h : ℕ) → h < 4096 → getD (now heads) h 0 ≡ 0) ⌝ }
+    requires { ⌜ (s ≤ 2049) × (s ≤ length (now next)) × (1024 ≤ length (now heads)) ⌝ }
+    requires { ⌜ ((h : ℕ) → h < 1024 → getD (now heads) h 0 ≡ 0) ⌝ }
     ensures { λ _. ⌜ Linked (formulaRows (now (schema .entry)) s (now (table .entry))) (now (next .exit)) (now (heads .exit)) s ⌝ }
 {
     let mut r: usize = 0;

@@ -22,7 +22,7 @@ use Rattle.repeats.specs.Places.{placeOf, Leads, Linked}
 
 -- ---- places
 
-pub place-small : (w : Row) → placeOf w < 4096
+pub place-small : (w : Row) → placeOf w < 1024
 unfolding placeOf
 place-small w = omega (arith, spread-small (rankOf (w .kind)) (rankOf (w .a)) (rankOf (w .b)) (rankOf (w .c)))
 
@@ -36,7 +36,7 @@ same-place v w h =
     let a = eqZ-true (v .a) (w .a) (and-left _ _ t) in
     let b = eqZ-true (v .b) (w .b) (and-left _ _ u) in
     let c = eqZ-true (v .c) (w .c) (and-right _ _ u) in
-    λ i. spreadOf (rankOf (k i)) (rankOf (a i)) (rankOf (b i)) (rankOf (c i)) / 262144
+    λ i. spreadOf (rankOf (k i)) (rankOf (a i)) (rankOf (b i)) (rankOf (c i)) / 1048576
 
 -- ---- rows with the columns of w
 
@@ -89,7 +89,7 @@ module _ (rows : ℕ → Row) (w : Row) where
 
 -- ---- the tables
 
-pub linked-none : (rows : ℕ → Row) (next heads : List ℕ) → ((h : ℕ) → h < 4096 → getD heads h 0 ≡ 0) → Linked rows next heads 0
+pub linked-none : (rows : ℕ → Row) (next heads : List ℕ) → ((h : ℕ) → h < 1024 → getD heads h 0 ≡ 0) → Linked rows next heads 0
 linked-none rows next heads z =
     record {
       first = λ w.

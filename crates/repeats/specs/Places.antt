@@ -8,9 +8,9 @@ use Rattle.stab.specs.Check.{standsBefore}
 use Rattle.signed.specs.Numbers.{rankOf}
 use Rattle.formula.specs.Spread.{spreadOf}
 
--- where rows with the columns of w are looked for: 4,096 places, so that few of 1,024 rows share one
+-- where rows with the columns of w are looked for: 1,024 places, as many as a record can have rows, in a table that is soon cleared
 unfoldable pub placeOf : Row → ℕ
-placeOf w = spreadOf (rankOf (w .kind)) (rankOf (w .a)) (rankOf (w .b)) (rankOf (w .c)) / 262144
+placeOf w = spreadOf (rankOf (w .kind)) (rankOf (w .a)) (rankOf (w .b)) (rankOf (w .c)) / 1048576
 
 -- a row with the columns of w stands below m just if one stands below v, and the last row below v has the place of w
 pub record Leads (rows : ℕ → Row) (w : Row) (m v : ℕ) : Type 0 where

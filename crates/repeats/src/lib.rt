@@ -26,7 +26,7 @@ fn step(
     next: &mut [u16],
     heads: &mut [u16],
 ) -> bool
-    requires { ⌜ (r < 1024) × (r < length (now next)) × (4096 ≤ length (now heads)) ⌝ }
+    requires { ⌜ (r < 1024) × (r < length (now next)) × (1024 ≤ length (now heads)) ⌝ }
     requires { ⌜ Linked (formulaRows (now schema) s (now proof)) (now next) (now heads) r ⌝ }
     ensures { λ v. ⌜ v ≡ repeated (formulaRows (now (schema .entry)) s (now (proof .entry))) from r ⌝ }
     ensures { λ v. ⌜ (v ≡ false → Linked (formulaRows (now (schema .entry)) s (now (proof .entry))) (now (next .exit)) (now (heads .exit)) (r + 1)) ⌝ }
@@ -51,8 +51,8 @@ fn first_repeat(
     next: &mut [u16],
     heads: &mut [u16],
 ) -> Finding
-    requires { ⌜ (n ≤ 1024) × (n ≤ length (now next)) × (4096 ≤ length (now heads)) ⌝ }
-    requires { ⌜ ((h : ℕ) → h < 4096 → getD (now heads) h 0 ≡ 0) ⌝ }
+    requires { ⌜ (n ≤ 1024) × (n ≤ length (now next)) × (1024 ≤ length (now heads)) ⌝ }
+    requires { ⌜ ((h : ℕ) → h < 1024 → getD (now heads) h 0 ≡ 0) ⌝ }
     ensures { λ r. ⌜ r ≡ scan (repeatRefusal (formulaRows (now (schema .entry)) s (now (proof .entry))) from) n ⌝ }
 {
     let mut r: usize = 0;
@@ -77,6 +77,6 @@ pub fn repeats(schema: &[i32], s: usize, proof: &[i32], from: usize, n: usize) -
         return Finding::Nothing;
     }
     let mut next = [0u16; 1024];
-    let mut heads = [0u16; 4096];
+    let mut heads = [0u16; 1024];
     first_repeat(schema, s, proof, from, n, &mut next, &mut heads)
 }

@@ -16,7 +16,7 @@ ghost use Rattle.repeats.specs.Places.{placeOf, Linked};
 pub fn place(w: Cells) -> usize
     ensures { λ v. ⌜ v ≡ placeOf (rowOf w) ⌝ }
 {
-    spread(rank(w.kind), rank(w.a), rank(w.b), rank(w.c)) / 262144
+    spread(rank(w.kind), rank(w.a), rank(w.b), rank(w.c)) / 1048576
 }
 
 // A row with the columns of row r, whose place is h, stands before it.

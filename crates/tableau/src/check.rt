@@ -110,7 +110,7 @@ fn classify(schema: &[i32], s: usize, proof: &[i32], n: usize, forms: &mut [u32]
     requires { ⌜ AllFormed (formulaRows (now schema) s (now proof)) n ⌝ }
     ensures { λ _. ⌜ AllClassed (formulaRows (now (schema .entry)) s (now (proof .entry))) (now (forms .exit)) n ⌝ }
 {
-    let mut heads = [0u16; 2048];
+    let mut heads = [0u16; 512];
     classes::work_out(schema, s, proof, n, forms, sides, &mut heads);
 }
 

@@ -37,7 +37,7 @@ slice-aggregate-schema-rows-2 c = search needs
 schema-rows-requires : tie.Need-schema-rows-requires
 schema-rows-requires c κs =
     let b = c .before .before .before .before in
-    ((omega (arith, b .pre .0 .0), omega (arith, b .pre .0 .0), omega arith), λ h l. getD-replicate 4096 h 0 0 l)
+    ((omega (arith, b .pre .0 .0), omega (arith, b .pre .0 .0), omega arith), λ h l. getD-replicate 1024 h 0 0 l)
 
 slice-aggregate-each : tie.Need-slice-aggregate-each
 slice-aggregate-each c = search needs

@@ -18,7 +18,7 @@ slice-aggregate-first-repeat-2 c = search needs
 
 first-repeat-requires : tie.Need-first-repeat-requires
 first-repeat-requires c κs =
-    ((omega arith, omega arith, omega arith), λ h l. getD-replicate 4096 h 0 0 l)
+    ((omega arith, omega arith, omega arith), λ h l. getD-replicate 1024 h 0 0 l)
 
 returns-2 : tie.Need-returns-2
 returns-2 c = search needs

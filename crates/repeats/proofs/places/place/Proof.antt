@@ -38,7 +38,7 @@ returns c =
     let ea : a .rank2 .result ≡ rankOf (w .a) = a .rank2 .ensures .0 ∙ ap rankOf (read-back (w .a) (g .1 .0 .1)) in
     let eb : b .rank3 .result ≡ rankOf (w .b) = b .rank3 .ensures .0 ∙ ap rankOf (read-back (w .b) (g .1 .1 .0 .1)) in
     let ec : d .rank4 .result ≡ rankOf (w .c) = d .rank4 .ensures .0 ∙ ap rankOf (read-back (w .c) (g .1 .1 .1 .0 .1)) in
-    ap (λ (n : ℕ). n / 262144) (c .spread .ensures .0 ∙ λ i. spreadOf (ek i) (ea i) (eb i) (ec i))
+    ap (λ (n : ℕ). n / 1048576) (c .spread .ensures .0 ∙ λ i. spreadOf (ek i) (ea i) (eb i) (ec i))
 
 pub place-spec : {M : Type 1} → statement M
 place-spec =

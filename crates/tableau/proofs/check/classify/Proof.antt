@@ -10,7 +10,7 @@ slice-aggregate-work-out c = search needs
 work-out-requires : tie.Need-work-out-requires
 work-out-requires c κs =
     let b = c .before .before .before .before .before in
-    ((b .pre .0 .0, b .pre .0 .1, b .pre .0 .2, omega arith), ((λ h l. getD-replicate 2048 h 0 0 l), b .pre .1))
+    ((b .pre .0 .0, b .pre .0 .1, b .pre .0 .2, omega arith), ((λ h l. getD-replicate 512 h 0 0 l), b .pre .1))
 
 same-length : tie.Need-same-length
 same-length c = search needs
