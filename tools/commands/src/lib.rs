@@ -61,6 +61,7 @@ pub fn commands() -> &'static [&'static Command] {
     &[
         &checks::CHECK,
         &checks::MODEL,
+        &checks::EXPLAIN,
         &catalogue::CATALOGUE,
         &catalogue::MERGE,
         &texts::FIND,

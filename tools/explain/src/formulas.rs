@@ -1,10 +1,10 @@
 //! Formula rows that are refused: 6 root or least, 7 an ill-formed row, 8 one too large or too deep, 27 one written twice.
 
-use crate::notation::{columns, index};
+use crate::notation::{columns, index, Voice};
 use crate::rows::{kind_name, range_of_rows, Facts, Rows, KINDS, MAX_DEPTH, MAX_OFFSET, MAX_SIZE, MAX_SYMBOL};
 use crate::why::Why;
 use zorambi::words::grouped;
-use zorambi::{Refusal, Refused};
+use zorambi::{Refusal, Refused, Row};
 
 pub const MAX_LEAST: i32 = 9999;
 
@@ -181,4 +181,30 @@ fn repeated(rows: &Rows, row: usize) -> Option<Why> {
 /// What a number has to be to be a row: `rows are 0 to 8`.
 pub fn no_row(rows: &Rows) -> String {
     range_of_rows(rows.len())
+}
+
+/// Why a table of 1 to 3 rows is not on the list of small ones.
+pub fn ill_small(table: &[Row]) -> Option<Why> {
+    let rows = Rows::new([(table.as_flattened(), table.len()), (&[], 0)], false, &Voice::default());
+    let mend =
+        "small tables have symbol 0, literal offsets -1 to 1, iterations from 0 with c 0 or 1, and an outer last row";
+    let told = |row: usize, what: String| Some(Why::new(format!("row {row} ({}): {what}", columns(&table[row])), mend));
+    for (row, &[kind, a, b, c]) in table.iter().enumerate() {
+        if let Some((what, _)) = ill_columns(&rows, row, table[row]).or_else(|| ill_parts(&rows, row, table[row])) {
+            return told(row, what);
+        }
+        match kind {
+            2 | 3 if a != 0 => return told(row, format!("the symbol is {a}; small tables have symbol 0 alone")),
+            2 | 3 if !(-1..=1).contains(&c) => {
+                return told(row, format!("the offset is {c}; in small tables it is -1 to 1"))
+            }
+            6 | 7 if b != 0 => return told(row, format!("it starts at {b}; in small tables iterations start at 0")),
+            6 | 7 if !(0..=1).contains(&c) => return told(row, format!("its c is {c}; in small tables it is 0 or 1")),
+            _ => {}
+        }
+    }
+    let last = table.len().checked_sub(1)?;
+    rows.facts(i32::try_from(last).ok()?)
+        .on_i
+        .then(|| told(last, "the last row is the root, and it is not outer".to_string()))?
 }

@@ -8,19 +8,31 @@ mod counts;
 mod fields;
 mod formulas;
 mod limits;
+mod models;
 mod notation;
+mod occurring;
 mod partners;
 mod rows;
 mod sets;
 mod tableau;
+mod texts;
+mod tools;
 mod why;
+mod writing;
 
 pub use notation::Voice;
 pub use tableau::Tables;
+pub use texts::Sort;
 pub use why::Why;
 
+use counts::Lent;
+use rows::Rows;
 use tableau::Tableau;
-use zorambi::{Refusal, Refused};
+use writing::Writing;
+use zorambi::files::Unread;
+use zorambi::{Record, Refusal, Refused, Row, Schema};
+use zorambi_show::rules::rule;
+use zorambi_show::Notation;
 
 /// Why the check, or the older check, refuses these tables.
 pub fn check(tables: &Tables, refused: Refused, voice: &Voice) -> Why {
@@ -60,4 +72,191 @@ fn of_tables(tables: &Tables, refused: Refused, voice: &Voice, growing: bool) ->
         Refusal::Children => fields::children(&tableau, node),
         _ => None,
     }
+}
+
+/// Why a text is refused in reading. `bytes` is how many it has, where more is known than was read; `unread` says why it could not be
+/// read, and counts as empty.
+pub fn text(sort: Sort, text: &[u8], bytes: Option<u64>, unread: Option<&Unread>, refused: Refused) -> Why {
+    texts::why(sort, text, bytes, unread, refused).unwrap_or_else(|| Why::unknown(refused))
+}
+
+/// Why a line that is given as a node row, while a tableau grows, is refused in reading; `None` if it is not.
+pub fn row(line: &[u8], number: usize, refused: Refused) -> Option<Why> {
+    texts::node_row(line, number, refused)
+}
+
+/// Why two texts are refused, the schema's first: a record's or, if the second is a model's, a model's. What they are is read and
+/// judged by the library again.
+pub fn texts(texts: [(Sort, &[u8], Option<u64>, Option<&Unread>); 2], refused: Refused, voice: &Voice) -> Why {
+    let [(sort, schema, bytes, unread), second] = texts;
+    let schema = match zorambi::read_schema(schema) {
+        Ok(read) => read,
+        Err(_) => return text(sort, schema, bytes, unread, refused),
+    };
+    let (sort, bytes, length, unread) = second;
+    if sort == Sort::Model {
+        return match zorambi::read_model(bytes) {
+            Err(_) => text(sort, bytes, length, unread, refused),
+            Ok(read) => model(&(&schema).into(), read.n, (read.pairs.as_flattened(), read.pairs.len()), refused, voice),
+        };
+    }
+    match zorambi::read_proof(bytes) {
+        Err(_) => text(sort, bytes, length, unread, refused),
+        Ok(proof) => check(&Tables::from(&Record { schema, proof }), refused, voice),
+    }
+}
+
+/// Why the tables that are lent for results are refused: their names, lengths and full sizes.
+pub fn lent(tables: &[(&str, usize, usize)], refused: Refused) -> Why {
+    texts::lent(tables).unwrap_or_else(|| Why::unknown(refused))
+}
+
+/// A schema's table with its count, as it is lent.
+#[derive(Clone, Copy, Debug)]
+pub struct SchemaTable<'a> {
+    pub rows: &'a [i32],
+    pub count: usize,
+    pub root: i32,
+    pub least: i32,
+}
+
+impl<'a> From<&'a Schema> for SchemaTable<'a> {
+    fn from(schema: &'a Schema) -> SchemaTable<'a> {
+        let Schema { root, least, rows } = schema;
+        SchemaTable { rows: rows.as_flattened(), count: rows.len(), root: *root, least: *least }
+    }
+}
+
+/// Why the model check refuses this n and these pairs, so many of them.
+pub fn model(schema: &SchemaTable, n: i32, pairs: (&[i32], usize), refused: Refused, voice: &Voice) -> Why {
+    let (table, count) = pairs;
+    let pairs = &table[..table.len().min(count.saturating_mul(2))];
+    let lent = [schema_lent(schema), Lent { name: "pair", length: table.len(), rows: count, width: 2 }];
+    let rows = Rows::new([(schema.rows, schema.count), (&[], 0)], false, voice);
+    let why = match refused.refusal {
+        Refusal::Pair => models::pair(pairs, refused.place),
+        Refusal::Width => models::width(schema.least, n),
+        Refusal::False => models::is_false(&rows, schema.root, n, pairs),
+        _ => of_schema(schema, &rows, &lent, refused),
+    };
+    why.unwrap_or_else(|| Why::unknown(refused))
+}
+
+/// Why no model is looked for at this n.
+pub fn find(schema: &SchemaTable, n: i32, refused: Refused, voice: &Voice) -> Why {
+    let rows = Rows::new([(schema.rows, schema.count), (&[], 0)], false, voice);
+    let why = match refused.refusal {
+        Refusal::Width => models::width(schema.least, n),
+        Refusal::Wires if asked_find(schema, n) == Err(refused) => models::wires(&rows, schema.root, n),
+        _ => of_schema(schema, &rows, &[schema_lent(schema)], refused),
+    };
+    why.unwrap_or_else(|| Why::unknown(refused))
+}
+
+fn asked_find(schema: &SchemaTable, n: i32) -> Result<(), Refused> {
+    zorambi::find_model(&schema.read(), n).map(drop)
+}
+
+/// Why a wide schema is not converted.
+pub fn convert(wide: &SchemaTable, refused: Refused, voice: &Voice) -> Why {
+    let rows = Rows::new([(wide.rows, wide.count), (&[], 0)], true, voice);
+    let why = match refused.refusal {
+        Refusal::Plain => zorambi::convert(&wide.read())
+            .is_err_and(|asked| asked == refused)
+            .then(|| tools::plain(&wide.read()))
+            .flatten(),
+        _ => of_schema(wide, &rows, &[schema_lent(wide)], refused),
+    };
+    why.unwrap_or_else(|| Why::unknown(refused))
+}
+
+impl SchemaTable<'_> {
+    /// The rows that are there.
+    fn read(&self) -> Schema {
+        let rows = self.rows.as_chunks().0.iter().take(self.count).copied().collect();
+        Schema { root: self.root, least: self.least, rows }
+    }
+}
+
+fn schema_lent(schema: &SchemaTable) -> Lent {
+    Lent { name: "schema", length: schema.rows.len(), rows: schema.count, width: 4 }
+}
+
+/// What a pass over a schema's rows refuses.
+fn of_schema(schema: &SchemaTable, rows: &Rows, lent: &[Lent], refused: Refused) -> Option<Why> {
+    match refused.refusal {
+        Refusal::TableTooShort => counts::too_short(lent),
+        Refusal::TooMany => counts::too_many(schema.count, 0, lent),
+        _ => formulas::why(rows, schema.root, schema.least, refused),
+    }
+}
+
+/// Why two records that the check accepts are not joined.
+pub fn join(first: &Record, second: &Record, refused: Refused) -> Why {
+    let asked = || zorambi::join(first, second).is_err_and(|asked| asked == refused);
+    let why = match refused.refusal {
+        Refusal::Leasts => tools::leasts(first, second),
+        Refusal::Joint if asked() => tools::joint(first, second),
+        _ => None,
+    };
+    why.unwrap_or_else(|| Why::unknown(refused))
+}
+
+/// Why a row with so many members, or a word, is refused while a tableau grows that holds this record: 24, 25, 26.
+pub fn grow(held: &Record, members: usize, refused: Refused) -> Why {
+    let why = match refused.refusal {
+        Refusal::Room => tools::room(held, members),
+        Refusal::NoRow => Some(tools::no_row()),
+        Refusal::Waiting => Some(tools::no_waiting()),
+        _ => None,
+    };
+    why.unwrap_or_else(|| Why::unknown(refused))
+}
+
+/// Why there is no small table after this one.
+pub fn small(table: &[Row], refused: Refused) -> Why {
+    tools::small(table).unwrap_or_else(|| Why::unknown(refused))
+}
+
+/// Why there are no small tables of so many rows.
+pub fn small_rows(rows: usize) -> Why {
+    tools::small_rows(rows)
+}
+
+/// Why a schema is not written into an output of this length.
+pub fn write_schema(schema: &SchemaTable, room: usize, refused: Refused) -> Why {
+    let first = [schema.root, schema.least];
+    let rows = ("schema", schema.rows, schema.count, 4);
+    let writing = Writing { first: &first, rows, nodes: None, headings: SCHEMA_HEADINGS, room };
+    writing::why(&writing, refused).unwrap_or_else(|| Why::unknown(refused))
+}
+
+/// Why the proof of these tables is not written.
+pub fn write_proof(tables: &Tables, room: usize, refused: Refused) -> Why {
+    let rows = ("proof", tables.proof, tables.proof_rows, 4);
+    let nodes = Some([(tables.nodes, tables.node_rows), (tables.members, tables.member_count)]);
+    let writing = Writing { first: &[], rows, nodes, headings: PROOF_HEADINGS, room };
+    writing::why(&writing, refused).unwrap_or_else(|| Why::unknown(refused))
+}
+
+/// Why a model is not written.
+pub fn write_model(n: i32, (pairs, count): (&[i32], usize), room: usize, refused: Refused) -> Why {
+    let rows = ("pair", pairs, count, 2);
+    let writing = Writing { first: &[n], rows, nodes: None, headings: MODEL_HEADINGS, room };
+    writing::why(&writing, refused).unwrap_or_else(|| Why::unknown(refused))
+}
+
+/// The bytes of the headings of each text.
+const SCHEMA_HEADINGS: usize = "root least\nkind a b c\n".len();
+const PROOF_HEADINGS: usize = "kind a b c\nup rule on with other to by set\n".len();
+const MODEL_HEADINGS: usize = "n\nsymbol index\n".len();
+
+/// A node as `show` has it: what it knows of n, and what its rule says; `None` if the refusal is of no node.
+pub fn node(tables: &Tables, refused: Refused, voice: &Voice) -> Option<String> {
+    let tableau = Tableau::new(tables, voice);
+    let node = tableau.node_at(refused.place).filter(|_| tableau::is_of_node(refused.refusal))?;
+    let row = tables.nodes.as_chunks().0.get(node)?;
+    let notation = Notation::new(tableau.rows.all(), &voice.names, voice.style);
+    let bound = tableau.bound(node);
+    Some(format!("node {node} knows {} and says: {}", tableau.knows(bound), rule(row, Some(bound), &notation)))
 }

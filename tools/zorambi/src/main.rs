@@ -5,6 +5,7 @@
 mod check;
 mod convert;
 mod end;
+mod explain;
 mod find;
 mod grow;
 mod join;
@@ -39,6 +40,7 @@ fn run(command: &Command, given: &Given) -> u8 {
         "model" => check::model,
         "catalogue" => return zorambi_catalogue::run(given),
         "merge" => return zorambi_catalogue::merge(given),
+        "explain" => explain::explain,
         "find" => find::find,
         "convert" => convert::convert,
         "small" => small::small,
