@@ -61,3 +61,80 @@ fn covered(mut ranges: Vec<[i64; 2]>) -> u64 {
     }
     count
 }
+
+#[cfg(test)]
+mod tests {
+    use super::occurring;
+    use zorambi::{find_model, Refusal, Row, Schema};
+
+    fn of(schema: &Schema, n: i32) -> u64 {
+        occurring(&schema.rows, schema.root, n)
+    }
+
+    /// The paper's schema with this root.
+    fn paper(root: i32) -> Schema {
+        Schema { root, least: 1, rows: vec![[2, 0, 2, 0], [3, 0, 2, 0], [7, 0, 2, 0], [6, 1, 2, 0], [4, 2, 3, 0]] }
+    }
+
+    /// Numbers that follow from a seed.
+    struct Numbers(u64);
+
+    impl Numbers {
+        fn below(&mut self, limit: i32) -> i32 {
+            self.0 = self.0.wrapping_mul(6_364_136_223_846_793_005).wrapping_add(1_442_695_040_888_963_407);
+            (self.0 >> 33) as i32 % limit
+        }
+    }
+
+    #[test]
+    fn pairs_that_occur() {
+        // Some p_i for i from 2 to n.
+        for (n, count) in [(1, 0), (2, 1), (3, 2), (17, 16), (18, 17), (9999, 9998)] {
+            assert_eq!(of(&paper(2), n), count, "{n}");
+        }
+        // Both iterations name the same pairs; so do two literals that meet: p_(i + 1) from 1 to n and p_(n + 1), p_5.
+        assert_eq!(of(&paper(4), 18), 17);
+        let rows = vec![
+            [2, 0, 2, 1],
+            [6, 0, 1, 0],
+            [2, 0, 1, 1],
+            [2, 0, 0, 5],
+            [3, 1, 0, 5],
+            [5, 1, 2, 0],
+            [5, 3, 4, 0],
+            [4, 5, 6, 0],
+        ];
+        let schema = Schema { root: 7, least: 0, rows };
+        for (n, count) in [(0, 1 + 2), (1, 1 + 2), (3, 3 + 2), (4, 4 + 1), (10, 10 + 1)] {
+            assert_eq!(of(&schema, n), count, "{n}");
+        }
+    }
+
+    /// A well-formed schema of these many rows over literals, some of them on i.
+    fn any_schema(numbers: &mut Numbers) -> Schema {
+        let mut rows: Vec<Row> = vec![[2, 0, 2, numbers.below(5) - 2], [3, 1, 2, numbers.below(5) - 2], [4, 0, 1, 0]];
+        for _ in 0..2 {
+            rows.push([6 + numbers.below(2), numbers.below(3), numbers.below(6) - 2, numbers.below(4) - 1]);
+        }
+        rows.push([2, numbers.below(2), 1, numbers.below(9) - 4]);
+        rows.push([3, numbers.below(2), 0, numbers.below(12)]);
+        for next in 7..10 {
+            rows.push([4 + numbers.below(2), 3 + numbers.below(next - 3), 3 + numbers.below(next - 3), 0]);
+        }
+        Schema { root: 9, least: 0, rows }
+    }
+
+    #[test]
+    fn more_than_16_pairs_exactly_where_the_library_says_so() {
+        let mut numbers = Numbers(1);
+        let mut turned_away = 0;
+        for _ in 0..3000 {
+            let schema = any_schema(&mut numbers);
+            let n = numbers.below(14);
+            let many = find_model(&schema, n).is_err_and(|refused| refused.refusal == Refusal::Wires);
+            assert_eq!(of(&schema, n) > 16, many, "{schema:?} {n}");
+            turned_away += usize::from(many);
+        }
+        assert!((200..2800).contains(&turned_away), "{turned_away}");
+    }
+}

@@ -108,7 +108,9 @@ impl<'a> Lines<'a> {
 pub fn why(sort: Sort, text: &[u8], bytes: Option<u64>, unread: Option<&Unread>, refused: Refused) -> Option<Why> {
     let file = sort.file();
     if let Some(unread) = unread {
-        return Some(Why::new(format!("{file} {unread}; it counts as empty"), mend_unread(file, unread)));
+        let first = sort.start().0;
+        let line = format!("{file} {unread}; it counts as empty, and its first line has to be '{first}'");
+        return Some(Why::new(line, mend_unread(file, unread)));
     }
     match refused.refusal {
         Refusal::TextTooLong => too_long(file, text, bytes),
@@ -166,7 +168,7 @@ fn too_long(file: &str, text: &[u8], bytes: Option<u64>) -> Option<Why> {
             let over = bytes.checked_sub(most).filter(|over| *over > 0)?;
             format!("{file} has {} bytes, {} allowed: {} too many", grouped(bytes), grouped(most), grouped(over))
         }
-        None if text.len() > MAX_TEXT => format!("{file} has over {} bytes, which is what is allowed", grouped(most)),
+        None if text.len() > MAX_TEXT => format!("{file} has more than the {} bytes that are allowed", grouped(most)),
         None => return None,
     };
     Some(Why::new(
