@@ -115,14 +115,14 @@ fn ill_parts(rows: &Rows, row: usize, [kind, a, ..]: [i32; 4]) -> Option<(String
     let row = i32::try_from(row).ok()?;
     if matches!(kind, 6 | 7) {
         let stray = rows.first(a, |facts| facts.not_on_i)?;
+        let body = rows.text(a);
         let what = match rows.get(stray)? {
-            [6 | 7, ..] => format!("its body, {}, holds an iteration, {}", rows.text(a), rows.text(stray)),
-            [_, _, b, c] => format!(
-                "its body, {}, holds {}, whose index {} is not on i",
-                rows.text(a),
-                rows.text(stray),
-                index(b, c)
-            ),
+            [6 | 7, ..] if stray == a => format!("its body, {body}, is an iteration itself"),
+            [6 | 7, ..] => format!("its body, {body}, holds an iteration, {}", rows.text(stray)),
+            [_, _, b, c] if stray == a => format!("its body, {body}, has the index {}, which is not on i", index(b, c)),
+            [_, _, b, c] => {
+                format!("its body, {body}, holds {}, whose index {} is not on i", rows.text(stray), index(b, c))
+            }
         };
         return Some((what, "a body holds literals on i alone (b = 2), and no iteration".to_string()));
     }

@@ -106,7 +106,7 @@ pub fn parent(tableau: &Tableau, place: Option<usize>) -> Option<Why> {
     };
     let up = tableau.nodes[node].up;
     if node > 0 {
-        let before = if node == 1 { "node 0".to_string() } else { format!("a node from 0 to {}", node - 1) };
+        let before = if node == 1 { "0".to_string() } else { format!("0 to {}", node - 1) };
         return tableau.parent(node).is_none().then(|| {
             let line = format!("node {node}: up is {up}; a parent is a node before it, {before}");
             Why::new(line, "number the nodes so that each comes after its parent; only node 0 has none (-1)")

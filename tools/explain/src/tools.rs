@@ -54,15 +54,12 @@ pub fn room(held: &Record, set: usize) -> Option<Why> {
 
 /// 25: nothing to take back.
 pub fn no_row() -> Why {
-    Why::new(
-        "no node row is held, so there is none to take back",
-        "add a row first: '-1 RULE ..' with the root as its set",
-    )
+    Why::new("no node is held", "add a row first: '-1 RULE ..' with the root as its set")
 }
 
 /// 26: nothing to commit.
 pub fn no_waiting() -> Why {
-    let line = "no row waits: none was asked about, or the answer was no, or a row was added or taken back since";
+    let line = "none was asked about, or the answer was no, or a row was added or taken back since";
     Why::new(line, "ask with '? ROW' first; after a yes commit adds that row")
 }
 

@@ -78,8 +78,8 @@ fn two_texts(folder: &Path, what: &What, voice: &Voice) -> Ended {
         (sort, &text.bytes[..], length(folder, sort, text), text.unread.as_ref())
     });
     let why = zorambi_explain::texts(given, refused, voice);
-    let at_fault =
-        fault.map(|(text, number)| if text == Text::Schema { (sorts[0], number) } else { (sorts[1], number) });
+    let at_fault = fault.map(|(text, number)| (usize::from(text != Text::Schema), number));
+    let at_fault = at_fault.filter(|(at, _)| texts[*at].unread.is_none()).map(|(at, number)| (sorts[at], number));
     let node = record(schema, second).and_then(|record| zorambi_explain::node(&Tables::from(&record), refused, voice));
     let shown = |sort: Sort, number: usize| {
         let text = if sort == sorts[0] { schema } else { second };
