@@ -9,7 +9,7 @@ use zorambi::{
     check, check_fault, check_older, check_older_fault, hex, line, read_proof, read_schema, sha256, shown, tidy,
     Record, Refused, Text, Verdict, MAX_TEXT,
 };
-use zorambi_explain::{Sort as TextSort, Tables, Voice};
+use zorambi_explain::{Sort as TextSort, Tables, Text as TextRead, Voice};
 
 pub const SCHEMA: &str = "schema.txt";
 pub const PROOF: &str = "proof.txt";
@@ -127,7 +127,7 @@ impl<'a> Judged<'a> {
 
     /// A text refused in reading: its place is a line, from 1 on.
     fn in_reading(refused: Refused, sort: TextSort, text: &'a Loaded) -> Judged<'a> {
-        let why = zorambi_explain::text(sort, &text.bytes, None, text.unread.as_ref(), refused);
+        let why = zorambi_explain::text(&TextRead::new(sort, text), refused);
         let number = refused.place.filter(|place| *place > 0 && text.unread.is_none());
         Judged {
             file: Some(sort.file()),

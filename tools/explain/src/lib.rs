@@ -22,15 +22,14 @@ mod writing;
 
 pub use notation::Voice;
 pub use tableau::Tables;
-pub use texts::Sort;
+pub use texts::{Sort, Text};
 pub use why::Why;
 
 use counts::Lent;
 use rows::Rows;
 use tableau::Tableau;
 use writing::Writing;
-use zorambi::files::Unread;
-use zorambi::{Record, Refusal, Refused, Row, Schema};
+use zorambi::{Model, Record, Refusal, Refused, Row, Schema};
 use zorambi_show::rules::rule;
 use zorambi_show::Notation;
 
@@ -74,10 +73,9 @@ fn of_tables(tables: &Tables, refused: Refused, voice: &Voice, growing: bool) ->
     }
 }
 
-/// Why a text is refused in reading. `bytes` is how many it has, where more is known than was read; `unread` says why it could not be
-/// read, and counts as empty.
-pub fn text(sort: Sort, text: &[u8], bytes: Option<u64>, unread: Option<&Unread>, refused: Refused) -> Why {
-    texts::why(sort, text, bytes, unread, refused).unwrap_or_else(|| Why::unknown(refused))
+/// Why a text is refused in reading.
+pub fn text(text: &Text, refused: Refused) -> Why {
+    texts::why(text, refused).unwrap_or_else(|| Why::unknown(refused))
 }
 
 /// Why a line that is given as a node row, while a tableau grows, is refused in reading; `None` if it is not.
@@ -87,22 +85,17 @@ pub fn row(line: &[u8], number: usize, refused: Refused) -> Option<Why> {
 
 /// Why two texts are refused, the schema's first: a record's or, if the second is a model's, a model's. What they are is read and
 /// judged by the library again.
-pub fn texts(texts: [(Sort, &[u8], Option<u64>, Option<&Unread>); 2], refused: Refused, voice: &Voice) -> Why {
-    let [(sort, schema, bytes, unread), second] = texts;
-    let schema = match zorambi::read_schema(schema) {
-        Ok(read) => read,
-        Err(_) => return text(sort, schema, bytes, unread, refused),
-    };
-    let (sort, bytes, length, unread) = second;
-    if sort == Sort::Model {
-        return match zorambi::read_model(bytes) {
-            Err(_) => text(sort, bytes, length, unread, refused),
-            Ok(read) => model(&(&schema).into(), read.n, (read.pairs.as_flattened(), read.pairs.len()), refused, voice),
+pub fn texts([schema, second]: [Text; 2], refused: Refused, voice: &Voice) -> Why {
+    let Ok(read) = zorambi::read_schema(schema.bytes) else { return text(&schema, refused) };
+    if second.sort == Sort::Model {
+        return match zorambi::read_model(second.bytes) {
+            Err(_) => text(&second, refused),
+            Ok(Model { n, pairs }) => model(&(&read).into(), n, (pairs.as_flattened(), pairs.len()), refused, voice),
         };
     }
-    match zorambi::read_proof(bytes) {
-        Err(_) => text(sort, bytes, length, unread, refused),
-        Ok(proof) => check(&Tables::from(&Record { schema, proof }), refused, voice),
+    match zorambi::read_proof(second.bytes) {
+        Err(_) => text(&second, refused),
+        Ok(proof) => check(&Tables::from(&Record { schema: read, proof }), refused, voice),
     }
 }
 

@@ -4,7 +4,7 @@ use crate::counts::{result_too_short, MAX_PAIRS};
 use crate::rows::MAX_ROWS;
 use crate::tableau::{MAX_MEMBERS, MAX_NODES};
 use crate::why::Why;
-use zorambi::files::Unread;
+use zorambi::files::{Loaded, Unread};
 use zorambi::words::{counted, grouped};
 use zorambi::{shown, Refusal, Refused, MAX_TEXT};
 
@@ -35,6 +35,23 @@ impl Sort {
             Sort::Proof => ("kind a b c", None, "up rule on with other to by set"),
             Sort::Model => ("n", Some(WIDTH), "symbol index"),
         }
+    }
+}
+
+/// A text as it was read.
+#[derive(Clone, Copy, Debug)]
+pub struct Text<'a> {
+    pub sort: Sort,
+    pub bytes: &'a [u8],
+    /// How many bytes it has, where more is known than was read.
+    pub length: Option<u64>,
+    /// Why it could not be read, and counts as empty.
+    pub unread: Option<&'a Unread>,
+}
+
+impl<'a> Text<'a> {
+    pub fn new(sort: Sort, loaded: &'a Loaded) -> Text<'a> {
+        Text { sort, bytes: &loaded.bytes, length: None, unread: loaded.unread.as_ref() }
     }
 }
 
@@ -104,8 +121,9 @@ impl<'a> Lines<'a> {
     }
 }
 
-/// Why a text is refused in reading. `bytes` is how many it has, where that is known.
-pub fn why(sort: Sort, text: &[u8], bytes: Option<u64>, unread: Option<&Unread>, refused: Refused) -> Option<Why> {
+/// Why a text is refused in reading.
+pub fn why(given: &Text, refused: Refused) -> Option<Why> {
+    let Text { sort, bytes: text, length, unread } = *given;
     let file = sort.file();
     if let Some(unread) = unread {
         let first = sort.start().0;
@@ -113,7 +131,7 @@ pub fn why(sort: Sort, text: &[u8], bytes: Option<u64>, unread: Option<&Unread>,
         return Some(Why::new(line, mend_unread(file, unread)));
     }
     match refused.refusal {
-        Refusal::TextTooLong => too_long(file, text, bytes),
+        Refusal::TextTooLong => too_long(file, text, length),
         Refusal::Heading | Refusal::Line | Refusal::TooMany => {
             let lines = Lines::of(text);
             let line = lines.line(refused.place?);
@@ -160,8 +178,8 @@ fn mend_unread(file: &str, unread: &Unread) -> String {
     }
 }
 
-fn too_long(file: &str, text: &[u8], bytes: Option<u64>) -> Option<Why> {
-    let known = bytes.or((text.len() > MAX_TEXT + 1).then_some(text.len() as u64));
+fn too_long(file: &str, text: &[u8], length: Option<u64>) -> Option<Why> {
+    let known = length.or((text.len() > MAX_TEXT + 1).then_some(text.len() as u64));
     let most = MAX_TEXT as u64;
     let line = match known {
         Some(bytes) => {

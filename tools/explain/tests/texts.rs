@@ -9,7 +9,7 @@ use zorambi::{
     convert, entries, find_model, join, next_small, read_model, read_proof, read_schema, write_proof, write_schema,
     Growing, Proof, Record, Refused, Row, Schema,
 };
-use zorambi_explain::{SchemaTable, Sort, Tables, Voice};
+use zorambi_explain::{SchemaTable, Sort, Tables, Text, Voice};
 use zorambi_generate::texts::damage_text;
 use zorambi_generate::Rng;
 use zorambi_reference::find::occurring;
@@ -97,7 +97,7 @@ fn every_refusal_in_reading_has_a_reason() {
                 _ => text = too_much(sort, &mut rng),
             }
             let Some(refused) = read(sort, &text) else { continue };
-            let why = zorambi_explain::text(sort, &text, None, None, refused);
+            let why = zorambi_explain::text(&Text { sort, bytes: &text, length: None, unread: None }, refused);
             count.take(refused, &why);
             // A line without what stands at its column and after it has one fault less, or is refused before.
             if let Some((line, column)) = place_of(&why.line) {

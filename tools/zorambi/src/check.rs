@@ -8,7 +8,7 @@ use zorambi::files::{enter, load, Loaded};
 use zorambi::words::Known;
 use zorambi::{json_string, shown, shown_name, Refused, Verdict, MAX_TEXT};
 use zorambi_commands::Given;
-use zorambi_explain::{Sort, Voice, Why};
+use zorambi_explain::{Sort, Text, Voice, Why};
 
 pub fn check(given: &Given) -> Result<Ended, Stop> {
     if given.has("--older") {
@@ -77,8 +77,7 @@ impl Judged {
     fn why(&self, refused: Refused) -> Why {
         let second = if self.files[1] == "model.txt" { Sort::Model } else { Sort::Proof };
         let [schema, other] = &self.texts;
-        let texts = [(Sort::Schema, schema), (second, other)];
-        let texts = texts.map(|(sort, text)| (sort, &text.bytes[..], None, text.unread.as_ref()));
+        let texts = [Text::new(Sort::Schema, schema), Text::new(second, other)];
         zorambi_explain::texts(texts, refused, &Voice::default())
     }
 

@@ -11,7 +11,7 @@ use zorambi::{
     Record, Refused, Text, Verdict, MAX_TEXT,
 };
 use zorambi_commands::Given;
-use zorambi_explain::{Sort, Tables, Voice, Why};
+use zorambi_explain::{Sort, Tables, Text as TextRead, Voice, Why};
 use zorambi_show::{Names, Style};
 
 pub fn explain(given: &Given) -> Result<Ended, Stop> {
@@ -56,10 +56,11 @@ impl What {
     }
 }
 
-/// How many bytes a text has, where it was not read to its end.
-fn length(folder: &Path, sort: Sort, text: &Loaded) -> Option<u64> {
+/// A text, and how many bytes it has where it was not read to its end.
+fn read<'a>(folder: &Path, sort: Sort, text: &'a Loaded) -> TextRead<'a> {
     let is_long = text.unread.is_none() && text.bytes.len() > MAX_TEXT;
-    is_long.then(|| fs::metadata(folder.join(sort.file())).ok()).flatten().map(|file| file.len())
+    let file = is_long.then(|| fs::metadata(folder.join(sort.file())).ok()).flatten();
+    TextRead { length: file.map(|file| file.len()), ..TextRead::new(sort, text) }
 }
 
 fn two_texts(folder: &Path, what: &What, voice: &Voice) -> Ended {
@@ -73,10 +74,7 @@ fn two_texts(folder: &Path, what: &What, voice: &Voice) -> Ended {
     };
     let Verdict::Refused { refusal, place } = verdict else { return accepted(&verdict.to_string()) };
     let refused = Refused { refusal, place };
-    let given = [0, 1].map(|at| {
-        let (sort, text) = (sorts[at], &texts[at]);
-        (sort, &text.bytes[..], length(folder, sort, text), text.unread.as_ref())
-    });
+    let given = [0, 1].map(|at| read(folder, sorts[at], &texts[at]));
     let why = zorambi_explain::texts(given, refused, voice);
     let at_fault = fault.map(|(text, number)| (usize::from(text != Text::Schema), number));
     let at_fault = at_fault.filter(|(at, _)| texts[*at].unread.is_none()).map(|(at, number)| (sorts[at], number));
@@ -107,8 +105,7 @@ fn wide(folder: &Path, what: &What, voice: &Voice) -> Ended {
     let schema = match read_schema(&text.bytes) {
         Ok(schema) => schema,
         Err(refused) => {
-            let length = length(folder, Sort::Wide, &text);
-            let why = zorambi_explain::text(Sort::Wide, &text.bytes, length, text.unread.as_ref(), refused);
+            let why = zorambi_explain::text(&read(folder, Sort::Wide, &text), refused);
             let number = refused.place.filter(|place| *place > 0 && text.unread.is_none());
             return told(refused, &why, number.map(shown), None, |_, number| shown(number));
         }

@@ -71,8 +71,7 @@ impl Text {
 
     /// A refusal in reading, whose place is a line from 1 on, or 0.
     fn unread(&self, refused: Refused) -> Stop {
-        let Loaded { bytes, unread } = &self.text;
-        let why = zorambi_explain::text(self.sort, bytes, None, unread.as_ref(), refused);
+        let why = zorambi_explain::text(&zorambi_explain::Text::new(self.sort, &self.text), refused);
         self.refused(refused, refused.place.unwrap_or(0), Some(why))
     }
 
