@@ -165,7 +165,8 @@ impl<'a> Judged<'a> {
                 words += &format!(": {}", self.text());
             }
         }
-        if let Some(why) = &self.why {
+        // What could not be read is told by then.
+        if let Some(why) = self.why.as_ref().filter(|_| self.file.is_none() || self.line.is_some()) {
             words += &format!("; {why}");
         }
         if self.tidies {

@@ -120,7 +120,7 @@ fn place_of(line: &str) -> Option<(usize, usize)> {
 fn every_refusal_in_writing_has_a_reason() {
     let (mut count, mut rng) = (Count::default(), Rng::new(46));
     let proofs: Vec<Proof> = shipped(Sort::Proof).iter().filter_map(|text| read_proof(text).ok()).collect();
-    for _ in 0..12_000 {
+    for _ in 0..16_000 {
         let proof = &proofs[rng.below(proofs.len())];
         let mut tables =
             [proof.rows.as_flattened().to_vec(), proof.nodes.as_flattened().to_vec(), proof.members.clone()];
