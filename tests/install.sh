@@ -82,7 +82,7 @@ for command in $(zorambi help | sed -n '/^and /q; s/^  \([a-z]*\) .*/\1/p'); do
   done_commands="${done_commands-} $command"
 done
 check "the commands that are run here are all there are" \
-  [ "${done_commands-}" = " check model catalogue merge find convert small tidy join grow help" ]
+  [ "${done_commands-}" = " check model explain catalogue merge find convert small tidy join grow help" ]
 check "a page of the whole" grep -q '^.BR zorambi\\-catalogue (1)$' "$prefix/share/man/man1/zorambi.1"
 
 check "check" same "$(zorambi check accepted/rca_zero)" <(printf 'answer place nodes links\n0 0 65 3\n')
@@ -90,9 +90,11 @@ zorambi check refused/open_clash >"$scratch/out"
 check "check: refused" [ $? -eq 1 ]
 check "check: its line" grep -q '^proof.txt:6: 1 6 0 1 -1 -1 0 0 1$' "$scratch/err"
 check "check --older" same "$(zorambi check --older tidy/rows_twice)" <(printf 'answer place nodes links\n0 0 8 1\n')
-model=$(cd "$records" && dirname "$(find . -name model.txt | sort | head -n 1)")
+model=$(cd "$records" && dirname "$(find refused -name model.txt | sort | head -n 1)")
 zorambi model "$model" >"$scratch/out"
 check "model" [ $? -eq 0 ]
+zorambi explain refused/open_clash >"$scratch/out"
+check "explain" grep -q '^14: node 3 knows n >= 4: row 0 ' "$scratch/out"
 zorambi catalogue . --csv "$scratch/t.csv" --failed >"$scratch/out"
 check "catalogue" [ $? -eq 1 ]
 zorambi merge "$scratch/t.csv" --csv "$scratch/m.csv" >"$scratch/out"
