@@ -277,3 +277,29 @@ fn every_refusal_of_the_model_check_has_a_reason() {
     }
     count.end(&[2, 5, 6, 7, 18, 19, 20], 1000);
 }
+
+/// Whatever is asked of whatever tables, it ends and does not panic: also where the library gave no such refusal.
+#[test]
+fn any_refusal_of_any_tables() {
+    let mut rng = Rng::new(47);
+    for at in 0..4000 {
+        let made = damaged(&zorambi_generate::tables::random_tables(&mut rng), &mut rng);
+        let tables = tables_of(&made);
+        let refusal = zorambi::Refusal::ALL[at % zorambi::Refusal::ALL.len()];
+        let place = rng.pick(&[None, Some(0), Some(1), Some(3), Some(9), Some(8191)]);
+        let (refused, voice) = (Refused { refusal, place }, Voice::default());
+        let schema =
+            SchemaTable { rows: tables.schema, count: tables.schema_rows, root: tables.root, least: tables.least };
+        let n = rng.range(-3, 12);
+        for why in [
+            check(&tables, refused, &voice),
+            zorambi_explain::growing(&tables, refused, &voice),
+            model(&schema, n, (tables.members, tables.member_count), refused, &voice),
+            zorambi_explain::find(&schema, n, refused, &voice),
+            zorambi_explain::convert(&schema, refused, &voice),
+        ] {
+            assert!(!why.line.is_empty() && !why.mend.is_empty());
+        }
+        zorambi_explain::node(&tables, refused, &voice);
+    }
+}
