@@ -64,7 +64,6 @@
 //! # Ok::<(), zorambi::Refused>(())
 //! ```
 
-pub mod details;
 pub mod entries;
 pub mod files;
 mod identity;
