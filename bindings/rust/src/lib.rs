@@ -89,6 +89,10 @@ pub use verdict::{Refusal, Refused, Verdict};
 mod find;
 pub use find::find_model;
 
+// The pairs that occur at a width.
+mod occurring;
+pub use occurring::{occurring, occurring_ranges};
+
 // Connectives as designers write them.
 mod convert;
 pub use convert::convert;

@@ -10,7 +10,6 @@ mod formulas;
 mod limits;
 mod models;
 mod notation;
-mod occurring;
 mod partners;
 mod rows;
 mod sets;
@@ -30,8 +29,8 @@ use rows::Rows;
 use tableau::Tableau;
 use writing::Writing;
 use zorambi::{Model, Record, Refusal, Refused, Row, Schema};
-use zorambi_show::rules::rule;
-use zorambi_show::Notation;
+use zorambi_notation::rules::rule;
+use zorambi_notation::Notation;
 
 /// Why the check, or the older check, refuses these tables.
 pub fn check(tables: &Tables, refused: Refused, voice: &Voice) -> Why {
@@ -140,7 +139,7 @@ pub fn find(schema: &SchemaTable, n: i32, refused: Refused, voice: &Voice) -> Wh
     let rows = Rows::new([(schema.rows, schema.count), (&[], 0)], false, voice);
     let why = match refused.refusal {
         Refusal::Width => models::width(schema.least, n),
-        Refusal::Wires if asked_find(schema, n) == Err(refused) => models::wires(&rows, schema.root, n),
+        Refusal::Wires if asked_find(schema, n) == Err(refused) => models::wires(&schema.read(), n),
         _ => of_schema(schema, &rows, &[schema_lent(schema)], refused),
     };
     why.unwrap_or_else(|| Why::unknown(refused))

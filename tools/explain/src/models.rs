@@ -2,11 +2,11 @@
 //! pairs that occur.
 
 use crate::formulas::MAX_LEAST;
-use crate::occurring::occurring;
 use crate::rows::{Rows, MAX_SYMBOL};
 use crate::why::Why;
 use std::collections::HashMap;
 use zorambi::words::grouped;
+use zorambi::{occurring, Schema};
 
 /// The largest index of a pair, and the smallest with a minus.
 const MAX_INDEX: i32 = 29_997;
@@ -48,8 +48,9 @@ pub fn width(least: i32, n: i32) -> Option<Why> {
     })
 }
 
-pub fn wires(rows: &Rows, root: i32, n: i32) -> Option<Why> {
-    let count = occurring(rows.all(), root, n);
+/// The library has found the schema well formed.
+pub fn wires(schema: &Schema, n: i32) -> Option<Why> {
+    let count = occurring(schema, n);
     (count > MOST_OCCUR).then(|| {
         let line = format!("{} pairs occur at n = {n}, {MOST_OCCUR} allowed", grouped(count));
         Why::new(

@@ -1,8 +1,8 @@
 //! Formulas as an explanation writes them: on one line, in `show`'s notation.
 
 use zorambi::Row;
-use zorambi_show::notation::{index as index_text, last_i};
-use zorambi_show::{Names, Notation, Style};
+use zorambi_notation::notation::{index as index_text, last_i};
+use zorambi_notation::{Names, Notation, Style};
 
 /// Columns of a formula in a sentence; what finds no room stands under its row's number.
 const COLUMNS: usize = 72;

@@ -5,7 +5,7 @@ use crate::notation::Voice;
 use crate::rows::Rows;
 use zorambi::words::RULES;
 use zorambi::{Record, Refusal};
-use zorambi_show::Bound;
+use zorambi_notation::Bound;
 
 pub const MAX_NODES: usize = 1024;
 pub const MAX_MEMBERS: usize = 8192;

@@ -5,7 +5,7 @@ use crate::texts::{number, Text};
 use zorambi::words::Known;
 use zorambi::{find_model, json_string, shown_name, write_model, Model};
 use zorambi_commands::Given;
-use zorambi_explain::{Sort, Voice};
+use zorambi_explain::Sort;
 
 pub fn find(given: &Given) -> Result<Ended, Stop> {
     let n = number(&given.names[1])?;
@@ -33,10 +33,7 @@ pub fn find(given: &Given) -> Result<Ended, Stop> {
 
 fn found(text: &Text, n: i32) -> Result<Option<Model>, Stop> {
     let schema = text.schema()?;
-    find_model(&schema, n).map_err(|refused| {
-        let why = zorambi_explain::find(&(&schema).into(), n, refused, &Voice::default());
-        text.refused_row(refused, Some(why))
-    })
+    find_model(&schema, n).map_err(|refused| text.refused_at(&schema, n, refused))
 }
 
 /// The object of --json.

@@ -6,7 +6,7 @@ use std::path::Path;
 use zorambi::files::{enter, load, Loaded, Unread};
 use zorambi::words::Known;
 use zorambi::{read_proof, read_schema, shown_name, Proof, Record, Refused, Schema};
-use zorambi_explain::{Sort, Why};
+use zorambi_explain::{Sort, Voice, Why};
 
 /// The text and the line that a refusal of a schema text and a proof text points to.
 pub type Fault = fn(&[u8], &[u8]) -> Option<(zorambi::Text, usize)>;
@@ -79,6 +79,11 @@ impl Text {
     pub fn refused_row(&self, refused: Refused, why: Option<Why>) -> Stop {
         let at_row = refused.refusal.place_counts() == Some("row");
         self.refused(refused, refused.place.filter(|_| at_row).map_or(0, |row| 4 + row), why)
+    }
+
+    /// A refusal of the schema that it is read as, or of this n.
+    pub fn refused_at(&self, schema: &Schema, n: i32, refused: Refused) -> Stop {
+        self.refused_row(refused, Some(zorambi_explain::find(&schema.into(), n, refused, &Voice::default())))
     }
 
     /// A refusal of a node row that a proof with this many formula rows has, while a tableau grows: node j is line 3 + rows + j.
