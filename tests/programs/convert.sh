@@ -46,7 +46,7 @@ plain "not an exclusive or" "9 0" "2 0 1 0" "3 0 1 0" "2 1 1 0" "3 1 1 0" \
 root="refused: the root or the least value (6)"
 ill_formed="refused: an ill-formed formula (7) at row"
 too_large="refused: a formula too large or too deep (8) at row"
-plain_rows="refused: plain rows too many, too large or too deep:"
+plain_rows="refused: plain rows too many, too large or too deep"
 # Without OUT nothing is printed: the two lines are said. With OUT they are printed, and there is no OUT.
 away() { # NAME NUMBERS SAID
   gives "$1" 1 "" $'answer place nodes links\n'"$2"$'\n'"$3"$'\n' convert "$work/w"
@@ -90,11 +90,13 @@ wide "63 0" "${rows[@]:0:64}"
 plain "63 nots" "1 0" "2 0 1 0" "3 0 1 0"
 # Six equivalences in one another have a plain size of 8,191, five of 2,047.
 wide "6 0" "2 0 1 0" "10 0 0 0" "10 1 1 0" "10 2 2 0" "10 3 3 0" "10 4 4 0" "10 5 5 0"
-away "a plain row too large" "23 -1 0 0" "$plain_rows what row 6 comes to has size 8,191, at most 4,096 (23)"
+away "a plain row too large" "23 -1 0 0" "$plain_rows (23)
+23: wide row 6 comes to a plain row of size 8,191, 4,096 allowed"
 rows=("2 0 1 0")
 for k in $(seq 171); do rows+=("11 0 0 0"); done
 wide "0 0" "${rows[@]}"
-away "1,028 plain rows" "23 -1 0 0" "$plain_rows 1,028 plain rows, at most 1,024 (23)"
+away "1,028 plain rows" "23 -1 0 0" "$plain_rows (23)
+23: its 172 wide rows come to 1,028 plain rows, 1,024 allowed"
 
 # Texts that are none.
 printf 'root least\n0 0\nkind a b c\n2 0 1 0\n8 0 0\n' >"$work/w/wide.txt"

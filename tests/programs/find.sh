@@ -22,11 +22,17 @@ finds_none() { # NAME N
   gives "$1" 0 $'none\n' "" find "$work/f" "$2"
 }
 width() { # N
-  echo "refused: n out of range: $1 is not 1 to 9999 (19)"
+  echo "refused: n out of range (19)"
+  if [ "$1" -lt 1 ]; then
+    echo "19: n is $1, below the schema's least value, 1"
+  else
+    echo "19: n is $1, over 9999: $(($1 - 9999)) too large"
+  fi
 }
 wires() { # PAIRS N
-  echo "refused: more than 16 pairs that occur at that n: $1 occur at n = $2 (30)"
-  echo "'zorambi widths' has no such limit: it asks a SAT solver, and checks a model that this finds"
+  echo "refused: more than 16 pairs that occur at that n (30)
+30: $1 pairs occur at n = $2, 16 allowed
+'zorambi widths' has no such limit: it asks a SAT solver, and checks a model that this finds"
 }
 
 # Root 2: some p_i for i from 2 to n. Pairs 0 2 to 0 n occur, the last is the least significant.

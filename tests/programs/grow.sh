@@ -394,14 +394,14 @@ for line in "" "-1 0 4 -1 -1 -1 0 4" "0 9 -1 -1 -1 -1 0" "back"; do
 done
 eval "exec ${GROWS[1]}>&-"
 wait "$grows_pid"
-alike "line by line" "0 0 0 0 open|0 0 1 0 open|12 1 0 0 open refused: no such rule (12) at node 1|0 0 0 0 open|0" "$told$?"
+alike "line by line" "0 0 0 0 open|0 0 1 0 open|12 1 0 0 open refused: no such rule (12) at node 1: node 1: rule is 9; rules are 0 to 8|0 0 0 0 open|0" "$told$?"
 # On a terminal that shows what is typed too; not where NO_COLOR is set.
 on_terminal() { # SETTING...
   { printf '%s\n' "$first$last" "back" "0" "x" "save $work/s/proof.txt"; sleep 1; } |
     env "$@" script -qec "$zorambi grow $work/g" /dev/null | tr -d '\r'
 }
 shown_on_terminal=$(on_terminal -u NO_COLOR)
-for shown in $'0 0 7 1 \e[32mclosed\e[0m' $'4 10 0 0 open \e[31mrefused: a line\'s form (4) at line 10\e[0m' $'0 0 6 1 open' \
+for shown in $'0 0 7 1 \e[32mclosed\e[0m' $'4 10 0 0 open \e[31mrefused: a line\'s form (4) at line 10: line 10 has 1 number; a node row has at least 7 numbers: up rule on with other to by, then its set\e[0m' $'0 0 6 1 open' \
   $'\e[31mno such word: \'x\'; \'help\' lists them\e[0m' $'\e[31mnot saved: '"$work/s/proof.txt exists and is not written over"$'\e[0m'; do
   alike "in colour" "$shown" "$(grep -F -x -m 1 -- "$shown" <<<"$shown_on_terminal")"
 done

@@ -82,7 +82,7 @@ check_record "$out" "a join and a record"
 for r in records/refused/*; do
   numbers=$("$zorambi" check "$r" 2>"$work/said" | tail -n 1)
   words=$(head -n 1 "$work/said")
-  line=$(tail -n +2 "$work/said")
+  line=$(tail -n +2 "$work/said" | unexplained)
   not_joined "join $r, first" "$numbers" "$words"$'\n'"in the first record:"$'\n'"$r/$line" "$r" records/accepted/rca_zero
   not_joined "join $r, second" "$numbers" "$words"$'\n'"in the second record:"$'\n'"$r/$line" records/accepted/rca_zero "$r"
 done
@@ -123,7 +123,8 @@ twice_joined=$(twice 0 "2 0 2 0" 5 2)
 not_joined "a record marked as older" "27 5 0 0" "${twice_joined/proof.txt/in the first record:$'\n'records/tidy/rows_twice/proof.txt}" records/tidy/rows_twice "$work/j1"
 
 # 28, before 29; 29.
-not_joined "other least values" "28 -1 0 0" "refused: the least values differ: 1 and 0 (28)" records/accepted/rca_zero records/accepted/cmp_transitive
+not_joined "other least values" "28 -1 0 0" "refused: the least values differ (28)
+28: the first record has the least value 1, the second 0" records/accepted/rca_zero records/accepted/cmp_transitive
 # False, closed at once, with true in all other rows.
 rows_of() { # FOLDER LEAST ROWS
   mkdir -p "$1"
@@ -133,8 +134,10 @@ rows_of() { # FOLDER LEAST ROWS
 rows_of "$work/j6" 0 1023
 rows_of "$work/j7" 0 1
 rows_of "$work/j8" 1 1
-not_joined "1,025 rows" "29 -1 0 0" "refused: the joined record passes a limit: 1,025 formula rows, at most 1,024 (29)" "$work/j6" "$work/j7"
-not_joined "1,025 rows, other least values" "28 -1 0 0" "refused: the least values differ: 0 and 1 (28)" "$work/j6" "$work/j8"
+not_joined "1,025 rows" "29 -1 0 0" "refused: the joined record passes a limit (29)
+29: the join would have 1,025 formula rows, 1,024 allowed" "$work/j6" "$work/j7"
+not_joined "1,025 rows, other least values" "28 -1 0 0" "refused: the least values differ (28)
+28: the first record has the least value 0, the second 1" "$work/j6" "$work/j8"
 rows_of "$work/j6" 0 1022
 joins "1,024 rows" "$work/j6" "$work/j7"
 check_record "$out" "1,024 rows"

@@ -64,7 +64,6 @@
 //! # Ok::<(), zorambi::Refused>(())
 //! ```
 
-pub mod details;
 pub mod entries;
 pub mod files;
 mod identity;
@@ -89,6 +88,10 @@ pub use verdict::{Refusal, Refused, Verdict};
 // A failing width.
 mod find;
 pub use find::find_model;
+
+// The pairs that occur at a width.
+mod occurring;
+pub use occurring::{occurring, occurring_ranges};
 
 // Connectives as designers write them.
 mod convert;

@@ -24,8 +24,6 @@ pub struct Known<'a> {
     pub line: Option<&'a [u8]>,
     /// A tableau grows: there an added row is told of a child too many, not its parent.
     pub growing: bool,
-    /// What [`details`](crate::details) tells: which limit is passed, which values differ.
-    pub detail: Option<&'a str>,
 }
 
 /// The rules by their numbers.
@@ -56,7 +54,7 @@ fn rule_of(line: &[u8]) -> Option<usize> {
 /// What a refusal is about, as closely as what is known of it allows.
 pub fn about(refused: Refused, known: &Known) -> String {
     let rule = known.line.and_then(rule_of);
-    let words = match (refused.refusal, refused.place, rule) {
+    match (refused.refusal, refused.place, rule) {
         (Refusal::Heading, ..) if known.unread.is_some() => {
             let unread = known.unread.map(ToString::to_string).unwrap_or_default();
             format!("{} {unread}", known.file.unwrap_or("the text"))
@@ -72,10 +70,6 @@ pub fn about(refused: Refused, known: &Known) -> String {
         (Refusal::Bound, _, Some(rule)) => BOUNDS[rule].to_string(),
         (Refusal::Children, _, Some(rule)) => format!("the number of children of rule {rule}, {}", RULES[rule]),
         (refusal, ..) => refusal.to_string(),
-    };
-    match known.detail {
-        Some(detail) => format!("{words}: {detail}"),
-        None => words,
     }
 }
 
@@ -90,6 +84,11 @@ pub fn at(refused: Refused, known: &Known) -> String {
 /// A refusal whole: `refused: a split's K (14) at node 9`.
 pub fn told(refused: Refused, known: &Known) -> String {
     format!("refused: {} ({}){}", about(refused, known), refused.refusal.number(), at(refused, known))
+}
+
+/// Why it is refused, in the sentence that an explanation gives: `14: node 3 knows n >= 1, ..`.
+pub fn because(refused: Refused, sentence: &str) -> String {
+    format!("{}: {sentence}", refused.refusal.number())
 }
 
 /// What to do about a refusal, where there is something. The words name commands.
@@ -222,8 +221,6 @@ mod tests {
         assert_eq!(told(refused(1, Some(0)), &long), "refused: proof.txt has over 65,536 bytes (1)");
         let missing = Known { file: Some("proof.txt"), unread: Some(&Unread::Missing), ..Known::default() };
         assert_eq!(told(refused(3, Some(1)), &missing), "refused: proof.txt is missing (3)");
-        let differ = Known { detail: Some("0 and 1"), ..Known::default() };
-        assert_eq!(told(refused(28, None), &differ), "refused: the least values differ: 0 and 1 (28)");
         assert!(advice(Refusal::Repeated).unwrap().contains("--older"));
         assert!(advice(Refusal::Wires).unwrap().contains("zorambi widths"));
     }

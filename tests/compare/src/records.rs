@@ -10,11 +10,15 @@ use zorambi_generate::tables::Tables;
 use zorambi_generate::Input;
 use zorambi_reference::text;
 
-/// The folders below `folder` that hold a schema, sorted.
+/// What stands there by the number of its refusal is mostly no record that is read, and no other kind of record has its `expected`.
+const BY_NUMBER: &str = "by_number";
+
+/// The folders below `folder` that hold a schema, sorted, but for those by the numbers of refusals.
 pub fn folders(folder: &Path) -> Vec<PathBuf> {
     let mut found = Vec::new();
     let Ok(entries) = fs::read_dir(folder) else { return found };
-    let mut paths: Vec<PathBuf> = entries.flatten().map(|e| e.path()).filter(|p| p.is_dir()).collect();
+    let is_of_records = |path: &PathBuf| path.is_dir() && !path.ends_with(BY_NUMBER);
+    let mut paths: Vec<PathBuf> = entries.flatten().map(|e| e.path()).filter(is_of_records).collect();
     paths.sort();
     for path in paths {
         if path.join("schema.txt").is_file() {

@@ -3,13 +3,13 @@
 use crate::names::cell;
 use crate::table::{Row, Sort};
 use std::path::Path;
-use zorambi::details::of_check;
 use zorambi::files::{load, Loaded, Unread};
 use zorambi::words::{about, at, Known};
 use zorambi::{
     check, check_fault, check_older, check_older_fault, hex, line, read_proof, read_schema, sha256, shown, tidy,
     Record, Refused, Text, Verdict, MAX_TEXT,
 };
+use zorambi_explain::{Sort as TextSort, Tables, Text as TextRead, Voice};
 
 pub const SCHEMA: &str = "schema.txt";
 pub const PROOF: &str = "proof.txt";
@@ -55,6 +55,7 @@ impl Texts {
                 row.sort = Sort::Refused;
                 row.numbers = [i64::from(refusal.number()), place.map_or(-1, |place| place as i64), 0, 0];
                 row.words = about(Refused { refusal, place }, &judged.known());
+                row.why = cell(judged.why.as_deref().unwrap_or_default());
             }
         }
         let older = if self.older { "older, " } else { "" };
@@ -65,27 +66,30 @@ impl Texts {
     fn judged(&self) -> Judged<'_> {
         let schema = match read_schema(&self.schema.bytes) {
             Ok(schema) => schema,
-            Err(refused) => return Judged::in_reading(refused, SCHEMA, &self.schema),
+            Err(refused) => return Judged::in_reading(refused, TextSort::Schema, &self.schema),
         };
         let proof = match read_proof(&self.proof.bytes) {
             Ok(proof) => proof,
-            Err(refused) => return Judged::in_reading(refused, PROOF, &self.proof),
+            Err(refused) => return Judged::in_reading(refused, TextSort::Proof, &self.proof),
         };
         let record = Record { schema, proof };
         let verdict = if self.older { check_older(&record) } else { check(&record) };
-        let detail = match verdict {
+        let why = match verdict {
             Verdict::Accepted { .. } => {
                 return Judged { tidies: self.older && tidies(&record), ..Judged::of(verdict) };
             }
-            Verdict::Refused { refusal, place } => of_check(Refused { refusal, place }, &record),
+            Verdict::Refused { refusal, place } => {
+                let why = zorambi_explain::check(&Tables::from(&record), Refused { refusal, place }, &Voice::default());
+                Some(why.line)
+            }
         };
         let fault = if self.older { check_older_fault } else { check_fault };
         let (file, text, number) = match fault(&self.schema.bytes, &self.proof.bytes) {
-            None => return Judged { detail, ..Judged::of(verdict) },
+            None => return Judged { why, ..Judged::of(verdict) },
             Some((Text::Schema, number)) => (SCHEMA, &self.schema.bytes, number),
             Some((_, number)) => (PROOF, &self.proof.bytes, number),
         };
-        Judged { file: Some(file), line: Some((number, line(text, number))), detail, ..Judged::of(verdict) }
+        Judged { file: Some(file), line: Some((number, line(text, number))), why, ..Judged::of(verdict) }
     }
 }
 
@@ -112,28 +116,31 @@ struct Judged<'a> {
     file: Option<&'static str>,
     unread: Option<&'a Unread>,
     line: Option<(usize, &'a [u8])>,
-    detail: Option<String>,
+    /// What does not fit, in a sentence.
+    why: Option<String>,
 }
 
 impl<'a> Judged<'a> {
     fn of(verdict: Verdict) -> Judged<'a> {
-        Judged { verdict, tidies: false, file: None, unread: None, line: None, detail: None }
+        Judged { verdict, tidies: false, file: None, unread: None, line: None, why: None }
     }
 
     /// A text refused in reading: its place is a line, from 1 on.
-    fn in_reading(refused: Refused, file: &'static str, text: &'a Loaded) -> Judged<'a> {
+    fn in_reading(refused: Refused, sort: TextSort, text: &'a Loaded) -> Judged<'a> {
+        let why = zorambi_explain::text(&TextRead::new(sort, text), refused);
         let number = refused.place.filter(|place| *place > 0 && text.unread.is_none());
         Judged {
-            file: Some(file),
+            file: Some(sort.file()),
             unread: text.unread.as_ref(),
             line: number.map(|number| (number, line(&text.bytes, number))),
+            why: Some(why.line),
             ..Judged::of(refused.into())
         }
     }
 
     fn known(&self) -> Known<'_> {
         let line = self.line.map(|(_, bytes)| bytes);
-        Known { file: self.file, unread: self.unread, line, detail: self.detail.as_deref(), ..Known::default() }
+        Known { file: self.file, unread: self.unread, line, ..Known::default() }
     }
 
     /// The line, as far as it is shown.
@@ -157,6 +164,10 @@ impl<'a> Judged<'a> {
             if !bytes.is_empty() {
                 words += &format!(": {}", self.text());
             }
+        }
+        // What could not be read is told by then.
+        if let Some(why) = self.why.as_ref().filter(|_| self.file.is_none() || self.line.is_some()) {
+            words += &format!("; {why}");
         }
         if self.tidies {
             words += "; tidying would make it present";

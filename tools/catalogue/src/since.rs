@@ -1,7 +1,7 @@
 //! An earlier table that a run is held against.
 
 use crate::judge::Texts;
-use crate::table::{Part, Row, Table};
+use crate::table::{Part, Row, Sort, Table};
 use crate::walk::order;
 use std::collections::{HashMap, HashSet};
 use std::path::Path;
@@ -34,9 +34,10 @@ impl Earlier {
         self.rows.get(name)
     }
 
-    /// The row has this library's verdict on these texts.
+    /// The row has this library's verdict on these texts, and says why where it is a refusal.
     pub fn vouches_for(&self, row: &Row, texts: &Texts) -> bool {
-        self.of_another_library().is_none() && texts.are_of(row)
+        let is_told = row.sort != Sort::Refused || !row.why.is_empty();
+        self.of_another_library().is_none() && is_told && texts.are_of(row)
     }
 
     /// Rows of names that are no longer there, in their order.

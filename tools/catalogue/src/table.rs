@@ -9,7 +9,7 @@ use std::path::Path;
 use std::str::FromStr;
 use zorambi::{hex, json_string, sha256, shown_name};
 
-pub const COLUMNS: [&str; 16] = [
+pub const COLUMNS: [&str; 17] = [
     "record",
     "verdict",
     "answer",
@@ -26,7 +26,11 @@ pub const COLUMNS: [&str; 16] = [
     "library",
     "part",
     "tree",
+    "why",
 ];
+
+/// Columns of a table from before refusals were explained; it is still read.
+const EARLIER_COLUMNS: usize = 16;
 
 /// What the verdict column says of the end row.
 const END: &str = "end";
@@ -77,12 +81,14 @@ pub struct Row {
     /// The hashes of the texts; empty for one that could not be read, or not whole.
     pub schema: String,
     pub proof: String,
+    /// Of a refusal: what does not fit, in a sentence; empty in a table from before refusals were explained.
+    pub why: String,
 }
 
 impl Row {
     pub fn new(name: &str, sort: Sort) -> Row {
-        let [words, file, line, text, schema, proof] = [const { String::new() }; 6];
-        Row { name: name.to_string(), sort, numbers: [0; 4], words, file, line, text, older: false, schema, proof }
+        let [words, file, line, text, schema, proof, why] = [const { String::new() }; 7];
+        Row { name: name.to_string(), sort, numbers: [0; 4], words, file, line, text, older: false, schema, proof, why }
     }
 
     /// What became of it, in a word or two.
@@ -121,7 +127,7 @@ impl Row {
 
     pub fn csv(&self, library: &str) -> String {
         let mut cells = self.cells().to_vec();
-        cells.extend([library, "", ""].map(str::to_string));
+        cells.extend([library, "", "", &self.why].map(str::to_string));
         csv::row(&cells)
     }
 
@@ -137,7 +143,8 @@ impl Row {
             };
             object += &format!("\"{column}\":{value},");
         }
-        object + &format!("\"library\":{}}}\n", json_string(library))
+        let why = if self.why.is_empty() { "null".to_string() } else { json_string(&self.why) };
+        object + &format!("\"library\":{},\"why\":{why}}}\n", json_string(library))
     }
 
     /// The row with these cells, if it could have been written so.
@@ -150,6 +157,7 @@ impl Row {
             }
         }
         row.older = cells[10] == "older";
+        row.why.clone_from(&cells[16]);
         let texts = [&mut row.words, &mut row.file, &mut row.line, &mut row.text];
         texts.into_iter().zip(&cells[6..10]).for_each(|(text, cell)| text.clone_from(cell));
         [&mut row.schema, &mut row.proof]
@@ -213,7 +221,7 @@ pub struct Of {
 impl Of {
     /// The end row of a table with these totals.
     pub fn csv(&self, totals: &Totals) -> String {
-        let mut cells = vec![String::new(); 16];
+        let mut cells = vec![String::new(); COLUMNS.len()];
         cells[1] = END.to_string();
         cells[9] = totals.to_string();
         cells[13].clone_from(&self.library);
@@ -248,6 +256,11 @@ pub fn heading() -> String {
     csv::row(&COLUMNS)
 }
 
+/// What every CSV table starts with, also one from before refusals were explained.
+pub fn heading_start() -> String {
+    COLUMNS[..EARLIER_COLUMNS].join(",")
+}
+
 /// A table that was read.
 pub struct Table {
     pub rows: Vec<Row>,
@@ -263,19 +276,21 @@ impl Table {
     }
 
     fn of_text(text: &str) -> Result<Table, String> {
-        let heading = heading();
-        let Some(mut rest) = text.strip_prefix(&heading[..]) else {
+        let sorts = [COLUMNS.len(), EARLIER_COLUMNS].map(|columns| (columns, csv::row(&COLUMNS[..columns])));
+        let table = sorts.iter().find_map(|(columns, heading)| Some((*columns, text.strip_prefix(&heading[..])?)));
+        let Some((columns, mut rest)) = table else {
             return Err("is no table of a catalogue (CSV)".to_string());
         };
         let (mut rows, mut totals, mut libraries) = (Vec::<Row>::new(), Totals::default(), None);
         loop {
             let not_whole = || "is no whole table: its last line, 'end', is missing".to_string();
             let wrong = |what: &str| format!("is no whole table: {what} at row {}", rows.len() + 1);
-            let (cells, after) = csv::first_row(rest).ok_or_else(not_whole)?;
+            let (mut cells, after) = csv::first_row(rest).ok_or_else(not_whole)?;
             rest = after;
-            if cells.len() != COLUMNS.len() {
+            if cells.len() != columns {
                 return Err(wrong("another number of columns"));
             }
+            cells.resize(COLUMNS.len(), String::new());
             if libraries.get_or_insert_with(|| cells[13].clone()) != &cells[13] {
                 return Err(wrong("another library"));
             }

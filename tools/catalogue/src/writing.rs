@@ -1,13 +1,13 @@
 //! The tables that are asked for, as CSV and JSON.
 
 use crate::beside::Beside;
-use crate::table::{heading, Of, Row};
+use crate::table::{heading, heading_start, Of, Row};
 use crate::totals::Totals;
 use std::path::Path;
 use std::sync::LazyLock;
 use zorambi_commands::Given;
 
-static CSV_START: LazyLock<String> = LazyLock::new(heading);
+static CSV_START: LazyLock<String> = LazyLock::new(heading_start);
 const JSON_START: &str = "{\"record\":";
 
 #[derive(Default)]
@@ -26,7 +26,7 @@ impl Tables {
         let begin = |path: Option<&Path>, start| path.map(|path| Beside::new(path, start)).transpose();
         let mut tables = Tables { csv: begin(csv, &CSV_START)?, json: begin(json, JSON_START)? };
         if let Some(csv) = &mut tables.csv {
-            csv.write(&CSV_START)?;
+            csv.write(&heading())?;
         }
         Ok(tables)
     }

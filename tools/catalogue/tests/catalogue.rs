@@ -7,11 +7,14 @@ use std::fs;
 use std::os::unix::fs::symlink;
 use std::path::Path;
 
-/// The folders of the shipped records.
+/// What is there by the number of its refusal has no `expected`.
+const BY_NUMBER: &str = "by_number";
+
+/// The folders of the shipped records that have one.
 fn sorts() -> Vec<String> {
     let entries = fs::read_dir(shipped()).unwrap().map(|entry| entry.unwrap());
     let folders = entries.filter(|entry| entry.file_type().unwrap().is_dir());
-    folders.map(|entry| entry.file_name().into_string().unwrap()).collect()
+    folders.map(|entry| entry.file_name().into_string().unwrap()).filter(|name| name != BY_NUMBER).collect()
 }
 
 #[test]
@@ -40,8 +43,12 @@ fn shipped_records() {
             }
         }
     }
-    let totals = format!("{} records: {accepted} accepted, {refused} refused", accepted + refused);
     let lines = lines(&output);
+    for line in lines.iter().filter(|line| line.contains(&format!("/{BY_NUMBER}/"))) {
+        accepted += usize::from(line.contains(": accepted: "));
+        refused += usize::from(line.contains(": refused: "));
+    }
+    let totals = format!("{} records: {accepted} accepted, {refused} refused", accepted + refused);
     assert!(lines.last().unwrap().starts_with(&totals), "{totals}");
     let of_records = &lines[..accepted + refused];
     assert!(of_records.is_sorted() && of_records.iter().all(|line| line.contains(": ")));
@@ -71,15 +78,29 @@ fn the_line_of_a_refusal() {
     let said = |name: &str| said(&output, &folder.join(name));
     assert_eq!(said("right"), ACCEPTED);
     assert_eq!(said("bound"), BOUND);
-    assert_eq!(said("schema row"), "refused: an ill-formed formula (7) at row 3: schema.txt:7: 6 9 2 0");
-    assert_eq!(said("proof row"), "refused: an ill-formed formula (7) at row 7: proof.txt:4: 6 1 2 -10000");
+    assert_eq!(said("schema row"), "refused: an ill-formed formula (7) at row 3: schema.txt:7: 6 9 2 0; \
+                                   row 3 (6 9 2 0): a is 9; a body is a row before it, and the rows before row 3 are 0 to 2");
+    let row = "refused: an ill-formed formula (7) at row 7: proof.txt:4: 6 1 2 -10000; \
+               row 7 (6 1 2 -10000): c is -10000; the c of its limit n - c is -9999 to 9999";
+    assert_eq!(said("proof row"), row);
     let form = "refused: a line's form (4) at line";
-    assert_eq!(said("schema line"), format!("{form} 6: schema.txt:6: 7 0 2 \\x1b[0m\\x7f"));
-    assert_eq!(said("proof line"), format!("{form} 9: proof.txt:9: 007 7 2 -1 -1 -1 0 2 3"));
-    assert_eq!(said("root"), "refused: the root or the least value (6)");
-    assert_eq!(said("long line"), format!("{form} 5: proof.txt:5: {}...", "3".repeat(100)));
-    assert_eq!(said("longest line"), format!("{form} 5: proof.txt:5: {}", "3".repeat(100)));
-    assert_eq!(said("longer line"), format!("{form} 5: proof.txt:5: {}...", "3".repeat(100)));
+    assert_eq!(
+        said("schema line"),
+        format!("{form} 6: schema.txt:6: 7 0 2 \\x1b[0m\\x7f; line 6, column 7: byte 27 where a number has to stand")
+    );
+    assert_eq!(
+        said("proof line"),
+        format!("{form} 9: proof.txt:9: 007 7 2 -1 -1 -1 0 2 3; line 9, column 1: '007' has a leading zero")
+    );
+    let root = "the root, row 0 (p0[i]), is not outer: it stands on i, and no iteration around it says what i is";
+    assert_eq!(said("root"), format!("refused: the root or the least value (6); {root}"));
+    let digits = |count: usize| {
+        let start = "3".repeat(40);
+        format!("; line 5, column 1: '{start}...' has {count} digits; a number has at most 5")
+    };
+    assert_eq!(said("long line"), format!("{form} 5: proof.txt:5: {}...{}", "3".repeat(100), digits(65_000)));
+    assert_eq!(said("longest line"), format!("{form} 5: proof.txt:5: {}{}", "3".repeat(100), digits(100)));
+    assert_eq!(said("longer line"), format!("{form} 5: proof.txt:5: {}...{}", "3".repeat(100), digits(101)));
     let summary = [
         "        5 refused: a line's form (4)",
         "        2 refused: an ill-formed formula (7)",
@@ -115,8 +136,11 @@ fn texts_that_cannot_be_read() {
     assert_eq!(said("long schema"), "refused: schema.txt has over 65,536 bytes (1)");
     assert_eq!(said("long proof"), "refused: proof.txt has over 65,536 bytes (1)");
     let heading = "refused: a heading (3) at line 1";
-    assert_eq!(said("empty schema"), format!("{heading}: schema.txt:1"));
-    assert_eq!(said("both empty"), format!("{heading}: schema.txt:1"));
+    assert_eq!(
+        said("empty schema"),
+        format!("{heading}: schema.txt:1; schema.txt is empty; its first line is the heading 'root least'")
+    );
+    assert_eq!(said("both empty"), said("empty schema"));
     assert_eq!(said("no proof"), "refused: proof.txt is missing (3)");
 }
 
@@ -191,10 +215,13 @@ fn older_records() {
     let output = catalogue(&records, &[]);
     assert_eq!(status(&output), 1);
 
-    let repeated = "refused: a proof row written twice: it repeats row 8 (27) at row 9: proof.txt:6: 3 0 1 0";
+    let repeated =
+        "refused: a proof row written twice (27) at row 9: proof.txt:6: 3 0 1 0; row 9 is row 8 (proof.txt:5) again";
     let bound = &BOUND.replace(":12:", ":13:");
-    let row = "refused: an ill-formed formula (7) at row 7: proof.txt:4: 6 1 2 -10000";
-    let line = "refused: a line's form (4) at line 4: proof.txt:4: 6 1 2 x";
+    let row = "refused: an ill-formed formula (7) at row 7: proof.txt:4: 6 1 2 -10000; \
+               row 7 (6 1 2 -10000): c is -10000; the c of its limit n - c is -9999 to 9999";
+    let line =
+        "refused: a line's form (4) at line 4: proof.txt:4: 6 1 2 x; line 4, column 7: 'x' where a number has to stand";
     let tidies = &format!("{ACCEPTED}; tidying would make it present");
     let said = |name: &str| said(&output, &records.join(name));
     for (name, present, older) in [
@@ -245,7 +272,7 @@ fn which_records_are_older() {
         assert_eq!(said(name), format!("older, {ACCEPTED}; tidying would make it present"), "{name}");
     }
     for name in ["Older", "older.txt", "lost link", "below"] {
-        assert!(said(name).starts_with("refused: a proof row written twice: "), "{name}");
+        assert!(said(name).starts_with("refused: a proof row written twice (27) at row 9"), "{name}");
     }
     assert_eq!(said("below/older"), ACCEPTED);
     let totals = "8 records: 4 accepted, 4 refused; of these, 3 older: 3 accepted, 0 refused";

@@ -96,7 +96,8 @@ fn links_to_files() {
 
     let output = catalogue(&folder, &["--follow"]);
     assert_eq!(said(&output, &folder.join("to right")), ACCEPTED);
-    let heading = "refused: a heading (3) at line 1: schema.txt:1: secret of the house";
+    let heading = "refused: a heading (3) at line 1: schema.txt:1: secret of the house; \
+                   line 1 is 'secret of the house', not the heading 'root least': at column 1 's' stands where 'r' has to stand";
     assert_eq!(said(&output, &folder.join("out")), heading);
 }
 

@@ -188,7 +188,8 @@ fn since_an_earlier_table() {
     let output = since(&first, &["--csv", second.to_str().unwrap()]);
     assert_eq!(status(&output), 1);
     let path = |name: &str| records.join(name).display().to_string();
-    let void = "refused: a void's bound (14) at node 2: proof.txt:9: 1 7 2 -1 -1 -1 0 2 3";
+    let void = "refused: a void's bound (14) at node 2: proof.txt:9: 1 7 2 -1 -1 -1 0 2 3; \
+                node 2 knows n = 2, but row 2 (some i from 2 to n: p0[i]) is empty only up to n = 1";
     let expected = [
         format!("{}: new, {BOUND}", path("added")),
         format!("{}: changed, {ACCEPTED}; before: refused (14)", path("block 0/0")),
@@ -217,6 +218,37 @@ fn since_an_earlier_table() {
     let output = since(&one, &["--shard", "1/3"]);
     assert_eq!(status(&output), 2);
     assert!(errors(&output).contains("part.csv is the table of part 2/3, not of the whole or of part 1/3"));
+}
+
+/// A table from before refusals were explained, without the last column.
+fn unexplained(table: &str) -> String {
+    let cut = |line: &str| match line.strip_suffix('"') {
+        Some(quoted) => quoted[..quoted.rfind(",\"").unwrap()].to_string(),
+        None => line[..line.rfind(',').unwrap()].to_string(),
+    };
+    table.lines().map(|line| cut(line.trim_end()) + "\r\n").collect()
+}
+
+/// Such a table is read, and a refusal in it is looked at again, so that the new table says why; it may be written over.
+#[test]
+fn since_a_table_without_reasons() {
+    let folder = scratch("unexplained");
+    let records = folder.join("records");
+    put(&records.join("a"), SCHEMA, PROOF);
+    put(&records.join("b"), SCHEMA, by_two());
+    let [table, earlier] = ["t.csv", "earlier.csv"].map(|name| folder.join(name));
+    assert_eq!(status(&catalogue(&records, &["--csv", table.to_str().unwrap()])), 1);
+    let text = fs::read_to_string(&table).unwrap();
+    let cut = unexplained(&text);
+    assert!(text.contains(",why\r\n") && text.contains("node 5 knows n >= 2") && !cut.contains("node 5 knows"));
+    fs::write(&earlier, &cut).unwrap();
+    let words = ["--since", earlier.to_str().unwrap(), "--csv", earlier.to_str().unwrap()];
+    let output = catalogue(&records, &words);
+    assert_eq!(lines(&output)[0], "since then: 0 new, 0 changed, 0 with another verdict, 2 as before, 0 gone");
+    assert_eq!(fs::read_to_string(&earlier).unwrap(), text);
+    // Parts are put together all the same.
+    fs::write(&earlier, &cut).unwrap();
+    assert_eq!(status(&merge(&[earlier], &[])), 1);
 }
 
 /// A verdict is taken over from a table of the same library alone, and one that differs is told.
@@ -271,8 +303,11 @@ fn hashes_of_the_texts() {
     assert!(rows.len() > 30);
     for row in &rows[1..rows.len() - 1] {
         let mut expected = sums_of(&records.join(&row[0]));
-        if row[0] == "longer" {
+        if row[0] == "longer" || row[0].ends_with("/01_too_many_bytes") {
             expected[0] = String::new();
+        }
+        if row[0].contains("/by_number/") && expected.len() < 2 {
+            expected.push(String::new());
         }
         assert_eq!(row[11..13], expected, "{}", row[0]);
         assert_eq!(row[13], zorambi::IDENTITY);

@@ -13,9 +13,9 @@ pub const CATALOGUE: Command = Command {
 standard output, in the order of their names; then comes how often each refusal came, and the totals. A folder that cannot be listed and a link to a \
 folder, which is not followed, have a line too. On a terminal standard error says how far it is.\n\n\
 A table has a row for each of these: record (the path below DIR), verdict (accepted, refused, not listed, not followed, listed elsewhere), answer, place, nodes and \
-links (the check program's four numbers), refusal (why), file, line and text (the line at fault), check (present or older), schema_sha256 and \
+links (the check program's four numbers), refusal (what it is about), file, line and text (the line at fault), check (present or older), schema_sha256 and \
 proof_sha256 (of the texts as they were read; empty for one that could not be read or has over 65,536 bytes), and library (release, hash and logic of the \
-library that judged). Its last row has the verdict 'end' and says what it is the table of: library, part (K/N, or 1/1) and tree (a hash of all \
+library that judged). Its last column is why (of a refusal: what does not fit, in a sentence). Its last row has the verdict 'end' and says what it is the table of: library, part (K/N, or 1/1) and tree (a hash of all \
 names below DIR), so that a table cut short is told from a whole one. In JSON what is empty is null, and the last object has the counts as numbers. In \
 names and texts a backslash stands twice and any byte that is not printable ASCII as \\xNN; so does a first byte that would make a spreadsheet take the cell for a formula.\n\n\
 A table is written beside its name and gets it at the end, whole. A file that is there is written over only if it is empty or such a table.\n\n\

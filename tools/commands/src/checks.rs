@@ -15,7 +15,8 @@ Answer 0 is accepted: the schema is false at every n from its least value up. An
 fault, are then said on standard error.\n\n\
 A text is read from a regular file in DIR alone. One that is missing or cannot be read counts as empty, and the answer is 3.\n\n\
 With --json the object has record (the folder), verdict (accepted or refused), answer, place, nodes and links (the program's four \
-numbers), refusal (why), file, line and text (the line at fault), and check (present, older or model); what there is not is null. In \
+numbers), refusal (what it is about), file, line and text (the line at fault), check (present, older or model), and why (what does not \
+fit, in a sentence); what there is not is null. In \
 strings a backslash of a record or a name stands twice, and any byte that is not printable ASCII as \\xNN.\n\n\
 The exit status is 0 for accepted, 1 for refused, 2 for wrong use or a failure.",
     options: &[
@@ -42,6 +43,27 @@ The exit status is 0 for accepted, 1 for refused, 2 for wrong use or a failure."
     options: &[FOLLOW, JSON, QUIET],
     names: [1, 1],
     examples: &[example("zorambi model records/refused/split_at_upper_bound", "the model that stands beside a refused record")],
+    of_script: false,
+};
+
+pub const EXPLAIN: Command = Command {
+    name: "explain",
+    takes: "[--older | --model | --wide] [--follow] DIR",
+    about: "say why what is in DIR is refused: what does not fit, by how much, and what to do",
+    text: "The number and the place of a refusal come from the library; why it was given is said in one sentence, which check, model, \
+catalogue, grow and the other commands say too. Below stand the line at fault, what was expected, the lines that it speaks of, and what to \
+do. Formulas are in the plain letters that show has with --ascii; a file names.txt in DIR gives symbols names.\n\n\
+DIR is taken for a record (schema.txt and proof.txt); for a model if it has model.txt and no proof.txt, and for a wide schema if it has \
+wide.txt and no schema.txt.\n\n\
+The exit status is 0 for accepted, 1 for refused, 2 for wrong use or a failure.",
+    options: &[
+        flag("--older", "explain what check --older says"),
+        flag("--model", "explain what model says: of schema.txt and model.txt"),
+        flag("--wide", "explain what convert says: of wide.txt"),
+        FOLLOW,
+    ],
+    names: [1, 1],
+    examples: &[example("zorambi explain records/refused/void_above_least", "why a big or is not void there")],
     of_script: false,
 };
 

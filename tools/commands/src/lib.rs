@@ -68,6 +68,7 @@ pub fn commands() -> &'static [&'static Command] {
         &checks::CHECK,
         &checks::MODEL,
         &show::SHOW,
+        &checks::EXPLAIN,
         &catalogue::CATALOGUE,
         &catalogue::MERGE,
         &texts::FIND,

@@ -1,10 +1,10 @@
 //! Formulas as they are listed: a schema with the rows that it shares, and the rows that a tableau names.
 
-use crate::bounds::Bound;
-use crate::notation::{Notation, Shared, Style};
 use crate::sheet::{As, Sheet};
 use std::collections::BTreeSet;
 use zorambi::{Node, Proof, Row, Schema};
+use zorambi_notation::bounds::Bound;
+use zorambi_notation::notation::{Notation, Shared, Style};
 
 /// A row that is refused, and what is said of it.
 pub type RefusedRow = Option<(usize, String)>;

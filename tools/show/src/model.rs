@@ -1,11 +1,11 @@
 //! A model: which pairs are true, and what each iteration of the schema comes to there, with its body's value at each
 //! i. The values are worked out here for reading; whether the schema is true is said by the library.
 
-use crate::names::Names;
-use crate::notation::{parts, Notation};
 use std::collections::{BTreeMap, BTreeSet, HashSet};
 use std::fmt;
 use zorambi::{Model, Row, Schema};
+use zorambi_notation::names::Names;
+use zorambi_notation::notation::{parts, Notation};
 
 /// Ranges that are listed of one value; the others are counted.
 const MOST_RANGES: usize = 12;
@@ -155,7 +155,7 @@ impl Iteration {
 #[cfg(test)]
 mod tests {
     use super::*;
-    use crate::Style;
+    use zorambi_notation::Style;
 
     fn values(schema: &Schema, model: &Model) -> Vec<String> {
         let names = Names::default();

@@ -1,7 +1,7 @@
 //! The lines that are shown. In plain letters only the schema is text of the language; all else stands in comments, so
 //! that the whole can be given to `zorambi compile`.
 
-use crate::notation::Style;
+use zorambi_notation::notation::Style;
 
 /// What a line is in plain letters.
 #[derive(Clone, Copy, Debug, PartialEq, Eq)]

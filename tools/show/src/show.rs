@@ -1,20 +1,21 @@
 //! A folder as it is shown: its wide schema, its schema, its tableau, its model, each as far as it can be.
 
-use crate::bounds::{self, Bound};
 use crate::formulas::{self, for_n, listed, named, RefusedRow};
 use crate::model;
-use crate::names::Names;
-use crate::notation::{all_rows, Notation, Style};
 use crate::sheet::{As, Sheet};
 use crate::tree::Tableau;
 use std::path::Path;
 use zorambi::files::{load, Loaded, Unread};
-use zorambi::words::{about, counted, told, Known};
+use zorambi::words::{about, because, counted, told, Known};
 use zorambi::{
-    check_fault, check_model_texts, check_older_fault, check_older_texts, check_texts, convert, details, line,
-    model_fault, read_model, read_proof, read_schema, shown, Growing, Model, Proof, Record, Refusal, Refused, Row,
-    Schema, Text, Verdict, MAX_TEXT,
+    check_fault, check_model_texts, check_older_fault, check_older_texts, check_texts, convert, line, model_fault,
+    read_model, read_proof, read_schema, shown, Growing, Model, Proof, Record, Refusal, Refused, Row, Schema, Text,
+    Verdict, MAX_TEXT,
 };
+use zorambi_explain::{Sort, Tables, Voice, Why};
+use zorambi_notation::bounds::{self, Bound};
+use zorambi_notation::names::Names;
+use zorambi_notation::notation::{all_rows, Notation, Style};
 
 /// How it is to be shown.
 #[derive(Clone, Copy, Debug, Default)]
@@ -127,6 +128,11 @@ impl<'a> Showing<'a> {
         Notation::new(rows, self.names, self.options.style)
     }
 
+    /// How an explanation writes its formulas: as they are shown.
+    fn voice(&self) -> Voice {
+        Voice { names: self.names.clone(), style: self.options.style }
+    }
+
     fn heading(&mut self, words: &str) {
         self.sheet.gap();
         self.sheet.words(words);
@@ -134,19 +140,22 @@ impl<'a> Showing<'a> {
     }
 
     /// A text that cannot be read, with the library's refusal.
-    fn unread(&mut self, file: &str, text: &Loaded, refused: Refused) {
+    fn unread(&mut self, sort: Sort, text: &Loaded, refused: Refused) {
+        let file = sort.file();
         self.is_whole = false;
         self.heading(&format!("{file} cannot be shown"));
-        self.refused(refused, Some((file, text)), refused.place.unwrap_or(0), None);
+        let why = zorambi_explain::text(&zorambi_explain::Text::new(sort, text), refused);
+        self.refused(refused, Some((file, text)), refused.place.unwrap_or(0), &why);
     }
 
-    /// A refusal, and the line of a text that it points to, if it is not 0.
-    fn refused(&mut self, refused: Refused, of: Option<(&str, &Loaded)>, number: usize, detail: Option<&str>) {
+    /// A refusal, why, and the line of a text that it points to, if it is not 0.
+    fn refused(&mut self, refused: Refused, of: Option<(&str, &Loaded)>, number: usize, why: &Why) {
         let bytes = of.map(|(_, text)| line(&text.bytes, number)).filter(|_| number > 0);
         let unread = of.and_then(|(_, text)| text.unread.as_ref());
         let file = of.map(|(file, _)| file);
-        let known = Known { file, unread, line: bytes, growing: false, detail };
+        let known = Known { file, unread, line: bytes, growing: false };
         self.sheet.words(&told(refused, &known));
+        self.sheet.words(&because(refused, &why.line));
         if let (Some(file), Some(bytes), None) = (file, bytes, unread) {
             self.line_of(file, number, bytes);
         }
@@ -167,14 +176,15 @@ impl<'a> Showing<'a> {
         let texts = self.texts;
         let wide = match read_schema(&texts.wide.bytes) {
             Ok(wide) => wide,
-            Err(refused) => return self.unread("wide.txt", &texts.wide, refused),
+            Err(refused) => return self.unread(Sort::Wide, &texts.wide, refused),
         };
         self.heading(&format!("wide schema: row {}, {}", wide.root, for_n(&wide, self.options.style)));
         self.formula(&wide, As::Language);
         match convert(&wide) {
             Ok(plain) => self.sheet.words(&converted(&plain, &texts.schema)),
             Err(refused) => {
-                self.refused_row(&wide.rows, refused, "wide.txt", &texts.wide, details::of_convert(refused, &wide));
+                let why = zorambi_explain::convert(&(&wide).into(), refused, &self.voice());
+                self.refused_row(&wide.rows, refused, Sort::Wide, &texts.wide, &why);
             }
         }
     }
@@ -186,23 +196,23 @@ impl<'a> Showing<'a> {
     }
 
     /// A refusal of a schema's rows: the row at fault, marked, then the refusal. Row r is line 4 + r.
-    fn refused_row(&mut self, rows: &[Row], refused: Refused, file: &str, text: &Loaded, detail: Option<String>) {
+    fn refused_row(&mut self, rows: &[Row], refused: Refused, sort: Sort, text: &Loaded, why: &Why) {
         let row = row_at_fault(refused);
         if let Some(row) = row.filter(|row| *row < rows.len()) {
             let notation = self.notation(rows);
             let shared = notation.shared(&[row as i32]);
-            let why = Some((row, marked(refused, None, detail.as_deref())));
-            listed(&[row].into(), &shared, &notation, &why, &mut self.sheet);
+            let refused_row = Some((row, marked(refused, None)));
+            listed(&[row].into(), &shared, &notation, &refused_row, &mut self.sheet);
             self.sheet.gap();
         }
-        self.refused(refused, Some((file, text)), row.map_or(0, |row| 4 + row), detail.as_deref());
+        self.refused(refused, Some((sort.file(), text)), row.map_or(0, |row| 4 + row), why);
     }
 
     fn schema(&mut self, shown_as: As) {
         let texts = self.texts;
         let schema = match read_schema(&texts.schema.bytes) {
             Ok(schema) => schema,
-            Err(refused) => return self.unread("schema.txt", &texts.schema, refused),
+            Err(refused) => return self.unread(Sort::Schema, &texts.schema, refused),
         };
         self.heading(&format!("schema: row {}, {}", schema.root, for_n(&schema, self.options.style)));
         self.formula(&schema, shown_as);
@@ -210,7 +220,11 @@ impl<'a> Showing<'a> {
         match Growing::begin(schema.clone(), Vec::new()) {
             _ if has_verdict => {}
             Ok(_) => self.sheet.line("well formed"),
-            Err(refused) => self.refused_row(&schema.rows, refused, "schema.txt", &texts.schema, None),
+            Err(refused) => {
+                let record = Record { schema, proof: Proof::default() };
+                let why = zorambi_explain::check(&Tables::from(&record), refused, &self.voice());
+                self.refused_row(&record.schema.rows, refused, Sort::Schema, &texts.schema, &why);
+            }
         }
     }
 
@@ -218,7 +232,7 @@ impl<'a> Showing<'a> {
         let texts = self.texts;
         let proof = match read_proof(&texts.proof.bytes) {
             Ok(proof) => proof,
-            Err(refused) => return self.unread("proof.txt", &texts.proof, refused),
+            Err(refused) => return self.unread(Sort::Proof, &texts.proof, refused),
         };
         match read_schema(&texts.schema.bytes) {
             Ok(schema) => self.record(&Record { schema, proof }),
@@ -244,10 +258,8 @@ impl<'a> Showing<'a> {
         });
         let node_line = faulty.map(|(_, text, number)| line(&text.bytes, number));
         let rows = all_rows(record);
-        let detail = refused.and_then(|refused| details::of_check(refused, record));
-        let why = |refused: Refused| marked(refused, node_line, detail.as_deref());
-        let row = refused.and_then(|refused| Some((row_at_fault(refused)?, why(refused))));
-        let node = refused.and_then(|refused| Some((node_at_fault(refused)?, why(refused))));
+        let row = refused.and_then(|refused| Some((row_at_fault(refused)?, marked(refused, node_line))));
+        let node = refused.and_then(|refused| Some((node_at_fault(refused)?, marked(refused, node_line))));
         self.rows(record, &rows, &row);
         if !record.proof.nodes.is_empty() {
             self.heading("tableau");
@@ -258,7 +270,8 @@ impl<'a> Showing<'a> {
             None => self.sheet.words(&verdict.to_string()),
             Some(refused) => {
                 let (of, number) = faulty.map_or((None, 0), |(file, text, number)| (Some((file, text)), number));
-                self.refused(refused, of, number, detail.as_deref());
+                let why = zorambi_explain::check(&Tables::from(record), refused, &self.voice());
+                self.refused(refused, of, number, &why);
             }
         }
     }
@@ -305,7 +318,7 @@ impl<'a> Showing<'a> {
         let texts = self.texts;
         let model = match read_model(&texts.model.bytes) {
             Ok(model) => model,
-            Err(refused) => return self.unread("model.txt", &texts.model, refused),
+            Err(refused) => return self.unread(Sort::Model, &texts.model, refused),
         };
         self.heading(&format!("model: n = {}", model.n));
         for pairs in model::pairs(&model, self.names) {
@@ -330,10 +343,11 @@ impl<'a> Showing<'a> {
 
     fn refused_model(&mut self, refused: Refused, schema: &Schema, model: &Model) {
         self.sheet.gap();
-        let detail = details::of_model(refused, schema, model);
+        let pairs = (model.pairs.as_flattened(), model.pairs.len());
+        let why = zorambi_explain::model(&schema.into(), model.n, pairs, refused, &self.voice());
         let fault = model_fault(&self.texts.schema.bytes, &self.texts.model.bytes);
         let (of, number) = fault.map_or((None, 0), |(text, number)| (Some(self.text(text)), number));
-        self.refused(refused, of, number, detail.as_deref());
+        self.refused(refused, of, number, &why);
     }
 
     /// Each iteration that the root reaches, and what it comes to.
@@ -361,8 +375,8 @@ fn converted(plain: &Schema, beside: &Loaded) -> String {
 }
 
 /// What is said below what is refused.
-fn marked(refused: Refused, line: Option<&[u8]>, detail: Option<&str>) -> String {
-    let known = Known { line, detail, ..Known::default() };
+fn marked(refused: Refused, line: Option<&[u8]>) -> String {
+    let known = Known { line, ..Known::default() };
     format!("refused: {} ({})", about(refused, &known), refused.refusal.number())
 }
 

@@ -8,13 +8,13 @@
 //!
 //! A branch that is too far to the right goes on at the left, below the tree that it is of.
 
-use crate::bounds::{children, Bound};
 use crate::formulas::mark;
-use crate::notation::{Notation, Style};
-use crate::rules::rule;
 use crate::sheet::{first_line, wrapped};
 use std::collections::VecDeque;
 use zorambi::{Node, Proof};
+use zorambi_notation::bounds::{children, Bound};
+use zorambi_notation::notation::{Notation, Style};
+use zorambi_notation::rules::rule;
 
 /// Spaces between a node and its rule where rules stand in a column.
 const GAP: usize = 5;

@@ -4,6 +4,7 @@
 mod common;
 
 use common::{folder, options, records, shown};
+use std::path::PathBuf;
 use std::time::{Duration, Instant};
 use zorambi::{
     check_model, check_model_texts, check_texts, read_proof, read_schema, write_model, write_proof, write_schema,
@@ -22,6 +23,9 @@ use zorambi_show::{bounds, show, Names, Notation, Style};
 
 const SIGNS: &str = "∧∨¬⋀⋁→↔⊕≥≤├─└│▲";
 
+/// Columns of a word that has a line of its own: 40 bytes of a text that an explanation quotes, each as \x1b.
+const QUOTED: usize = 170;
+
 /// Shows it in both notations; only plain text comes out, in lines that are not long, and it is soon done.
 fn is_shown(given: &[(&str, &[u8])], rng: &mut Rng) -> String {
     let begun = Instant::now();
@@ -32,7 +36,7 @@ fn is_shown(given: &[(&str, &[u8])], rng: &mut Rng) -> String {
     let ascii = shown(given, &options(Style::Ascii, with_sets, width)).text;
     assert!(ascii.bytes().all(|byte| byte == b'\n' || (b' '..=b'~').contains(&byte)), "{ascii}");
     let longest = unicode.lines().chain(ascii.lines()).map(|line| line.chars().count()).max().unwrap_or(0);
-    assert!(longest <= width + 40, "{longest} columns of {width}: {unicode}");
+    assert!(longest <= (width + 40).max(QUOTED), "{longest} columns of {width}: {unicode}");
     assert!(begun.elapsed() < Duration::from_secs(10), "{:?}", begun.elapsed());
     unicode
 }
@@ -143,11 +147,12 @@ fn damaged_records() {
 fn damaged_models_and_wide_schemata() {
     let mut rng = Rng::new(3);
     let folders = records();
-    let with = |name: &str| {
-        folders.iter().filter(|(_, path)| path.join(name).exists()).map(|(_, path)| path).collect::<Vec<_>>()
+    let with = |names: [&str; 2]| {
+        let have_both = |path: &&PathBuf| names.iter().all(|name| path.join(name).exists());
+        folders.iter().map(|(_, path)| path).filter(have_both).collect::<Vec<_>>()
     };
     for (name, other) in [("model.txt", "schema.txt"), ("wide.txt", "schema.txt")] {
-        let with = with(name);
+        let with = with([name, other]);
         assert!(with.len() >= 3, "{name}");
         for path in with {
             let texts = [name, other].map(|name| std::fs::read(path.join(name)).unwrap());

@@ -5,7 +5,7 @@ mod common;
 
 use common::{options, project, records};
 use std::fs;
-use std::path::Path;
+use std::path::{Path, PathBuf};
 use zorambi_show::{show, Options, Style, Texts};
 
 /// The records that are also stored in plain letters, with sets, in 80 columns.
@@ -16,6 +16,11 @@ const PLAIN_TOO: [&str; 5] = [
     "tidy/rows_twice",
     "wide/comparator_equal",
 ];
+
+/// The records whose text is stored. Those by number are for explanations, and are read in `tests/explain`.
+fn stored_records() -> Vec<(String, PathBuf)> {
+    records().into_iter().filter(|(name, _)| !name.starts_with("by_number/")).collect()
+}
 
 fn differences(name: &str, folder: &Path) -> Vec<String> {
     let stored = project().join("tools/show/tests/stored");
@@ -44,7 +49,7 @@ fn differences(name: &str, folder: &Path) -> Vec<String> {
 
 #[test]
 fn every_record_as_it_is_stored() {
-    let records = records();
+    let records = stored_records();
     assert!(records.len() >= 33, "only {} records", records.len());
     let differences: Vec<String> = records.iter().flat_map(|(name, folder)| differences(name, folder)).collect();
     assert!(differences.is_empty(), "{differences:#?}");
@@ -52,7 +57,7 @@ fn every_record_as_it_is_stored() {
 
 #[test]
 fn nothing_is_stored_of_a_record_that_is_gone() {
-    let names: Vec<String> = records().iter().map(|(name, _)| name.replace('/', "-")).collect();
+    let names: Vec<String> = stored_records().iter().map(|(name, _)| name.replace('/', "-")).collect();
     for entry in fs::read_dir(project().join("tools/show/tests/stored")).unwrap() {
         let file = entry.unwrap().file_name().into_string().unwrap();
         let name = file.split('.').next().unwrap();
@@ -82,7 +87,7 @@ fn the_papers_record_is_drawn_as_in_the_tour() {
 fn an_older_record_is_judged_as_one() {
     let texts = Texts::load(&project().join("records/tidy/rows_twice"), false);
     let present = options(Style::Unicode, false, 100);
-    assert!(show(&texts, &present).text.contains("\n  ▲ refused: a proof row written twice: it repeats row 0 (27)\n"));
+    assert!(show(&texts, &present).text.contains("\n  ▲ refused: a proof row written twice (27)\n"));
     let older = show(&texts, &Options { is_older: true, ..present }).text;
     assert!(older.ends_with("\naccepted: 8 nodes, 1 link\n") && !older.contains('▲'), "{older}");
 }

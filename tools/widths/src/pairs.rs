@@ -1,6 +1,6 @@
 //! The pairs that occur in a schema at n, numbered from 0 in ascending order.
 
-use zorambi::{details, Pair, Schema};
+use zorambi::{occurring_ranges, Pair, Schema};
 
 /// As ranges of indices, so that a symbol at thousands of indices takes no more room than at one.
 #[derive(Debug)]
@@ -23,7 +23,7 @@ impl Pairs {
     pub fn occurring(schema: &Schema, n: i32) -> Pairs {
         let mut count = 0;
         let mut ranges = Vec::new();
-        for (symbol, [first, last]) in details::occurring_ranges(schema, n) {
+        for (symbol, [first, last]) in occurring_ranges(schema, n) {
             ranges.push(Range { symbol, first, last, before: count });
             count += (last - first + 1) as usize;
         }

@@ -6,10 +6,9 @@ use std::io::{self, IsTerminal};
 use std::path::Path;
 use zorambi::files::{enter, load, Loaded};
 use zorambi::words::Known;
-use zorambi::{
-    details, json_string, read_model, read_proof, read_schema, shown, shown_name, Record, Refused, Verdict, MAX_TEXT,
-};
+use zorambi::{json_string, shown, shown_name, Refused, Verdict, MAX_TEXT};
 use zorambi_commands::Given;
+use zorambi_explain::{Sort, Text, Voice, Why};
 
 pub fn check(given: &Given) -> Result<Ended, Stop> {
     if given.has("--older") {
@@ -71,36 +70,34 @@ impl Judged {
             Some(fault) => Some(line_shown(fault.file, fault.line, fault.bytes)),
             None => Some(shown(&self.printed.said)),
         };
-        let detail = self.detail(refused);
         let line = fault.map(|fault| fault.bytes);
-        Told::new(refused, &Known { file, unread, line, growing: false, detail: detail.as_deref() }, below)
+        Told::new(refused, &Known { file, unread, line, growing: false }, Some(self.why(refused)), below)
     }
 
-    fn detail(&self, refused: Refused) -> Option<String> {
-        let schema = read_schema(&self.texts[0].bytes).ok()?;
-        if self.files[1] == "model.txt" {
-            return details::of_model(refused, &schema, &read_model(&self.texts[1].bytes).ok()?);
-        }
-        details::of_check(refused, &Record { schema, proof: read_proof(&self.texts[1].bytes).ok()? })
+    fn why(&self, refused: Refused) -> Why {
+        let second = if self.files[1] == "model.txt" { Sort::Model } else { Sort::Proof };
+        let [schema, other] = &self.texts;
+        let texts = [Text::new(Sort::Schema, schema), Text::new(second, other)];
+        zorambi_explain::texts(texts, refused, &Voice::default())
     }
 
     /// The object of --json.
     fn object(&self, folder: &str, check: &str) -> String {
         let string = |text: &str| json_string(text);
         let or_null = |value: Option<String>| value.unwrap_or_else(|| "null".to_string());
-        let (verdict, numbers, words) = match self.printed.verdict {
-            Verdict::Accepted { nodes, links } => ("accepted", [0, 0, nodes as i64, links as i64], None),
+        let (verdict, numbers, words, why) = match self.printed.verdict {
+            Verdict::Accepted { nodes, links } => ("accepted", [0, 0, nodes as i64, links as i64], None, None),
             Verdict::Refused { refusal, place } => {
-                let words = self.told(Refused { refusal, place }).about;
+                let told = self.told(Refused { refusal, place });
                 let place = place.map_or(-1, |place| place as i64);
-                ("refused", [i64::from(refusal.number()), place, 0, 0], Some(words))
+                ("refused", [i64::from(refusal.number()), place, 0, 0], Some(told.about), told.why)
             }
         };
         let fault = self.printed.fault(self.files).filter(|_| words.is_some());
         let [answer, place, nodes, links] = numbers;
         format!(
             "{{\"record\":{},\"verdict\":{},\"answer\":{answer},\"place\":{place},\"nodes\":{nodes},\"links\":{links},\
-             \"refusal\":{},\"file\":{},\"line\":{},\"text\":{},\"check\":{}}}\n",
+             \"refusal\":{},\"file\":{},\"line\":{},\"text\":{},\"check\":{},\"why\":{}}}\n",
             string(folder),
             string(verdict),
             or_null(words.as_deref().map(string)),
@@ -108,6 +105,7 @@ impl Judged {
             or_null(fault.as_ref().map(|fault| fault.line.to_string())),
             or_null(fault.as_ref().map(|fault| string(&shown(fault.bytes)))),
             string(check),
+            or_null(why.as_deref().map(string)),
         )
     }
 }

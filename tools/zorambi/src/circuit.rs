@@ -3,8 +3,8 @@
 use crate::end::{unprinted, Ended, Stop};
 use crate::texts::{number, Text};
 use std::io::{self, BufWriter, StdoutLock, Write};
-use zorambi::details;
 use zorambi_commands::Given;
+use zorambi_explain::Sort;
 use zorambi_widths::{dimacs, verilog, Circuit};
 
 pub fn dimacs(given: &Given) -> Result<Ended, Stop> {
@@ -21,7 +21,7 @@ fn print(
     write: fn(&Circuit, &mut BufWriter<StdoutLock<'static>>) -> io::Result<()>,
 ) -> Result<Ended, Stop> {
     let n = number(&given.names[1])?;
-    let text = Text::load(&given.names[0], "schema.txt", given.has("--follow"))?;
+    let text = Text::load(&given.names[0], Sort::Schema, given.has("--follow"))?;
     let circuit = circuit(&text, n).map_err(Stop::aside)?;
     let mut out = BufWriter::new(io::stdout().lock());
     write(&circuit, &mut out).and_then(|()| out.flush()).map_err(unprinted)?;
@@ -30,6 +30,5 @@ fn print(
 
 fn circuit(text: &Text, n: i32) -> Result<Circuit, Stop> {
     let schema = text.schema()?;
-    Circuit::of(&schema, n)
-        .map_err(|refused| text.refused_row(refused, details::of_find(refused, &schema, n).as_deref()))
+    Circuit::of(&schema, n).map_err(|refused| text.refused_at(&schema, n, refused))
 }

@@ -1,8 +1,9 @@
 //! What a command ends with.
 
 use std::io::{self, IsTerminal, Write};
-use zorambi::words::{about, advice, told, Known};
+use zorambi::words::{about, advice, because, told, Known};
 use zorambi::{shown, Refused};
+use zorambi_explain::Why;
 
 /// Success, or a verdict: what is printed and what is said.
 #[derive(Default)]
@@ -28,6 +29,8 @@ pub struct Told {
     pub about: String,
     /// The whole in one line.
     words: String,
+    /// Why, in one sentence.
+    pub why: Option<String>,
     /// What stands below: the line at fault, and whose it is.
     pub below: Vec<String>,
     /// Its two lines go to standard error, since standard output is for a text.
@@ -50,9 +53,9 @@ impl Ended {
 }
 
 impl Stop {
-    /// A refusal told as closely as it is known, with a line below.
-    pub fn refused(refused: Refused, known: &Known, below: Option<String>) -> Stop {
-        Stop::Refused(Box::new(Told::new(refused, known, below)))
+    /// A refusal told as closely as it is known, why, and a line below.
+    pub fn refused(refused: Refused, known: &Known, why: Option<Why>, below: Option<String>) -> Stop {
+        Stop::Refused(Box::new(Told::new(refused, known, why, below)))
     }
 
     /// With the two lines of a refusal on standard error.
@@ -81,16 +84,19 @@ impl Stop {
 }
 
 impl Told {
-    pub fn new(refused: Refused, known: &Known, below: Option<String>) -> Told {
+    pub fn new(refused: Refused, known: &Known, why: Option<Why>, below: Option<String>) -> Told {
         let (about, words) = (about(refused, known), told(refused, known));
-        Told { refused, about, words, below: below.into_iter().collect(), aside: false }
+        let why = why.map(|why| why.line);
+        Told { refused, about, words, why, below: below.into_iter().collect(), aside: false }
     }
 
     /// Why it was refused, the line at fault, and what to do about it.
     pub fn said(&self) -> String {
         let words = coloured(RED, &self.words, io::stderr().is_terminal());
+        let why = self.why.as_ref().map(|why| because(self.refused, why));
         let advice = advice(self.refused.refusal);
-        let lines = [&words[..]].into_iter().chain(self.below.iter().map(String::as_str)).chain(advice);
+        let lines = [&words[..]].into_iter().chain(why.as_deref());
+        let lines = lines.chain(self.below.iter().map(String::as_str)).chain(advice);
         lines.map(|line| format!("{line}\n")).collect()
     }
 }

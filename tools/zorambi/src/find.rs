@@ -3,12 +3,13 @@
 use crate::end::{Ended, Stop};
 use crate::texts::{number, Text};
 use zorambi::words::Known;
-use zorambi::{details, find_model, json_string, shown_name, write_model, Model};
+use zorambi::{find_model, json_string, shown_name, write_model, Model};
 use zorambi_commands::Given;
+use zorambi_explain::Sort;
 
 pub fn find(given: &Given) -> Result<Ended, Stop> {
     let n = number(&given.names[1])?;
-    let text = Text::load(&given.names[0], "schema.txt", given.has("--follow"))?;
+    let text = Text::load(&given.names[0], Sort::Schema, given.has("--follow"))?;
     let found = found(&text, n);
     if let Err(Stop::Wrong(_) | Stop::Unread) = found {
         return found.map(|_| Ended::default());
@@ -24,7 +25,7 @@ pub fn find(given: &Given) -> Result<Ended, Stop> {
     match found? {
         None => Ok(Ended::printed("none\n")),
         Some(model) => {
-            let text = write_model(&model).map_err(|refused| Stop::refused(refused, &Known::default(), None))?;
+            let text = write_model(&model).map_err(|refused| Stop::refused(refused, &Known::default(), None, None))?;
             Ok(Ended::printed(text))
         }
     }
@@ -32,8 +33,7 @@ pub fn find(given: &Given) -> Result<Ended, Stop> {
 
 fn found(text: &Text, n: i32) -> Result<Option<Model>, Stop> {
     let schema = text.schema()?;
-    find_model(&schema, n)
-        .map_err(|refused| text.refused_row(refused, details::of_find(refused, &schema, n).as_deref()))
+    find_model(&schema, n).map_err(|refused| text.refused_at(&schema, n, refused))
 }
 
 /// The object of --json.
@@ -47,15 +47,16 @@ fn object(folder: &str, n: i32, found: Result<Option<Model>, Stop>) -> String {
         Err(Stop::Refused(told)) => ("null", "null".to_string(), Some(told)),
         Err(_) => ("null", "null".to_string(), None),
     };
-    let (answer, place, words) = match refusal {
-        None => (0, 0, "null".to_string()),
+    let (answer, place, words, why) = match refusal {
+        None => (0, 0, "null".to_string(), "null".to_string()),
         Some(told) => {
             let place = told.refused.place.map_or(-1, |place| place as i64);
-            (told.refused.refusal.number(), place, json_string(&told.about))
+            let why = told.why.as_deref().map_or("null".to_string(), json_string);
+            (told.refused.refusal.number(), place, json_string(&told.about), why)
         }
     };
     format!(
-        "{{\"record\":{},\"n\":{n},\"found\":{is_found},\"pairs\":{pairs},\"answer\":{answer},\"place\":{place},\"refusal\":{words}}}\n",
+        "{{\"record\":{},\"n\":{n},\"found\":{is_found},\"pairs\":{pairs},\"answer\":{answer},\"place\":{place},\"refusal\":{words},\"why\":{why}}}\n",
         json_string(folder)
     )
 }

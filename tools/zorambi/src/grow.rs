@@ -9,10 +9,9 @@ use std::io::{self, BufRead, IsTerminal, Read, Write};
 use std::os::unix::ffi::OsStrExt;
 use std::path::Path;
 use zorambi::words::{counted, told, Known, RULES};
-use zorambi::{
-    check_fault, details, read_proof, shown, write_proof, Growing, Proof, Record, Refused, Standing, MAX_TEXT,
-};
+use zorambi::{check_fault, read_proof, shown, write_proof, Growing, Proof, Record, Refused, Standing, MAX_TEXT};
 use zorambi_commands::{nearest, Given};
+use zorambi_explain::{Sort, Tables, Voice, Why};
 
 /// A proof text without rows.
 const HEADINGS: &[u8] = b"kind a b c\nup rule on with other to by set\n";
@@ -46,18 +45,34 @@ pub fn grow(given: &Given) -> Result<Ended, Stop> {
 
 /// What DIR holds: the schema and, if there is one, the proof, its nodes added row by row; and the proof itself.
 fn begun(folder: &OsStr, follow: bool) -> Result<(Growing, Proof), Stop> {
-    let texts = [Text::load(folder, "schema.txt", follow)?, Text::load_or(HEADINGS, folder, "proof.txt", follow)?];
+    let texts = [Text::load(folder, Sort::Schema, follow)?, Text::load_or(HEADINGS, folder, Sort::Proof, follow)?];
     let record = Text::record(&texts)?;
     let Record { schema, proof } = record.clone();
     let row_count = proof.rows.len();
     let mut growing = Growing::begin(schema, proof.rows.clone()).map_err(|refused| {
-        Text::refused_by(check_fault, &texts, refused, details::of_check(refused, &record).as_deref())
+        let why = zorambi_explain::check(&Tables::from(&record), refused, &Voice::default());
+        Text::refused_by(check_fault, &texts, refused, Some(why))
     })?;
     for (number, node) in proof.nodes.iter().enumerate() {
         let (row, set) = row_of(node, &proof.members);
-        growing.add(row, set).map_err(|refused| texts[1].refused_node(refused, row_count, number))?;
+        growing.add(row, set).map_err(|refused| {
+            let why = why_not(&growing, row, set, refused);
+            texts[1].refused_node(refused, row_count, number, why)
+        })?;
     }
     Ok((growing, proof))
+}
+
+/// Why a row is refused while a tableau grows.
+fn why_not(growing: &Growing, row: [i32; 7], set: &[i32], refused: Refused) -> Why {
+    let mut held = growing.record();
+    match refused.refusal.number() {
+        24..=26 => zorambi_explain::grow(&held, set.len(), refused),
+        _ => {
+            held.proof.push_node(row, set);
+            zorambi_explain::growing(&Tables::from(&held), refused, &Voice::default())
+        }
+    }
 }
 
 /// A node that was read, as a row and its set.
@@ -95,8 +110,8 @@ impl Session {
     fn answer(&mut self, line: &[u8]) -> String {
         match line {
             b"" => self.held(),
-            b"back" => self.told(Growing::take_back, None),
-            b"commit" => self.told(Growing::commit, None),
+            b"back" => self.word(Growing::take_back),
+            b"commit" => self.word(Growing::commit),
             b"rows" => self.rows(),
             b"open" => self.open(),
             b"help" => LINES.trim_end().to_string(),
@@ -121,17 +136,22 @@ impl Session {
         coloured(RED, &said, self.in_colour)
     }
 
-    /// What is said of a call: the numbers and the state, and why it was refused. The line is the row's own.
-    fn told(&mut self, call: impl FnOnce(&mut Growing) -> Result<Standing, Refused>, line: Option<&[u8]>) -> String {
+    /// What is said of a word: the numbers and the state, and why it was refused.
+    fn word(&mut self, call: impl FnOnce(&mut Growing) -> Result<Standing, Refused>) -> String {
         match call(&mut self.growing) {
             Ok(now) => self.stands(now),
-            Err(refused) => self.refused(refused, line),
+            Err(refused) => {
+                let why = zorambi_explain::grow(&self.growing.record(), 0, refused);
+                self.refused(refused, None, Some(&why))
+            }
         }
     }
 
-    fn refused(&self, refused: Refused, line: Option<&[u8]>) -> String {
+    /// The line is the row's own.
+    fn refused(&self, refused: Refused, line: Option<&[u8]>, why: Option<&Why>) -> String {
         let place = refused.place.map_or(-1, |place| place as i64);
         let words = told(refused, &Known { line, growing: true, ..Known::default() });
+        let words = why.map_or(words.clone(), |why| format!("{words}: {}", why.line));
         let state = self.state(self.growing.standing());
         format!("{} {place} 0 0 {state} {}", refused.refusal.number(), coloured(RED, &words, self.in_colour))
     }
@@ -160,11 +180,18 @@ impl Session {
             // Place 0 is the whole text, one too long.
             Err(Refused { refusal, place }) => {
                 let place = place.filter(|place| *place > 0).map(|_| self.line).or(place);
-                self.refused(Refused { refusal, place }, None)
+                let refused = Refused { refusal, place };
+                self.refused(refused, None, zorambi_explain::row(line, self.line, refused).as_ref())
             }
             Ok(proof) => {
                 let (row, set) = row_of(&proof.nodes[0], &proof.members);
-                self.told(|growing| call(growing, row, set), Some(line))
+                match call(&mut self.growing, row, set) {
+                    Ok(now) => self.stands(now),
+                    Err(refused) => {
+                        let why = why_not(&self.growing, row, set, refused);
+                        self.refused(refused, Some(line), Some(&why))
+                    }
+                }
             }
         }
     }
@@ -211,7 +238,11 @@ impl Session {
         let name = shown(file.as_bytes());
         let proof = self.growing.record().proof;
         let why = match write_proof(&proof).map(|text| write_new(Path::new(file), &text)) {
-            Err(refused) => return self.refused(refused, None),
+            Err(refused) => {
+                let held = self.growing.record();
+                let why = zorambi_explain::write_proof(&Tables::from(&held), MAX_TEXT, refused);
+                return self.refused(refused, None, Some(&why));
+            }
             Ok(Ok(())) => {
                 self.saved = proof;
                 return format!("saved {name}");

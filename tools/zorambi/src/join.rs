@@ -5,8 +5,9 @@ use crate::out::Out;
 use crate::texts::Text;
 use std::ffi::OsString;
 use zorambi::words::Known;
-use zorambi::{check_fault, details, write_proof, write_schema, Record, Refused, Verdict};
+use zorambi::{check_fault, write_proof, write_schema, Record, Refused, Verdict, MAX_TEXT};
 use zorambi_commands::Given;
+use zorambi_explain::{Sort, Tables, Voice, Why};
 
 pub fn join(given: &Given) -> Result<Ended, Stop> {
     let [first, second, out] = [0, 1, 2].map(|at| &given.names[at]);
@@ -17,23 +18,30 @@ fn join_records(first: &OsString, second: &OsString, out: &OsString, follow: boo
     let out = Out::named(out)?;
     let first = accepted("first", first, follow)?;
     let second = accepted("second", second, follow)?;
-    let Record { schema, proof } = zorambi::join(&first, &second).map_err(|refused| {
-        let detail = details::of_join(refused, &first, &second);
-        Stop::refused(refused, &Known { detail: detail.as_deref(), ..Known::default() }, None)
+    let joined = zorambi::join(&first, &second).map_err(|refused| {
+        let why = zorambi_explain::join(&first, &second, refused);
+        Stop::refused(refused, &Known::default(), Some(why), None)
     })?;
-    out.write(&[text("schema.txt", write_schema(&schema))?, text("proof.txt", write_proof(&proof))?])
+    let Record { schema, proof } = &joined;
+    let schema_why = |refused| zorambi_explain::write_schema(&schema.into(), MAX_TEXT, refused);
+    let proof_why = |refused| zorambi_explain::write_proof(&Tables::from(&joined), MAX_TEXT, refused);
+    out.write(&[
+        text("schema.txt", write_schema(schema), schema_why)?,
+        text("proof.txt", write_proof(proof), proof_why)?,
+    ])
 }
 
 /// The record in a folder, which the check accepts.
 fn accepted(which: &str, folder: &OsString, follow: bool) -> Result<Record, Stop> {
-    let texts = [Text::of(folder, "schema.txt", follow)?, Text::of(folder, "proof.txt", follow)?];
+    let texts = [Text::of(folder, Sort::Schema, follow)?, Text::of(folder, Sort::Proof, follow)?];
     let checked = || {
         let record = Text::record(&texts)?;
         match zorambi::check(&record) {
             Verdict::Accepted { .. } => Ok(record),
             Verdict::Refused { refusal, place } => {
                 let refused = Refused { refusal, place };
-                Err(Text::refused_by(check_fault, &texts, refused, details::of_check(refused, &record).as_deref()))
+                let why = zorambi_explain::check(&Tables::from(&record), refused, &Voice::default());
+                Err(Text::refused_by(check_fault, &texts, refused, Some(why)))
             }
         }
     };
@@ -47,9 +55,14 @@ fn accepted(which: &str, folder: &OsString, follow: bool) -> Result<Record, Stop
 
 /// A text of the join with its name. What the check accepts has no number that a text cannot have, but the text may come
 /// to be too long.
-fn text(name: &'static str, written: Result<Vec<u8>, Refused>) -> Result<(&'static str, Vec<u8>), Stop> {
+fn text(
+    name: &'static str,
+    written: Result<Vec<u8>, Refused>,
+    why: impl Fn(Refused) -> Why,
+) -> Result<(&'static str, Vec<u8>), Stop> {
     let below = || Some(format!("{name} would have over 65,536 bytes"));
-    written.map(|bytes| (name, bytes)).map_err(|refused| Stop::refused(refused, &Known::default(), below()))
+    let told = |refused| Stop::refused(refused, &Known::default(), Some(why(refused)), below());
+    written.map(|bytes| (name, bytes)).map_err(told)
 }
 
 #[cfg(test)]

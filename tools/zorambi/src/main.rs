@@ -6,6 +6,7 @@ mod check;
 mod circuit;
 mod convert;
 mod end;
+mod explain;
 mod find;
 mod grow;
 mod join;
@@ -43,6 +44,7 @@ fn run(command: &Command, given: &Given) -> u8 {
         "show" => show::show,
         "catalogue" => return zorambi_catalogue::run(given),
         "merge" => return zorambi_catalogue::merge(given),
+        "explain" => explain::explain,
         "find" => find::find,
         "widths" => widths::widths,
         "dimacs" => circuit::dimacs,

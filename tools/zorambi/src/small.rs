@@ -7,8 +7,10 @@ use zorambi::{write_schema, Refused};
 use zorambi_commands::Given;
 
 pub fn small(given: &Given) -> Result<Ended, Stop> {
-    let refused = |refused: Refused| Stop::refused(refused, &Known::default(), None).aside();
     let rows = usize::try_from(number(&given.names[0])?).map_err(|_| Stop::Wrong("rows below 0".to_string()))?;
+    let refused = |refused: Refused| {
+        Stop::refused(refused, &Known::default(), Some(zorambi_explain::small_rows(rows)), None).aside()
+    };
     let schemata = zorambi::small(rows).map_err(refused)?;
     if given.has("--count") {
         return Ok(Ended::printed(format!("{}\n", schemata.count())));

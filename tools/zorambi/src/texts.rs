@@ -6,6 +6,7 @@ use std::path::Path;
 use zorambi::files::{enter, load, Loaded, Unread};
 use zorambi::words::Known;
 use zorambi::{read_proof, read_schema, shown_name, Proof, Record, Refused, Schema};
+use zorambi_explain::{Sort, Voice, Why};
 
 /// The text and the line that a refusal of a schema text and a proof text points to.
 pub type Fault = fn(&[u8], &[u8]) -> Option<(zorambi::Text, usize)>;
@@ -13,21 +14,21 @@ pub type Fault = fn(&[u8], &[u8]) -> Option<(zorambi::Text, usize)>;
 /// A text, and its name as it is told; where there are several folders the name of its own is told too.
 pub struct Text {
     folder: String,
-    name: &'static str,
+    sort: Sort,
     text: Loaded,
 }
 
 impl Text {
-    /// The text of that name in a folder; one that cannot be read counts as empty.
-    pub fn load(folder: &OsStr, name: &'static str, follow: bool) -> Result<Text, Stop> {
+    /// The text of that sort in a folder; one that cannot be read counts as empty.
+    pub fn load(folder: &OsStr, sort: Sort, follow: bool) -> Result<Text, Stop> {
         let folder = Path::new(folder);
         enter(folder).map_err(|why| Stop::Wrong(why.to_string()))?;
-        Ok(Text { folder: String::new(), name, text: load(folder, name, follow) })
+        Ok(Text { folder: String::new(), sort, text: load(folder, sort.file(), follow) })
     }
 
     /// The same, and another one if there is no such file.
-    pub fn load_or(other: &[u8], folder: &OsStr, name: &'static str, follow: bool) -> Result<Text, Stop> {
-        let mut text = Text::load(folder, name, follow)?;
+    pub fn load_or(other: &[u8], folder: &OsStr, sort: Sort, follow: bool) -> Result<Text, Stop> {
+        let mut text = Text::load(folder, sort, follow)?;
         if matches!(text.text.unread, Some(Unread::Missing)) {
             text.text = Loaded { bytes: other.to_vec(), unread: None };
         }
@@ -35,9 +36,9 @@ impl Text {
     }
 
     /// The same in one of several folders.
-    pub fn of(folder: &OsStr, name: &'static str, follow: bool) -> Result<Text, Stop> {
+    pub fn of(folder: &OsStr, sort: Sort, follow: bool) -> Result<Text, Stop> {
         let told = shown_name(Path::new(folder).join(""));
-        Ok(Text { folder: told, ..Text::load(folder, name, follow)? })
+        Ok(Text { folder: told, ..Text::load(folder, sort, follow)? })
     }
 
     pub fn bytes(&self) -> &[u8] {
@@ -60,50 +61,55 @@ impl Text {
     }
 
     /// A refusal of a record, at the line of its schema or its proof that the library points to.
-    pub fn refused_by(fault: Fault, [schema, proof]: &[Text; 2], refused: Refused, detail: Option<&str>) -> Stop {
+    pub fn refused_by(fault: Fault, [schema, proof]: &[Text; 2], refused: Refused, why: Option<Why>) -> Stop {
         match fault(&schema.text.bytes, &proof.text.bytes) {
-            None => schema.refused(refused, 0, detail),
-            Some((zorambi::Text::Schema, line)) => schema.refused(refused, line, detail),
-            Some((_, line)) => proof.refused(refused, line, detail),
+            None => schema.refused(refused, 0, why),
+            Some((zorambi::Text::Schema, line)) => schema.refused(refused, line, why),
+            Some((_, line)) => proof.refused(refused, line, why),
         }
     }
 
     /// A refusal in reading, whose place is a line from 1 on, or 0.
     fn unread(&self, refused: Refused) -> Stop {
-        self.refused(refused, refused.place.unwrap_or(0), None)
+        let why = zorambi_explain::text(&zorambi_explain::Text::new(self.sort, &self.text), refused);
+        self.refused(refused, refused.place.unwrap_or(0), Some(why))
     }
 
     /// A refusal of a schema's rows: row r is line 4 + r.
-    pub fn refused_row(&self, refused: Refused, detail: Option<&str>) -> Stop {
+    pub fn refused_row(&self, refused: Refused, why: Option<Why>) -> Stop {
         let at_row = refused.refusal.place_counts() == Some("row");
-        self.refused(refused, refused.place.filter(|_| at_row).map_or(0, |row| 4 + row), detail)
+        self.refused(refused, refused.place.filter(|_| at_row).map_or(0, |row| 4 + row), why)
+    }
+
+    /// A refusal of the schema that it is read as, or of this n.
+    pub fn refused_at(&self, schema: &Schema, n: i32, refused: Refused) -> Stop {
+        self.refused_row(refused, Some(zorambi_explain::find(&schema.into(), n, refused, &Voice::default())))
     }
 
     /// A refusal of a node row that a proof with this many formula rows has, while a tableau grows: node j is line 3 + rows + j.
-    pub fn refused_node(&self, refused: Refused, rows: usize, node: usize) -> Stop {
-        self.refused_as(refused, 3 + rows + node, None, true)
+    pub fn refused_node(&self, refused: Refused, rows: usize, node: usize, why: Why) -> Stop {
+        self.refused_as(refused, 3 + rows + node, Some(why), true)
     }
 
     /// A refusal at this line, which is none if it is 0.
-    fn refused(&self, refused: Refused, line: usize, detail: Option<&str>) -> Stop {
-        self.refused_as(refused, line, detail, false)
+    fn refused(&self, refused: Refused, line: usize, why: Option<Why>) -> Stop {
+        self.refused_as(refused, line, why, false)
     }
 
-    fn refused_as(&self, refused: Refused, line: usize, detail: Option<&str>, growing: bool) -> Stop {
+    fn refused_as(&self, refused: Refused, line: usize, why: Option<Why>, growing: bool) -> Stop {
         let bytes = zorambi::line(&self.text.bytes, line);
         let known = Known {
-            file: Some(self.name),
+            file: Some(self.sort.file()),
             unread: self.text.unread.as_ref(),
             line: (line > 0).then_some(bytes),
             growing,
-            detail,
         };
         let below = match line {
             0 => Some(self.folder.clone()),
             _ if known.unread.is_some() => Some(self.folder.clone()),
-            line => Some(line_shown(&format!("{}{}", self.folder, self.name), line, bytes)),
+            line => Some(line_shown(&format!("{}{}", self.folder, self.sort.file()), line, bytes)),
         };
-        Stop::refused(refused, &known, below.filter(|below| !below.is_empty()))
+        Stop::refused(refused, &known, why, below.filter(|below| !below.is_empty()))
     }
 }
 

@@ -7,16 +7,20 @@ use crate::texts::Text;
 use zorambi::words::Known;
 use zorambi::{check_older_fault, write_proof};
 use zorambi_commands::Given;
+use zorambi_explain::{Sort, Tables, Voice};
 
 pub fn tidy(given: &Given) -> Result<Ended, Stop> {
     let out = given.names.get(1).map(Out::named).transpose()?;
     let follow = given.has("--follow");
-    let load = |name| Text::load(&given.names[0], name, follow);
-    let texts = [load("schema.txt")?, load("proof.txt")?];
+    let load = |sort| Text::load(&given.names[0], sort, follow);
+    let texts = [load(Sort::Schema)?, load(Sort::Proof)?];
     let tidied = || {
-        let tidied = zorambi::tidy(&Text::record(&texts)?)
-            .map_err(|refused| Text::refused_by(check_older_fault, &texts, refused, None))?;
-        write_proof(&tidied).map_err(|refused| Stop::refused(refused, &Known::default(), None))
+        let record = Text::record(&texts)?;
+        let tidied = zorambi::tidy(&record).map_err(|refused| {
+            let why = zorambi_explain::check(&Tables::from(&record), refused, &Voice::default());
+            Text::refused_by(check_older_fault, &texts, refused, Some(why))
+        })?;
+        write_proof(&tidied).map_err(|refused| Stop::refused(refused, &Known::default(), None, None))
     };
     match out {
         None => tidied().map(Ended::printed).map_err(Stop::aside),

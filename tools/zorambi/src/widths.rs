@@ -9,8 +9,9 @@ use std::fs;
 use std::io::ErrorKind;
 use std::path::{Path, PathBuf};
 use zorambi::words::Known;
-use zorambi::{details, json_string, shown_name, write_model, Model, Schema};
+use zorambi::{json_string, shown_name, write_model, Model, Schema};
 use zorambi_commands::Given;
+use zorambi_explain::Sort;
 use zorambi_widths::circuit::judge;
 use zorambi_widths::{solver, Finding, Solver, Stopped};
 
@@ -25,7 +26,7 @@ pub fn widths(given: &Given) -> Result<Ended, Stop> {
         Some(command) => Solver::named(command),
         None => Solver::installed(),
     };
-    let text = Text::load(&given.names[0], "schema.txt", given.has("--follow"))?;
+    let text = Text::load(&given.names[0], Sort::Schema, given.has("--follow"))?;
     let lines = Lines { record: shown_name(&given.names[0]), json: given.has("--json"), quiet: given.has("--quiet") };
     let schema = match judged(&text, [from, to]) {
         Ok(schema) => schema,
@@ -50,8 +51,7 @@ pub fn widths(given: &Given) -> Result<Ended, Stop> {
 fn judged(text: &Text, widths: [i32; 2]) -> Result<Schema, Stop> {
     let schema = text.schema()?;
     for n in widths {
-        judge(&schema, n)
-            .map_err(|refused| text.refused_row(refused, details::of_find(refused, &schema, n).as_deref()))?;
+        judge(&schema, n).map_err(|refused| text.refused_at(&schema, n, refused))?;
     }
     Ok(schema)
 }
@@ -60,14 +60,14 @@ fn judged(text: &Text, widths: [i32; 2]) -> Result<Schema, Stop> {
 fn find(schema: &Schema, n: i32, solver: &Solver) -> Result<Finding, Stop> {
     let private = Private::with(&solver::FILES.map(|name| (name, &b""[..])))?;
     Finding::of(schema, n, solver, &private.folder, &ends).map_err(|stopped| match stopped {
-        Stopped::Refused(refused) => Stop::refused(refused, &Known::default(), None),
+        Stopped::Refused(refused) => Stop::refused(refused, &Known::default(), None, None),
         Stopped::Failed(why) => Stop::Wrong(format!("n = {n}: {why}")),
     })
 }
 
 /// Writes a model into the folder, as a folder with its schema that `zorambi model` takes.
 fn write(folder: &Path, schema: &Text, model: &Model) -> Result<(), Stop> {
-    let text = write_model(model).map_err(|refused| Stop::refused(refused, &Known::default(), None))?;
+    let text = write_model(model).map_err(|refused| Stop::refused(refused, &Known::default(), None, None))?;
     match fs::create_dir(folder) {
         Err(error) if error.kind() != ErrorKind::AlreadyExists => {
             return Err(Stop::Wrong(format!("{}: {error}", shown_name(folder))));

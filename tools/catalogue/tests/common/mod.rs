@@ -15,7 +15,8 @@ pub const PROOF: &str = "kind a b c\n7 0 2 1\n2 0 1 0\n6 1 2 1\n3 0 1 0\nup rule
 pub const ACCEPTED: &str = "accepted: 7 nodes, 1 link";
 /// With node 5 linking by 2.
 pub const BOUND: &str = "refused: a link's bounds: n - by may lie outside its target's (14) at node 5: \
-                         proof.txt:12: 4 8 -1 -1 -1 1 2 5 7";
+                         proof.txt:12: 4 8 -1 -1 -1 1 2 5 7; \
+                         node 5 knows n >= 2, so n - 2 may be 0; its target, node 1, knows n >= 1";
 
 /// The paper's proof with node 5 linking by 2.
 pub fn by_two() -> String {

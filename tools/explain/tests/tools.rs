@@ -1,18 +1,38 @@
-//! What is told of some refusals beside the library: a limit is told exactly where the library turns away for it, and the numbers are
-//! those that 01 and 02 give.
+//! What is told of the tools' own refusals: a limit is told exactly where the library turns away for it, and the numbers are those that
+//! 01 and 02 give.
 
-use zorambi::details::{occurring, of_check, of_convert, of_find, of_join, of_model, repeats};
-use zorambi::{check, convert, find_model, join, Model, Proof, Record, Refusal, Refused, Row, Schema, Verdict};
-
-mod common;
+use zorambi::{
+    check, check_model, convert, join, read_proof, read_schema, Model, Proof, Record, Refusal, Refused, Row, Schema,
+    Verdict,
+};
+use zorambi_explain::{Tables, Voice, Why};
 
 fn refused(refusal: Refusal) -> Refused {
     Refused { refusal, place: None }
 }
 
-/// The paper's schema with this root.
-fn paper(root: i32) -> Schema {
-    Schema { root, least: 1, rows: vec![[2, 0, 2, 0], [3, 0, 2, 0], [7, 0, 2, 0], [6, 1, 2, 0], [4, 2, 3, 0]] }
+/// The sentence, if a reason is found.
+fn found(why: Why) -> Option<String> {
+    why.found.then_some(why.line)
+}
+
+fn of_convert(refused: Refused, wide: &Schema) -> Option<String> {
+    found(zorambi_explain::convert(&wide.into(), refused, &Voice::default()))
+}
+
+fn of_join(refused: Refused, first: &Record, second: &Record) -> Option<String> {
+    found(zorambi_explain::join(first, second, refused))
+}
+
+fn of_check(refused: Refused, record: &Record) -> Option<String> {
+    found(zorambi_explain::check(&Tables::from(record), refused, &Voice::default()))
+}
+
+/// The record of the paper.
+fn paper() -> Record {
+    let folder = std::path::Path::new(env!("CARGO_MANIFEST_DIR")).join("../../records/paper/some_and_none");
+    let text = |name: &str| std::fs::read(folder.join(name)).unwrap();
+    Record { schema: read_schema(&text("schema.txt")).unwrap(), proof: read_proof(&text("proof.txt")).unwrap() }
 }
 
 /// Numbers that follow from a seed.
@@ -23,61 +43,6 @@ impl Numbers {
         self.0 = self.0.wrapping_mul(6_364_136_223_846_793_005).wrapping_add(1_442_695_040_888_963_407);
         (self.0 >> 33) as i32 % limit
     }
-}
-
-#[test]
-fn pairs_that_occur() {
-    // Some p_i for i from 2 to n.
-    for (n, count) in [(1, 0), (2, 1), (3, 2), (17, 16), (18, 17), (9999, 9998)] {
-        assert_eq!(occurring(&paper(2), n), count, "{n}");
-    }
-    assert_eq!(of_find(refused(Refusal::Wires), &paper(2), 18).unwrap(), "17 occur at n = 18");
-    assert_eq!(of_find(refused(Refusal::Width), &paper(2), 0).unwrap(), "0 is not 1 to 9999");
-    assert_eq!(of_find(refused(Refusal::Root), &paper(2), 0), None);
-    // Both iterations name the same pairs; so do two literals that meet: p_(i + 1) from 1 to n and p_(n + 1), p_5.
-    assert_eq!(occurring(&paper(4), 18), 17);
-    let rows = vec![
-        [2, 0, 2, 1],
-        [6, 0, 1, 0],
-        [2, 0, 1, 1],
-        [2, 0, 0, 5],
-        [3, 1, 0, 5],
-        [5, 1, 2, 0],
-        [5, 3, 4, 0],
-        [4, 5, 6, 0],
-    ];
-    let schema = Schema { root: 7, least: 0, rows };
-    for (n, count) in [(0, 1 + 2), (1, 1 + 2), (3, 3 + 2), (4, 4 + 1), (10, 10 + 1)] {
-        assert_eq!(occurring(&schema, n), count, "{n}");
-    }
-}
-
-/// A well-formed schema of these many rows over literals, some of them on i.
-fn any_schema(numbers: &mut Numbers) -> Schema {
-    let mut rows: Vec<Row> = vec![[2, 0, 2, numbers.below(5) - 2], [3, 1, 2, numbers.below(5) - 2], [4, 0, 1, 0]];
-    for _ in 0..2 {
-        rows.push([6 + numbers.below(2), numbers.below(3), numbers.below(6) - 2, numbers.below(4) - 1]);
-    }
-    rows.push([2, numbers.below(2), 1, numbers.below(9) - 4]);
-    rows.push([3, numbers.below(2), 0, numbers.below(12)]);
-    for next in 7..10 {
-        rows.push([4 + numbers.below(2), 3 + numbers.below(next - 3), 3 + numbers.below(next - 3), 0]);
-    }
-    Schema { root: 9, least: 0, rows }
-}
-
-#[test]
-fn more_than_16_pairs_exactly_where_the_library_says_so() {
-    let mut numbers = Numbers(1);
-    let mut turned_away = 0;
-    for _ in 0..3000 {
-        let schema = any_schema(&mut numbers);
-        let n = numbers.below(14);
-        let many = find_model(&schema, n).is_err_and(|refused| refused.refusal == Refusal::Wires);
-        assert_eq!(occurring(&schema, n) > 16, many, "{schema:?} {n}");
-        turned_away += usize::from(many);
-    }
-    assert!((200..2800).contains(&turned_away), "{turned_away}");
 }
 
 #[test]
@@ -98,7 +63,7 @@ fn plain_limits_exactly_where_the_library_says_so() {
             Err(refused) if refused.refusal == Refusal::Plain => {
                 turned_away += 1;
                 let told = of_convert(refused, &wide).unwrap();
-                assert!(told.starts_with("what row ") && told.ends_with(", at most 4,096"), "{told}");
+                assert!(told.starts_with("wide row ") && told.ends_with(", 4,096 allowed"), "{told}");
             }
             other => {
                 // The limit of wide rows is told by another number.
@@ -115,7 +80,7 @@ fn plain_limits_exactly_where_the_library_says_so() {
     };
     assert!(convert(&many(170)).is_ok() && of_convert(refused(Refusal::Plain), &many(170)).is_none());
     let told = of_convert(convert(&many(171)).unwrap_err(), &many(171)).unwrap();
-    assert_eq!(told, "1,028 plain rows, at most 1,024");
+    assert_eq!(told, "its 172 wide rows come to 1,028 plain rows, 1,024 allowed");
     // A depth: each not or and is one deep in the wide, an equivalence two in the plain.
     let mut rows: Vec<Row> = vec![[2, 0, 1, 0]];
     rows.extend((0..40).map(|row| [4, row, row.min(0), 0]));
@@ -125,18 +90,26 @@ fn plain_limits_exactly_where_the_library_says_so() {
 
 #[test]
 fn the_row_that_is_repeated() {
-    let record = common::record(&common::shipped("paper/some_and_none"));
-    for (row, earlier) in [([2, 0, 2, 0], 0), ([4, 2, 3, 0], 4), ([7, 0, 2, 1], 5), ([3, 0, 1, 0], 8)] {
+    let record = paper();
+    for (row, earlier) in [
+        ([2, 0, 2, 0], "0 (schema.txt:4)"),
+        ([4, 2, 3, 0], "4 (schema.txt:8)"),
+        ([7, 0, 2, 1], "5 (proof.txt:2)"),
+        ([3, 0, 1, 0], "8 (proof.txt:5)"),
+    ] {
         let mut record = record.clone();
         record.proof.rows.push(row);
         let Verdict::Refused { refusal, place } = check(&record) else { panic!() };
         assert_eq!((refusal, place), (Refusal::Repeated, Some(9)));
-        assert_eq!(of_check(Refused { refusal, place }, &record).unwrap(), format!("it repeats row {earlier}"));
+        assert_eq!(of_check(Refused { refusal, place }, &record).unwrap(), format!("row 9 is row {earlier} again"));
     }
-    assert_eq!(repeats(&record, 8), None);
-    assert_eq!(repeats(&record, 9), None);
+    let none = of_check(Refused { refusal: Refusal::Repeated, place: Some(8) }, &record);
+    assert_eq!(none, None);
     let model = Model { n: 10_000, pairs: vec![] };
-    assert_eq!(of_model(refused(Refusal::Width), &record.schema, &model).unwrap(), "10000 is not 1 to 9999");
+    let Verdict::Refused { refusal, place } = check_model(&record.schema, &model) else { panic!() };
+    let refused = Refused { refusal, place };
+    let why = zorambi_explain::model(&(&record.schema).into(), model.n, (&[], 0), refused, &Voice::default());
+    assert_eq!(found(why).unwrap(), "n is 10000, over 9999: 1 too large");
 }
 
 /// False at once, with these schema rows after it and these proof rows.
@@ -164,14 +137,20 @@ fn joint_limits_exactly_where_the_library_says_so() {
     let first = tiny(&[], &rows(0, 600));
     assert_eq!(joint(&first, &tiny(&[], &rows(0, 600))), None);
     assert_eq!(joint(&first, &tiny(&[], &rows(600, 421))), None);
-    assert_eq!(joint(&first, &tiny(&[], &rows(600, 422))).unwrap(), "1,025 formula rows, at most 1,024");
+    assert_eq!(
+        joint(&first, &tiny(&[], &rows(600, 422))).unwrap(),
+        "the join would have 1,025 formula rows, 1,024 allowed"
+    );
     assert_eq!(joint(&first, &tiny(&[], &rows(500, 521))), None);
-    assert_eq!(joint(&first, &tiny(&[], &rows(500, 522))).unwrap(), "1,025 formula rows, at most 1,024");
+    assert_eq!(
+        joint(&first, &tiny(&[], &rows(500, 522))).unwrap(),
+        "the join would have 1,025 formula rows, 1,024 allowed"
+    );
     // Rows on other rows that are the same after renumbering, and proof rows that the other's schema has.
     let on = |from: i32| vec![[2, 0, 1, 1], [4, from, from, 0], [5, from + 1, from, 0]];
     assert_eq!(joint(&tiny(&[], &on(1)), &tiny(&[[0; 4]; 1017], &on(1018))), None);
     assert!(joint(&tiny(&[], &on(1)), &tiny(&[[0; 4]; 1019], &on(1020))).is_some());
-    assert_eq!(of_join(refused(Refusal::Leasts), &first, &first).unwrap(), "0 and 0");
+    assert_eq!(of_join(refused(Refusal::Leasts), &first, &first), None);
     // Nodes and members: splits below one another.
     let split = |nodes: i32, members: usize| {
         let spare: Vec<Row> = (0..members as i32).map(|c| [2, 0, 1, c]).collect();
@@ -210,11 +189,11 @@ fn joint_limits_exactly_where_the_library_says_so() {
     assert_eq!(joint(&some, &some), None);
     let nodes = 1 + some.proof.nodes.len() + more.proof.nodes.len();
     assert!(nodes > 1024);
-    assert_eq!(joint(&some, &more).unwrap(), format!("1,0{} nodes, at most 1,024", nodes - 1000));
+    assert_eq!(joint(&some, &more).unwrap(), format!("the join would have 1,0{} nodes, 1,024 allowed", nodes - 1000));
     let wide = split(400, 11);
     let members = 1 + 2 * wide.proof.members.len();
     assert!(members > 8192, "{members}");
-    assert!(joint(&wide, &wide).unwrap().ends_with(" members, at most 8,192"));
+    assert!(joint(&wide, &wide).unwrap().ends_with(" members, 8,192 allowed"));
     // Size and depth of the or: 4,095 rows in either root are too many, 64 deep is too deep.
     let deep = |depth: i32| {
         let mut rows: Vec<Row> = (1..depth).map(|row| [4, row - 1, 0, 0]).collect();
@@ -237,5 +216,5 @@ fn joint_limits_exactly_where_the_library_says_so() {
         record
     };
     assert_eq!(joint(&deep(63), &deep(63)), None);
-    assert_eq!(joint(&deep(2), &deep(64)).unwrap(), "its root has depth 65, at most 64");
+    assert_eq!(joint(&deep(2), &deep(64)).unwrap(), "the join would have a root of depth 65, 64 allowed");
 }

@@ -27,7 +27,7 @@ const LARGEST: usize = 4096;
 /// How the rows of a table are written.
 ///
 /// ```
-/// use zorambi_show::{Names, Notation, Style};
+/// use zorambi_notation::{Names, Notation, Style};
 ///
 /// let rows = [[2, 3, 2, -1], [3, 4, 2, 0], [5, 0, 1, 0], [6, 2, 2, 1]];
 /// let names = Names::default();

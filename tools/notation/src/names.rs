@@ -15,7 +15,7 @@ const LONGEST: usize = 40;
 /// The names of symbols; a symbol without one is `p` and its number.
 ///
 /// ```
-/// use zorambi_show::Names;
+/// use zorambi_notation::Names;
 ///
 /// let (names, told) = Names::read(b"0 carry\n1 2x\n");
 /// assert_eq!((names.symbol(0), names.symbol(1)), ("carry".to_string(), "p1".to_string()));
