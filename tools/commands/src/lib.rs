@@ -4,6 +4,7 @@
 mod catalogue;
 mod checks;
 mod help;
+mod show;
 mod texts;
 mod words;
 
@@ -61,6 +62,7 @@ pub fn commands() -> &'static [&'static Command] {
     &[
         &checks::CHECK,
         &checks::MODEL,
+        &show::SHOW,
         &catalogue::CATALOGUE,
         &catalogue::MERGE,
         &texts::FIND,

@@ -11,6 +11,7 @@ mod join;
 mod out;
 mod private;
 mod programs;
+mod show;
 mod small;
 mod texts;
 mod tidy;
@@ -37,6 +38,7 @@ fn run(command: &Command, given: &Given) -> u8 {
     let run = match command.name {
         "check" => check::check,
         "model" => check::model,
+        "show" => show::show,
         "catalogue" => return zorambi_catalogue::run(given),
         "merge" => return zorambi_catalogue::merge(given),
         "find" => find::find,

@@ -1,0 +1,61 @@
+//! `show DIR`: a record, a schema, a wide schema or a model in words.
+
+use crate::end::{Ended, Stop};
+use crate::texts::number;
+use std::ffi::{c_int, c_ulong, OsStr};
+use std::io::{self, IsTerminal};
+use std::path::Path;
+use zorambi::files::enter;
+use zorambi_commands::Given;
+use zorambi_show::{Options, Style, Texts};
+
+/// Columns where nothing else is known.
+const WIDTH: usize = 100;
+/// Fewer than this are no help.
+const LEAST_WIDTH: usize = 40;
+
+pub fn show(given: &Given) -> Result<Ended, Stop> {
+    let folder = Path::new(&given.names[0]);
+    let options = Options {
+        style: if given.has("--ascii") { Style::Ascii } else { Style::Unicode },
+        with_sets: given.has("--sets"),
+        width: width(given.value("--width"))?,
+        is_older: given.has("--older"),
+    };
+    enter(folder).map_err(|why| Stop::Wrong(why.to_string()))?;
+    let shown = zorambi_show::show(&Texts::load(folder, given.has("--follow")), &options);
+    let said = shown.told.iter().map(|line| format!("{line}\n")).collect();
+    Ok(Ended { printed: shown.text.into_bytes(), said, status: u8::from(!shown.is_whole) })
+}
+
+/// Columns of a line: those that are asked for, or those of the terminal.
+fn width(asked: Option<&OsStr>) -> Result<usize, Stop> {
+    let asked = match asked {
+        Some(word) => Some(usize::try_from(number(word)?).unwrap_or(0)),
+        None => None,
+    };
+    Ok(asked.or_else(columns).or_else(of_terminal).unwrap_or(WIDTH).max(LEAST_WIDTH))
+}
+
+/// What COLUMNS says, if it is a number.
+fn columns() -> Option<usize> {
+    std::env::var("COLUMNS").ok()?.parse().ok().filter(|columns| (1..=10_000).contains(columns))
+}
+
+extern "C" {
+    fn ioctl(file: c_int, request: c_ulong, ...) -> c_int;
+}
+
+/// Asks a terminal for its rows, columns and size in pixels.
+const TIOCGWINSZ: c_ulong = 0x5413;
+
+/// The columns of the terminal that is written to.
+fn of_terminal() -> Option<usize> {
+    if !io::stdout().is_terminal() {
+        return None;
+    }
+    let mut size = [0_u16; 4];
+    // SAFETY: the call fills four numbers of 16 bits, which are lent to it.
+    let answer = unsafe { ioctl(1, TIOCGWINSZ, size.as_mut_ptr()) };
+    Some(usize::from(size[1])).filter(|columns| answer == 0 && *columns > 0)
+}
