@@ -1,5 +1,6 @@
 //! The page of a record: one file with its style, its script and its data, and nothing from elsewhere.
 
+use crate::beside::Kind;
 use crate::data;
 use crate::escape::text;
 use crate::picture::{Picture, GLYPHS};
@@ -7,8 +8,9 @@ use crate::svg;
 use zorambi::sha256;
 use zorambi::words::{counted, RULES};
 
-/// How a page of a record starts, by which it is known again.
-pub const START: &str = "<!DOCTYPE html>\n<!-- a record, drawn by zorambi -->\n";
+const START: &str = "<!DOCTYPE html>\n<!-- a record, drawn by zorambi -->\n";
+/// A page of a record, known again by its start.
+pub const KIND: Kind = Kind { start: START, what: "page of a record" };
 
 const STYLE: &str = include_str!("page.css");
 const SCRIPT: &str = include_str!("page.js");

@@ -6,13 +6,19 @@
 //! * [`svg`]: the drawing
 //! * [`data`]: the record as the page's script reads it
 //! * [`html`]: the page
+//! * [`listing`]: the page of a catalogue
+//! * [`links`]: names of pages, and how they lead to each other
+//! * [`beside`]: files that are whole or not there
 //! * [`escape`]: text that stays text
 
+pub mod beside;
 pub mod data;
 pub mod escape;
 pub mod explained;
 pub mod html;
 pub mod layout;
+pub mod links;
+pub mod listing;
 pub mod picture;
 pub mod subject;
 pub mod svg;

@@ -4,7 +4,7 @@ use crate::explained::{explained, Explained};
 use std::path::Path;
 use zorambi::files::{load, Loaded};
 use zorambi::{check, check_older, read_proof, read_schema, shown_name, Proof, Record, Refused, Schema, Verdict};
-use zorambi_show::Names;
+use zorambi_show::{read_names, Names};
 
 /// The texts of a record's folder.
 pub struct Texts {
@@ -28,6 +28,8 @@ pub struct Subject {
     pub name: String,
     /// As far as it could be read: a schema refused in reading has no rows, such a proof no nodes.
     pub record: Record,
+    /// Both texts could be read.
+    pub is_whole: bool,
     pub verdict: Verdict,
     /// What is said of a refusal.
     pub explained: Option<Explained>,
@@ -46,13 +48,14 @@ impl Subject {
     pub fn of_texts(name: &str, texts: &Texts) -> Subject {
         let (schema, proof) = (read_schema(&texts.schema.bytes), read_proof(&texts.proof.bytes));
         let verdict = judged(&schema, &proof, texts.older);
+        let is_whole = schema.is_ok() && proof.is_ok();
         let record = Record { schema: schema.unwrap_or_default(), proof: proof.unwrap_or_default() };
         let explained = match verdict {
             Verdict::Accepted { .. } => None,
             Verdict::Refused { refusal, place } => Some(explained(Refused { refusal, place }, &record, texts)),
         };
-        let (names, notes) = Names::read(&texts.names.bytes);
-        Subject { name: name.to_string(), record, verdict, explained, names, notes }
+        let (names, notes) = read_names(&texts.names);
+        Subject { name: name.to_string(), record, is_whole, verdict, explained, names, notes }
     }
 
     /// The verdict in one line.

@@ -1,5 +1,6 @@
 //! A picture of a tableau as SVG.
 
+use crate::beside::Kind;
 use crate::escape::text;
 use crate::layout::{Arc, Layout, Note, Point};
 use crate::picture::{Picture, GLYPHS};
@@ -12,7 +13,7 @@ pub const STYLE: &str = include_str!("drawing.css");
 pub fn file(picture: &Picture) -> String {
     let Layout { width, height, .. } = picture.layout;
     format!(
-        "<svg xmlns=\"http://www.w3.org/2000/svg\" class=\"tableau\" viewBox=\"0 0 {width} {height}\" width=\"{width}\" \
+        "{START}viewBox=\"0 0 {width} {height}\" width=\"{width}\" \
          height=\"{height}\" role=\"img\">\n<!-- drawn by zorambi show -->\n<title>{title}</title>\n<desc>{about}</desc>\n\
          <style>\n{STYLE}</style>\n<rect width=\"100%\" height=\"100%\" fill=\"var(--paper)\"/>\n{inner}</svg>\n",
         title = text(&picture.title()),
@@ -21,8 +22,9 @@ pub fn file(picture: &Picture) -> String {
     )
 }
 
-/// How a file of its own starts, by which it is known again.
-pub const START: &str = "<svg xmlns=\"http://www.w3.org/2000/svg\" class=\"tableau\"";
+const START: &str = "<svg xmlns=\"http://www.w3.org/2000/svg\" class=\"tableau\" ";
+/// A drawing, known again by its start.
+pub const KIND: Kind = Kind { start: START, what: "drawing of a record" };
 
 /// The drawing within a page.
 pub fn inline(picture: &Picture) -> String {
