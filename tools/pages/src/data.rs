@@ -18,6 +18,7 @@ pub fn object(picture: &Picture) -> String {
         ("answer", answer(picture.subject.verdict).to_string()),
         ("words", string(&picture.words)),
         ("why", string(picture.subject.explained.as_ref().map_or("", |explained| &explained.why))),
+        ("mend", string(picture.subject.explained.as_ref().map_or("", |explained| &explained.mend))),
         ("line", or_null(picture.subject.explained.as_ref().and_then(|explained| explained.line.as_deref()))),
         ("refused", refused(picture.place())),
         ("notes", list(picture.subject.notes.iter().map(|note| string(note)))),

@@ -14,8 +14,10 @@ pub struct Explained {
     pub refused: Refused,
     /// `refused: a split's K (14) at node 9`
     pub words: String,
-    /// What does not fit, in a sentence or more.
+    /// What does not fit, in a sentence; empty if the words say it all.
     pub why: String,
+    /// What to do about it, where there is something.
+    pub mend: String,
     /// `proof.txt:12: 4 8 -1 -1 -1 1 2 5 7`
     pub line: Option<String>,
 }
@@ -42,5 +44,6 @@ pub fn explained(refused: Refused, record: &Record, texts: &Texts) -> Explained 
         let cut = if bytes.len() > SHOWN { "..." } else { "" };
         format!("{name}:{number}: {}{cut}", shown(&bytes[..bytes.len().min(SHOWN)]))
     });
-    Explained { refused, words: told(refused, &known), why: advice(refused.refusal).unwrap_or("").to_string(), line }
+    let mend = advice(refused.refusal).unwrap_or_default().to_string();
+    Explained { refused, words: told(refused, &known), why: String::new(), mend, line }
 }

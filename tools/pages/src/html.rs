@@ -72,8 +72,8 @@ fn header(picture: &Picture, up: Option<&str>) -> String {
     });
     let mut said = String::new();
     if let Some(explained) = &picture.subject.explained {
-        if !explained.why.is_empty() {
-            said += &format!("<p>{}</p>\n", text(&explained.why));
+        for words in [&explained.why, &explained.mend].into_iter().filter(|words| !words.is_empty()) {
+            said += &format!("<p>{}</p>\n", text(words));
         }
         if let Some(line) = &explained.line {
             said += &format!("<p class=\"line\">{}</p>\n", text(line));

@@ -229,7 +229,7 @@ const zorambi = (() => {
 
   function why() {
     const inner = [made("strong", { textContent: record.words })];
-    if (record.why) inner.push(made("br", {}), record.why);
+    for (const words of [record.why, record.mend]) if (words) inner.push(made("span", { textContent: words }));
     return made("p", { className: "why" }, ...inner);
   }
 

@@ -47,6 +47,7 @@ impl Subject {
     /// Judges texts that were read. The name is shown as it is.
     pub fn of_texts(name: &str, texts: &Texts) -> Subject {
         let (schema, proof) = (read_schema(&texts.schema.bytes), read_proof(&texts.proof.bytes));
+        let (names, notes) = read_names(&texts.names);
         let verdict = judged(&schema, &proof, texts.older);
         let is_whole = schema.is_ok() && proof.is_ok();
         let record = Record { schema: schema.unwrap_or_default(), proof: proof.unwrap_or_default() };
@@ -54,7 +55,6 @@ impl Subject {
             Verdict::Accepted { .. } => None,
             Verdict::Refused { refusal, place } => Some(explained(Refused { refusal, place }, &record, texts)),
         };
-        let (names, notes) = read_names(&texts.names);
         Subject { name: name.to_string(), record, is_whole, verdict, explained, names, notes }
     }
 
