@@ -13,6 +13,8 @@ import urllib.error
 import urllib.request
 
 ELEMENT = "element-6066-11e4-a52e-4f735466cecf"
+# Keys that have no letter, as WebDriver names them.
+BACKSPACE, ENTER, ESCAPE, LEFT, UP, RIGHT, DOWN = "\ue003", "\ue007", "\ue00c", "\ue012", "\ue013", "\ue014", "\ue015"
 
 
 def programs():
@@ -119,6 +121,31 @@ class Browser:
         """Keys that go to what has the focus."""
         actions = [{"type": kind, "value": key} for key in keys for kind in ("keyDown", "keyUp")]
         self.post("/actions", {"actions": [{"type": "key", "id": "keys", "actions": actions}]})
+
+    def mouse(self, steps):
+        """The mouse: (pointerMove, x, y), (pointerDown,), (pointerUp,)."""
+        actions = []
+        for kind, *place in steps:
+            actions.append({"type": kind, "button": 0} if not place else {"type": kind, "duration": 20, "x": place[0], "y": place[1]})
+        self.post("/actions", {"actions": [{"type": "pointer", "id": "mouse", "parameters": {"pointerType": "mouse"}, "actions": actions}]})
+
+    def wheel(self, x, y, down):
+        scroll = {"type": "scroll", "x": x, "y": y, "deltaX": 0, "deltaY": down, "duration": 0}
+        self.post("/actions", {"actions": [{"type": "wheel", "id": "wheel", "actions": [scroll]}]})
+
+    def count(self, selector):
+        """How many elements there are, also where no script may run."""
+        root = self.devtools("DOM.getDocument", {"depth": 0})["root"]["nodeId"]
+        return len(self.devtools("DOM.querySelectorAll", {"nodeId": root, "selector": selector})["nodeIds"])
+
+    def wait(self, look, until, seconds=5):
+        """What is seen once it is as it should be, or after some seconds."""
+        end = time.monotonic() + seconds
+        while True:
+            found = look()
+            if until(found) or time.monotonic() > end:
+                return found
+            time.sleep(0.05)
 
     def devtools(self, command, given):
         return self.post("/goog/cdp/execute", {"cmd": command, "params": given})
