@@ -435,7 +435,7 @@ mod tests {
             vec![Some(5), Some(1), Some(0), Some(9), None],
         ];
         let mut numbers = Numbers(1);
-        for count in 2..120 {
+        for count in (2..120).step_by(3) {
             let near = 1 + numbers.below(count);
             let parent = |node: usize, back: usize| (node > 0 && back < 60).then(|| node.saturating_sub(1 + back));
             trees.push((0..count).map(|node| parent(node, numbers.below(near))).collect());
@@ -515,7 +515,7 @@ mod tests {
         let mut numbers = Numbers(7);
         for parents in trees().into_iter().filter(|parents| parents.len() > 1) {
             let count = parents.len();
-            let links: Vec<_> = (0..20).map(|_| (numbers.below(count), numbers.below(count))).collect();
+            let links: Vec<_> = (0..8).map(|_| (numbers.below(count), numbers.below(count))).collect();
             let layout = Layout::new(&parents, &links, SIZE, None);
             assert_eq!(layout.arcs.len(), links.len());
             for (arc, link) in layout.arcs.iter().zip(links) {
