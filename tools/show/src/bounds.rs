@@ -1,5 +1,5 @@
-//! What each node knows of n, as the paper has it: node 0 knows n ≥ the least value, a child what its parent knows, and under a split
-//! the first child n ≤ K, the second n ≥ K + 1. It is worked out for any table, kept rules or not.
+//! What each node knows of n, as the paper has it: node 0 knows n ≥ the least value, a child what its parent knows, and
+//! under a split the first child n ≤ K, the second n ≥ K + 1. It is worked out for any table, kept rules or not.
 
 use crate::notation::Style;
 use zorambi::{Node, Record};

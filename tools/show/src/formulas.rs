@@ -46,7 +46,7 @@ pub fn listed(rows: &BTreeSet<usize>, shared: &Shared, notation: &Notation, refu
         let before = format!("  {:<columns$} = ", notation.row_name(*row));
         notation.lines(*row as i32, shared, &before, sheet.width()).iter().for_each(|line| sheet.line(line));
         if let Some((_, why)) = refused.as_ref().filter(|(at, _)| at == row) {
-            sheet.line(format!("  {} {why}", mark(notation.style)));
+            sheet.indented("  ", &format!("{} {why}", mark(notation.style)));
         }
     }
 }

@@ -1,6 +1,7 @@
 //! A record that can be read: formula rows in mathematical notation, what each node knows of n, its rule in words.
 //!
-//! Nothing here judges: verdicts come from the library. Any numbers may stand in a table; what points nowhere is shown as such.
+//! Nothing here judges: verdicts come from the library. Any numbers may stand in a table; what points nowhere is shown
+//! as such.
 
 pub mod bounds;
 mod formulas;

@@ -1,5 +1,5 @@
-//! A model: which pairs are true, and what each iteration of the schema comes to there, with its body's value at each i. The values
-//! are worked out here for reading; whether the schema is true is said by the library.
+//! A model: which pairs are true, and what each iteration of the schema comes to there, with its body's value at each
+//! i. The values are worked out here for reading; whether the schema is true is said by the library.
 
 use crate::names::Names;
 use crate::notation::{parts, Notation};

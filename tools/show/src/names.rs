@@ -75,7 +75,8 @@ impl Names {
         self.names.get(&symbol).cloned().unwrap_or_else(|| format!("p{symbol}"))
     }
 
-    /// What stands before the number of a row that has a name in plain letters: `r`, and more if a symbol has such a name.
+    /// What stands before the number of a row that has a name in plain letters: `r`, and more if a symbol has such a
+    /// name.
     pub fn row_prefix(&self) -> String {
         let taken = |prefix: &str| {
             let digits =

@@ -1,8 +1,9 @@
 //! Formula rows as text: in mathematical notation, or in the plain letters that `zorambi compile` reads.
 //!
-//! Parentheses stand where the language needs them. From loosest to tightest: iff and xor (one level), implies, or, and, not; and and or
-//! group to the left, implies to the right. An iteration reaches as far right as it can. A row of any numbers has a text: one that
-//! means nothing stands as its numbers, `<12 0 0 0>`, a part that is no row before it as `<row 99>`.
+//! Parentheses stand where the language needs them. From loosest to tightest: iff and xor (one level), implies, or,
+//! and, not; and and or group to the left, implies to the right. An iteration reaches as far right as it can. A row of
+//! any numbers has a text: one that means nothing stands as its numbers, `<12 0 0 0>`, a part that is no row before it
+//! as `<row 99>`.
 
 use crate::names::Names;
 use std::collections::BTreeSet;
@@ -148,7 +149,8 @@ impl<'a> Notation<'a> {
         }
     }
 
-    /// A formula on one line, in at most so many columns if it can be: parts that find no room stand under their numbers.
+    /// A formula on one line, in at most so many columns if it can be: parts that find no room stand under their
+    /// numbers.
     pub fn brief(&self, row: i32, columns: usize) -> String {
         let none = Shared::new();
         let mut best = None;
@@ -171,15 +173,16 @@ impl<'a> Notation<'a> {
         self.flat(&self.whole(row, shared))
     }
 
-    /// The same in lines of at most so many columns where that can be, `before` in the first and as many spaces in the others.
+    /// The same in lines of at most so many columns where that can be, `before` in the first and as many spaces in the
+    /// others.
     pub fn lines(&self, row: i32, shared: &Shared, before: &str, width: usize) -> Vec<String> {
         let mut page = Page::new(before, width);
         self.lay_out(&self.whole(row, shared), Level::Iff, true, 0, &mut page);
         page.lines
     }
 
-    /// The rows that these formulas use more than once, or nest too deep, and that are not small: each is to stand under its number,
-    /// on a line of its own. A literal is always written out.
+    /// The rows that these formulas use more than once, or nest too deep, and that are not small: each is to stand
+    /// under its number, on a line of its own. A literal is always written out.
     pub fn shared(&self, formulas: &[i32]) -> Shared {
         let mut uses = vec![0_usize; self.rows.len()];
         formulas.iter().filter_map(|row| self.number(*row)).for_each(|row| uses[row] += 1);
@@ -225,7 +228,8 @@ impl<'a> Notation<'a> {
         self.text(row, i64::MAX, DEEPEST, &mut Room { shared, size: LARGEST, is_cut: false })
     }
 
-    /// The text of a row that is to stand before another, in some depth. The first row is written out even if it is shared.
+    /// The text of a row that is to stand before another, in some depth. The first row is written out even if it is
+    /// shared.
     fn text(&self, row: i32, before: i64, depth: usize, room: &mut Room) -> Text {
         let number = self.number(row).filter(|_| i64::from(row) < before);
         let Some(number) = number else { return Text::Atom(format!("<row {row}>")) };
@@ -274,8 +278,8 @@ impl<'a> Notation<'a> {
         out
     }
 
-    /// Writes it where this level is the loosest that needs no parentheses; `is_last` if nothing follows that an iteration would take
-    /// into its body.
+    /// Writes it where this level is the loosest that needs no parentheses; `is_last` if nothing follows that an
+    /// iteration would take into its body.
     fn write(&self, text: &Text, level: Level, is_last: bool, out: &mut String) {
         if text.is_enclosed(level, is_last) {
             out.push('(');
@@ -312,7 +316,8 @@ impl<'a> Notation<'a> {
         }
     }
 
-    /// Writes it on a page: what does not fit into the line stands below one another, operand by operand. `closing` characters follow.
+    /// Writes it on a page: what does not fit into the line stands below one another, operand by operand. `closing`
+    /// characters follow.
     fn lay_out(&self, text: &Text, level: Level, is_last: bool, closing: usize, page: &mut Page) {
         let mut flat = String::new();
         self.write(text, level, is_last, &mut flat);

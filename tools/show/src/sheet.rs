@@ -1,5 +1,5 @@
-//! The lines that are shown. In plain letters only the schema is text of the language; all else stands in comments, so that the whole
-//! can be given to `zorambi compile`.
+//! The lines that are shown. In plain letters only the schema is text of the language; all else stands in comments, so
+//! that the whole can be given to `zorambi compile`.
 
 use crate::notation::Style;
 
@@ -57,8 +57,13 @@ impl Sheet {
 
     /// Words, in as many lines as they need.
     pub fn words(&mut self, words: &str) {
-        for line in wrapped(words, self.width()) {
-            self.line(line);
+        self.indented("", words);
+    }
+
+    /// The same, with this before each line.
+    pub fn indented(&mut self, before: &str, words: &str) {
+        for line in wrapped(words, self.width().saturating_sub(before.chars().count())) {
+            self.line(format!("{before}{line}"));
         }
     }
 
@@ -75,8 +80,8 @@ impl Sheet {
     }
 }
 
-/// Words in lines of at most so many columns; a word that is longer has a line of its own. A number stays with the word before it:
-/// `row 7` is not parted.
+/// Words in lines of at most so many columns; a word that is longer has a line of its own. A number stays with the word
+/// before it: `row 7` is not parted.
 pub fn wrapped(words: &str, width: usize) -> Vec<String> {
     let (mut lines, mut rest) = (Vec::new(), words);
     loop {

@@ -290,9 +290,8 @@ impl<'a> Showing<'a> {
         let formulas: Vec<i32> = named.iter().map(|row| *row as i32).collect();
         let mut shared = notation.shared(&formulas);
         shared.extend(&named);
-        let all = shared.clone();
         self.heading("rows of the tableau");
-        listed(&all, &shared, &notation, refused, &mut self.sheet);
+        listed(&shared, &shared, &notation, refused, &mut self.sheet);
     }
 
     fn tree(&mut self, proof: &Proof, bounds: &[Option<Bound>], rows: &[Row], refused: Option<(usize, String)>) {
@@ -310,7 +309,7 @@ impl<'a> Showing<'a> {
         };
         self.heading(&format!("model: n = {}", model.n));
         for pairs in model::pairs(&model, self.names) {
-            self.indented("  ", &pairs);
+            self.sheet.indented("  ", &pairs);
         }
         self.sheet.line(if model.pairs.is_empty() { "  every pair is false" } else { "  every other pair is false" });
         let Ok(schema) = read_schema(&texts.schema.bytes) else { return };
@@ -345,16 +344,9 @@ impl<'a> Showing<'a> {
         for iteration in &iterations {
             let formula = notation.brief(iteration.row as i32, self.sheet.width().saturating_sub(16));
             self.sheet.line(format!("  {} = {formula}", notation.row_name(iteration.row)));
-            self.indented("      ", &format!("is {}", iteration.text(&notation)));
+            self.sheet.indented("      ", &format!("is {}", iteration.text(&notation)));
         }
         self.sheet.gap();
-    }
-
-    fn indented(&mut self, before: &str, words: &str) {
-        let width = self.sheet.width().saturating_sub(before.len());
-        for line in crate::sheet::wrapped(words, width) {
-            self.sheet.line(format!("{before}{line}"));
-        }
     }
 }
 

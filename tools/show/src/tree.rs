@@ -35,7 +35,7 @@ pub struct Tableau<'a> {
     pub refused: Option<(usize, String)>,
 }
 
-/// A node as it is drawn: the branches before it and those before the lines below it, what stands at the left, and what at the right.
+/// A node as it is drawn, with the branches before it and those before the lines below it.
 struct Drawn {
     node: usize,
     branch: String,
@@ -147,8 +147,8 @@ impl Tableau<'_> {
         rule(&self.proof.nodes[drawn.node], self.bounds.get(drawn.node).copied().flatten(), self.notation)
     }
 
-    /// Rules stand in a column where that leaves all on one line, else after their nodes; sets before them where all are short, else
-    /// below.
+    /// Rules stand in a column where that leaves all on one line, else after their nodes; sets before them where all
+    /// are short, else below.
     fn write(&self, drawn: &[Drawn], lines: &mut Vec<String>) {
         let left = |drawn: &Drawn, with_set: bool| match with_set && !drawn.is_cut {
             true => format!("{}{}  {}", drawn.branch, self.known(drawn.node), self.set_text(drawn.node)),

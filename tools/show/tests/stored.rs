@@ -1,5 +1,5 @@
-//! What is shown of the records in `records/`, against what is stored in `tests/stored`, which was read and found right. To store it
-//! anew, for reading: `ZORAMBI_STORE=1 cargo test -p zorambi-show --test stored`.
+//! What is shown of the records in `records/`, against what is stored in `tests/stored`, which was read and found
+//! right. To store it anew, for reading: `ZORAMBI_STORE=1 cargo test -p zorambi-show --test stored`.
 
 mod common;
 

@@ -4,16 +4,18 @@ use crate::end::{Ended, Stop};
 use crate::texts::number;
 use std::ffi::{c_int, c_ulong, OsStr};
 use std::io::{self, IsTerminal};
+use std::ops::RangeInclusive;
 use std::path::Path;
 use zorambi::files::enter;
+use zorambi::shown_name;
 use zorambi_commands::Given;
 use zorambi_pages::{beside, html, svg, Picture, Subject};
 use zorambi_show::{Options, Style, Texts};
 
 /// Columns where nothing else is known.
 const WIDTH: usize = 100;
-/// Fewer than this are no help.
-const LEAST_WIDTH: usize = 40;
+/// Columns that can be asked for; of a narrower terminal the least are taken.
+const WIDTHS: RangeInclusive<usize> = 40..=10_000;
 
 pub fn show(given: &Given) -> Result<Ended, Stop> {
     let folder = Path::new(&given.names[0]);
@@ -54,18 +56,19 @@ fn drawn(folder: &Path, given: &Given) -> Result<Ended, Stop> {
     Ok(Ended { said, status: u8::from(!subject.is_whole), ..Ended::default() })
 }
 
-/// Columns of a line: those that are asked for, or those of the terminal.
+/// Columns of a line: those that are asked for, or those of COLUMNS or the terminal.
 fn width(asked: Option<&OsStr>) -> Result<usize, Stop> {
-    let asked = match asked {
-        Some(word) => Some(usize::try_from(number(word)?).unwrap_or(0)),
-        None => None,
+    let Some(word) = asked else {
+        let found = columns().or_else(of_terminal).unwrap_or(WIDTH);
+        return Ok(found.clamp(*WIDTHS.start(), *WIDTHS.end()));
     };
-    Ok(asked.or_else(columns).or_else(of_terminal).unwrap_or(WIDTH).max(LEAST_WIDTH))
+    let asked = usize::try_from(number(word)?).ok().filter(|columns| WIDTHS.contains(columns));
+    asked.ok_or_else(|| Stop::Wrong(format!("a width is 40 to 10,000 columns: {}", shown_name(word))))
 }
 
 /// What COLUMNS says, if it is a number.
 fn columns() -> Option<usize> {
-    std::env::var("COLUMNS").ok()?.parse().ok().filter(|columns| (1..=10_000).contains(columns))
+    std::env::var("COLUMNS").ok()?.parse().ok().filter(|columns| *columns > 0)
 }
 
 extern "C" {
