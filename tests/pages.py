@@ -45,10 +45,9 @@ def run(*words):
 # ---- records, and what the paper says of them
 
 
-def proof_nodes(record):
-    """The node rows of a proof, as numbers."""
-    lines = (record / "proof.txt").read_text().split("up rule on with other to by set\n")[1].splitlines()
-    return [[int(word) for word in line.split()] for line in lines]
+def node_rows(record):
+    """How many node rows the proof has."""
+    return (record / "proof.txt").read_bytes().split(b"up rule on with other to by set\n")[1].count(b"\n")
 
 
 def write_record(folder, root, least, rows, proof_rows, nodes):
@@ -146,10 +145,12 @@ def files(scratch):
         run("show", record, "--svg", drawing)
         tree = xml.etree.ElementTree.parse(drawing)
         classes = {group.get("id"): group.get("class") for group in tree.iter(f"{SVG}g") if group.get("class", "").startswith("node")}
-        same(f"nodes of {record.name}", len(classes), len(proof_nodes(record)))
+        answer, place = int(verdict[0]), int(verdict[1])
+        in_reading = answer in range(1, 5) or answer == 5 and place != -1
+        same(f"nodes of {record.name}", len(classes), 0 if in_reading else node_rows(record))
         refused = [number for number, words in classes.items() if words.endswith(" refused")]
-        of_node = int(verdict[0]) in range(9, 18) and verdict[1] != "-1"
-        same(f"refused node of {record.name}", refused, [f"n{verdict[1]}"] if of_node else [])
+        of_node = answer in range(9, 18) and place != -1
+        same(f"refused node of {record.name}", refused, [f"n{place}"] if of_node else [])
     # Texts that cannot be read.
     empty = scratch / "empty"
     empty.mkdir()

@@ -50,7 +50,9 @@ impl Subject {
         let (names, notes) = read_names(&texts.names);
         let verdict = judged(&schema, &proof, texts.older);
         let is_whole = schema.is_ok() && proof.is_ok();
-        let record = Record { schema: schema.unwrap_or_default(), proof: proof.unwrap_or_default() };
+        // Without its schema a proof says nothing.
+        let proof = schema.as_ref().map_or_else(|_| Proof::default(), |_| proof.unwrap_or_default());
+        let record = Record { schema: schema.unwrap_or_default(), proof };
         let explained = match verdict {
             Verdict::Accepted { .. } => None,
             Verdict::Refused { refusal, place } => Some(explained(Refused { refusal, place }, &record, texts)),
