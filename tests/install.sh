@@ -82,7 +82,7 @@ for command in $(zorambi help | sed -n '/^and /q; s/^  \([a-z]*\) .*/\1/p'); do
   done_commands="${done_commands-} $command"
 done
 check "the commands that are run here are all there are" \
-  [ "${done_commands-}" = " check model catalogue merge find convert small tidy join grow help" ]
+  [ "${done_commands-}" = " check model catalogue merge find widths dimacs verilog convert small tidy join grow help" ]
 check "a page of the whole" grep -q '^.BR zorambi\\-catalogue (1)$' "$prefix/share/man/man1/zorambi.1"
 
 check "check" same "$(zorambi check accepted/rca_zero)" <(printf 'answer place nodes links\n0 0 65 3\n')
@@ -99,6 +99,13 @@ zorambi merge "$scratch/t.csv" --csv "$scratch/m.csv" >"$scratch/out"
 check "merge" cmp -s "$scratch/t.csv" "$scratch/m.csv"
 zorambi find "$model" "$(sed -n 2p "$records/$model/model.txt")" >"$scratch/model"
 check "find" [ "$(head -n 1 "$scratch/model")" = n ]
+printf '#!/bin/sh\nexit 20\n' >"$scratch/solver"
+chmod +x "$scratch/solver"
+check "widths" [ "$(zorambi widths --solver "$scratch/solver" accepted/rca_zero 2 2)" = "n = 2: no model, the solver's word" ]
+zorambi dimacs accepted/rca_zero 2 >"$scratch/out"
+check "dimacs" grep -q '^p cnf ' "$scratch/out"
+zorambi verilog accepted/rca_zero 2 >"$scratch/out"
+check "verilog" grep -q '^module schema_at_2 ' "$scratch/out"
 zorambi convert wide/differs_from_itself >"$scratch/out"
 check "convert" cmp -s "$scratch/out" "$records/wide/differs_from_itself/schema.txt"
 check "small" [ "$(zorambi small 2 --count)" = 340 ]

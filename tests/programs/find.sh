@@ -26,6 +26,7 @@ width() { # N
 }
 wires() { # PAIRS N
   echo "refused: more than 16 pairs that occur at that n: $1 occur at n = $2 (30)"
+  echo "'zorambi widths' has no such limit: it asks a SAT solver, and checks a model that this finds"
 }
 
 # Root 2: some p_i for i from 2 to n. Pairs 0 2 to 0 n occur, the last is the least significant.

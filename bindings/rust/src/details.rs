@@ -63,9 +63,15 @@ pub fn repeats(record: &Record, row: usize) -> Option<usize> {
     rows.position(|earlier| earlier == repeated).filter(|earlier| *earlier < row)
 }
 
-/// How many pairs of a symbol and an index some literal names that is reached from the root at n, each i of its iteration's range put
-/// in.
+/// How many pairs occur in a well-formed schema at n.
 pub fn occurring(schema: &Schema, n: i32) -> u64 {
+    occurring_ranges(schema, n).iter().map(|(_, [first, last])| (last - first + 1) as u64).sum()
+}
+
+/// The pairs of a symbol and an index that some literal names that is reached from the root at n, each i of its iteration's range put
+/// in: a symbol, and the first and the last index of a range of them. They ascend, and no two of one symbol meet. The schema is
+/// well formed.
+pub fn occurring_ranges(schema: &Schema, n: i32) -> Vec<(i32, [i64; 2])> {
     let mut named: BTreeMap<i32, Vec<[i64; 2]>> = BTreeMap::new();
     let mut seen = vec![false; schema.rows.len()];
     let mut waiting = vec![schema.root as usize];
@@ -89,7 +95,10 @@ pub fn occurring(schema: &Schema, n: i32) -> u64 {
             _ => {}
         }
     }
-    named.into_values().map(covered).sum()
+    named
+        .into_iter()
+        .flat_map(|(symbol, ranges)| merged(ranges).into_iter().map(move |range| (symbol, range)))
+        .collect()
 }
 
 /// The symbol and the offset of every literal of a body.
@@ -108,18 +117,17 @@ fn literals(rows: &[Row], body: usize) -> Vec<[i32; 2]> {
     found
 }
 
-/// How many numbers lie in one of these ranges.
-fn covered(mut ranges: Vec<[i64; 2]>) -> u64 {
+/// The numbers that lie in one of these ranges, as ranges that ascend and do not meet.
+fn merged(mut ranges: Vec<[i64; 2]>) -> Vec<[i64; 2]> {
     ranges.sort_unstable();
-    let (mut count, mut next) = (0, i64::MIN);
+    let mut merged: Vec<[i64; 2]> = Vec::new();
     for [first, last] in ranges {
-        let first = first.max(next);
-        if first <= last {
-            count += (last - first + 1) as u64;
-            next = last + 1;
+        match merged.last_mut() {
+            Some(before) if first <= before[1] + 1 => before[1] = before[1].max(last),
+            _ => merged.push([first, last]),
         }
     }
-    count
+    merged
 }
 
 /// The limit that a size or a depth passes.

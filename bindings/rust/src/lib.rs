@@ -82,7 +82,7 @@ pub use record::{check, check_model, check_older, Model, Node, Pair, Proof, Reco
 pub use shown::{json_string, shown, shown_name};
 pub use text::{
     check_fault, check_model_texts, check_older_fault, check_older_texts, check_texts, line, model_fault, read_model,
-    read_proof, read_schema, write_model, write_proof, write_schema, Text, MAX_TEXT,
+    read_proof, read_schema, write_model, write_proof, write_schema, Text, MAX_PAIRS, MAX_TEXT,
 };
 pub use verdict::{Refusal, Refused, Verdict};
 

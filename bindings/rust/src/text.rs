@@ -9,7 +9,8 @@ pub const MAX_TEXT: usize = 65_536;
 pub(crate) const MAX_ROWS: usize = 1024;
 pub(crate) const MAX_NODES: usize = 1024;
 pub(crate) const MAX_MEMBERS: usize = 8192;
-pub(crate) const MAX_PAIRS: usize = 4096;
+/// A model has at most this many true pairs.
+pub const MAX_PAIRS: usize = 4096;
 
 /// The first `count` rows of a table.
 pub(crate) fn rows<const WIDTH: usize>(table: &[i32], count: i32) -> Vec<[i32; WIDTH]> {

@@ -99,6 +99,7 @@ pub fn advice(refusal: Refusal) -> Option<&'static str> {
             "rows may repeat in an older record: 'zorambi check --older' checks it as one, and 'zorambi tidy' writes its \
              proof without repeated rows",
         ),
+        Refusal::Wires => Some("'zorambi widths' has no such limit: it asks a SAT solver, and checks a model that this finds"),
         _ => None,
     }
 }
@@ -224,6 +225,7 @@ mod tests {
         let differ = Known { detail: Some("0 and 1"), ..Known::default() };
         assert_eq!(told(refused(28, None), &differ), "refused: the least values differ: 0 and 1 (28)");
         assert!(advice(Refusal::Repeated).unwrap().contains("--older"));
+        assert!(advice(Refusal::Wires).unwrap().contains("zorambi widths"));
     }
 
     #[test]

@@ -1,10 +1,6 @@
 //! The catalogue, and what is installed.
 
-use crate::{example, flag, Command, Opt};
-
-const fn valued(name: &'static str, value: &'static str, about: &'static str) -> Opt {
-    Opt { name, value: Some(value), about }
-}
+use crate::{example, flag, valued, Command, Opt};
 
 const CSV: Opt = valued("--csv", "FILE", "write the table as CSV (RFC 4180)");
 const JSON: Opt = valued("--json", "FILE", "write the table as JSON, one object a line");

@@ -49,7 +49,7 @@ pub fn help(command: &Command) -> String {
     }
     for option in command.options {
         let name = option.value.map_or(option.name.to_string(), |value| format!("{} {value}", option.name));
-        text += &format!("  {name:<16}{}\n", wrapped(option.about, 18).trim_start());
+        text += &format!("  {name:<18}{}\n", wrapped(option.about, 20).trim_start());
     }
     if !command.examples.is_empty() {
         text += "\nfor instance:\n";

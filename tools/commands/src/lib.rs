@@ -3,6 +3,7 @@
 
 mod catalogue;
 mod checks;
+mod circuits;
 mod help;
 mod show;
 mod texts;
@@ -53,6 +54,10 @@ const fn flag(name: &'static str, about: &'static str) -> Opt {
     Opt { name, value: None, about }
 }
 
+const fn valued(name: &'static str, value: &'static str, about: &'static str) -> Opt {
+    Opt { name, value: Some(value), about }
+}
+
 const fn example(line: &'static str, about: &'static str) -> Example {
     Example { line, about }
 }
@@ -66,6 +71,9 @@ pub fn commands() -> &'static [&'static Command] {
         &catalogue::CATALOGUE,
         &catalogue::MERGE,
         &texts::FIND,
+        &circuits::WIDTHS,
+        &circuits::DIMACS,
+        &circuits::VERILOG,
         &texts::CONVERT,
         &texts::SMALL,
         &texts::TIDY,

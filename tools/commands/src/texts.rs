@@ -9,7 +9,8 @@ pub const FIND: Command = Command {
     takes: "[--follow] [--json] [--quiet] DIR N",
     about: "find a model of the schema in DIR at n = N, or say that there is none",
     text: "Prints a model text, which 'zorambi model' accepts once it stands as model.txt beside the schema, or 'none': the schema is then false \
-at that n under every assignment. At most 16 pairs may occur in the schema at that n.\n\n\
+at that n under every assignment. At most 16 pairs may occur in the schema at that n; 'zorambi widths' \
+has no such limit.\n\n\
 With --json it prints one object: record (the folder), n, found (true or false), pairs (the true pairs, each a symbol and an index), \
 answer and place (0, or those of a refusal) and refusal (why); what there is not is null.\n\n\
 The exit status is 0 for a model and for none, 1 for a refusal, 2 for wrong use or a failure.",

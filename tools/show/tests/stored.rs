@@ -6,7 +6,7 @@ mod common;
 use common::{options, project, records};
 use std::fs;
 use std::path::Path;
-use zorambi_show::{show, Style, Texts};
+use zorambi_show::{show, Options, Style, Texts};
 
 /// The records that are also stored in plain letters, with sets, in 80 columns.
 const PLAIN_TOO: [&str; 5] = [
@@ -75,6 +75,16 @@ fn the_papers_record_is_drawn_as_in_the_tour() {
     let shown = show(&texts, &options(Style::Unicode, true, 100));
     let tree: Vec<&str> = shown.text.lines().skip_while(|line| *line != "tableau").skip(2).take(7).collect();
     assert_eq!(tree, drawn);
+}
+
+/// A record that repeats a row is refused there, and as an older one it is not.
+#[test]
+fn an_older_record_is_judged_as_one() {
+    let texts = Texts::load(&project().join("records/tidy/rows_twice"), false);
+    let present = options(Style::Unicode, false, 100);
+    assert!(show(&texts, &present).text.contains("\n  ▲ refused: a proof row written twice: it repeats row 0 (27)\n"));
+    let older = show(&texts, &Options { is_older: true, ..present }).text;
+    assert!(older.ends_with("\naccepted: 8 nodes, 1 link\n") && !older.contains('▲'), "{older}");
 }
 
 /// Every line is within its width, at a terminal's usual ones, where no single word is longer.

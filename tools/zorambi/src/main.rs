@@ -3,6 +3,7 @@
 //! failure.
 
 mod check;
+mod circuit;
 mod convert;
 mod end;
 mod find;
@@ -15,6 +16,7 @@ mod show;
 mod small;
 mod texts;
 mod tidy;
+mod widths;
 
 use end::{say, Ended, Stop};
 use std::ffi::OsString;
@@ -42,6 +44,9 @@ fn run(command: &Command, given: &Given) -> u8 {
         "catalogue" => return zorambi_catalogue::run(given),
         "merge" => return zorambi_catalogue::merge(given),
         "find" => find::find,
+        "widths" => widths::widths,
+        "dimacs" => circuit::dimacs,
+        "verilog" => circuit::verilog,
         "convert" => convert::convert,
         "small" => small::small,
         "tidy" => tidy::tidy,

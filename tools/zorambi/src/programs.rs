@@ -53,10 +53,7 @@ pub fn run(name: &str, texts: [(&str, &Loaded); 2]) -> Result<Printed, Stop> {
     let program = path_of(name)?;
     let there = texts.iter().filter(|(_, text)| text.unread.is_none());
     let files: Vec<(&str, &[u8])> = there.map(|(name, text)| (*name, &text.bytes[..])).collect();
-    let private = Private::with(&files).map_err(|error| {
-        let folder = shown_name(std::env::temp_dir());
-        Stop::Wrong(format!("no private folder for the texts in {folder}: {error}; TMPDIR may name another"))
-    })?;
+    let private = Private::with(&files)?;
     let mut command = Command::new(&program);
     command.current_dir(&private.folder).stdin(Stdio::null());
     let output = command.output().map_err(|error| Stop::Wrong(format!("{}: {error}", shown_name(&program))))?;
