@@ -2,6 +2,7 @@
 
 use crate::each::each;
 use crate::judge::Texts;
+use crate::pages::Site;
 use crate::report::Report;
 use crate::since::{Earlier, News};
 use crate::stop::Stop;
@@ -37,7 +38,8 @@ pub fn catalogue(given: &Given) -> Result<bool, Stop> {
     let jobs = jobs.unwrap_or_else(|| thread::available_parallelism().map_or(1, usize::from));
     let earlier = given.value("--since").map(|table| Earlier::read(Path::new(table), part)).transpose()?;
     enter(folder).map_err(|error| error.to_string())?;
-    let tables = Tables::new(given)?;
+    let site = Site::new(given)?;
+    let tables = Tables::new(given)?.with_page(site.as_ref(), &shown_name(folder))?;
     let mut report = Report::new(given.has("--quiet"));
     let items = walk(folder, follow, &mut |found| report.found(found));
     report.start();
@@ -52,8 +54,11 @@ pub fn catalogue(given: &Given) -> Result<bool, Stop> {
     }
     let mut run =
         Run { report, tables, totals: Totals::default(), news: BTreeMap::new(), failed: given.has("--failed") };
-    let look = |item: &Item| outcome(item, follow, earlier.as_ref());
-    each(&items, jobs, look, |item, outcome| run.take(item, &outcome, items.len()))?;
+    let look = |item: &Item| {
+        let page = site.as_ref().map_or(Ok(None), |site| site.write(item, follow))?;
+        Ok(Outcome { page, ..outcome(item, follow, earlier.as_ref()) })
+    };
+    each(&items, jobs, look, |item, outcome: Result<Outcome, String>| run.take(item, outcome?, items.len()))?;
     if let Some(earlier) = &earlier {
         let gone = earlier.gone(items.iter().map(|item| &item.name[..]));
         run.gone(folder, &gone)?;
@@ -66,6 +71,8 @@ struct Outcome {
     row: Row,
     words: String,
     news: News,
+    /// The name of its page, if one was written.
+    page: Option<String>,
 }
 
 /// Looks at an item, and checks it if it is a record, unless the earlier table has the same library's verdict on the same texts.
@@ -87,7 +94,7 @@ fn outcome(item: &Item, follow: bool, earlier: Option<&Earlier>) -> Outcome {
         Some(before) if news != News::Same => format!("{words}; before: {}", before.verdict()),
         _ => words,
     };
-    Outcome { row, words, news }
+    Outcome { row, words, news, page: None }
 }
 
 /// A run over records.
@@ -102,12 +109,12 @@ struct Run {
 }
 
 impl Run {
-    fn take(&mut self, item: &Item, outcome: &Outcome, of: usize) -> Result<(), Stop> {
-        let Outcome { row, words, news } = outcome;
-        self.tables.row(row, IDENTITY)?;
-        self.totals.count(row);
-        *self.news.entry(*news).or_default() += 1;
-        if *news != News::Same && !(self.failed && row.sort == Sort::Accepted) {
+    fn take(&mut self, item: &Item, outcome: Outcome, of: usize) -> Result<(), Stop> {
+        let Outcome { row, words, news, page } = outcome;
+        self.tables.row(&row, IDENTITY, page)?;
+        self.totals.count(&row);
+        *self.news.entry(news).or_default() += 1;
+        if news != News::Same && !(self.failed && row.sort == Sort::Accepted) {
             self.report.line(&format!("{}: {}{words}", shown_name(&item.path), news.start()))?;
         }
         self.report.done(self.totals.all(), of);

@@ -1,13 +1,13 @@
 //! `zorambi catalogue` and `zorambi merge`: every record folder below a folder is checked and told, with a table of them, and
 //! the tables of parts are put together.
 
-mod beside;
 mod catalogue;
 mod csv;
 mod each;
 mod judge;
 mod merge;
 mod names;
+mod pages;
 mod report;
 mod since;
 mod stop;

@@ -81,7 +81,7 @@ fn write(given: &Given, rows: &[Row], of: &Of) -> Result<bool, Stop> {
     let mut tables = Tables::new(given)?;
     let mut totals = Totals::default();
     for row in rows {
-        tables.row(row, &of.library)?;
+        tables.row(row, &of.library, None)?;
         totals.count(row);
     }
     Report::new(given.has("--quiet")).totals(&totals)?;

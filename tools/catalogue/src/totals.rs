@@ -60,6 +60,11 @@ impl Totals {
         self.accepted + self.refused + self.unlisted + self.links + self.elsewhere
     }
 
+    /// Each refusal that came by its number, and how often.
+    pub fn refusals(&self) -> Vec<(u8, usize)> {
+        self.refusals.iter().filter_map(|(number, times)| Some((u8::try_from(*number).ok()?, *times))).collect()
+    }
+
     /// Each refusal that came, the most frequent first, a line each.
     pub fn summary(&self) -> Vec<String> {
         let mut refusals: Vec<_> = self.refusals.iter().map(|(number, times)| (*times, *number)).collect();

@@ -9,6 +9,7 @@ use std::path::Path;
 use zorambi::files::enter;
 use zorambi::shown_name;
 use zorambi_commands::Given;
+use zorambi_pages::{beside, html, svg, Picture, Subject};
 use zorambi_show::{Options, Style, Texts};
 
 /// Columns where nothing else is known.
@@ -25,9 +26,34 @@ pub fn show(given: &Given) -> Result<Ended, Stop> {
         is_older: given.has("--older"),
     };
     enter(folder).map_err(|why| Stop::Wrong(why.to_string()))?;
-    let shown = zorambi_show::show(&Texts::load(folder, given.has("--follow")), &options);
+    if let [None, None] = ["--html", "--svg"].map(|option| given.value(option)) {
+        return Ok(in_words(folder, given, &options));
+    }
+    drawn(folder, given)
+}
+
+fn in_words(folder: &Path, given: &Given, options: &Options) -> Ended {
+    let shown = zorambi_show::show(&Texts::load(folder, given.has("--follow")), options);
     let said = shown.told.iter().map(|line| format!("{line}\n")).collect();
-    Ok(Ended { printed: shown.text.into_bytes(), said, status: u8::from(!shown.is_whole) })
+    Ended { printed: shown.text.into_bytes(), said, status: u8::from(!shown.is_whole) }
+}
+
+/// The record as a page and as a drawing.
+fn drawn(folder: &Path, given: &Given) -> Result<Ended, Stop> {
+    let [page, drawing] = ["--html", "--svg"].map(|option| given.value(option).map(Path::new));
+    if page == drawing {
+        return Err(Stop::Wrong("--html and --svg name the same file".to_string()));
+    }
+    let subject = Subject::of_folder(folder, given.has("--older"), given.has("--follow"));
+    let picture = Picture::new(&subject);
+    if let Some(path) = page {
+        beside::write(path, html::KIND, &html::page(&picture, None)).map_err(Stop::Wrong)?;
+    }
+    if let Some(path) = drawing {
+        beside::write(path, svg::KIND, &svg::file(&picture)).map_err(Stop::Wrong)?;
+    }
+    let said = subject.notes.iter().map(|line| format!("{line}\n")).collect();
+    Ok(Ended { said, status: u8::from(!subject.is_whole), ..Ended::default() })
 }
 
 /// Columns of a line: those that are asked for, or those of COLUMNS or the terminal.

@@ -7,26 +7,34 @@ use std::path::{Path, PathBuf};
 use std::process;
 use zorambi::shown_name;
 
+/// What a file is.
+#[derive(Clone, Copy, Debug)]
+pub struct Kind {
+    /// What such a file starts with: one that is there may be written over.
+    pub start: &'static str,
+    /// What it is called.
+    pub what: &'static str,
+}
+
 pub struct Beside {
     path: PathBuf,
-    /// What a file that may be written over starts with.
-    start: &'static str,
+    kind: Kind,
     written: BufWriter<File>,
 }
 
 impl Beside {
     /// A file that shall have this path. If there is one already it has to be such a file, or empty.
-    pub fn new(path: &Path, start: &'static str) -> Result<Beside, String> {
+    pub fn new(path: &Path, kind: Kind) -> Result<Beside, String> {
         let failed = |error: io::Error| cannot(path, &error);
         let path = match fs::symlink_metadata(path) {
             Ok(file) if file.is_symlink() => fs::canonicalize(path).map_err(failed)?,
             _ => path.to_path_buf(),
         };
-        may_be_replaced(&path, start)?;
+        may_be_replaced(&path, kind)?;
         let part = part_of(&path)?;
         let file = create(&part).map_err(failed)?;
         fs::remove_file(&part).map_err(failed)?;
-        Ok(Beside { path, start, written: BufWriter::new(file) })
+        Ok(Beside { path, kind, written: BufWriter::new(file) })
     }
 
     pub fn write(&mut self, text: &str) -> Result<(), String> {
@@ -40,7 +48,7 @@ impl Beside {
         let written = self.written.into_inner().map_err(io::IntoInnerError::into_error);
         let copied = written.and_then(|written| copy(written, &part, &path)).map_err(|error| cannot(&path, &error));
         let named = copied
-            .and_then(|()| may_be_replaced(&path, self.start))
+            .and_then(|()| may_be_replaced(&path, self.kind))
             .and_then(|()| fs::rename(&part, &path).map_err(|error| cannot(&path, &error)));
         if named.is_err() {
             let _ = fs::remove_file(&part);
@@ -78,8 +86,20 @@ fn copy(mut written: File, part: &Path, path: &Path) -> io::Result<()> {
     file.sync_all()
 }
 
-/// There is no such file, or one that is empty or starts so.
-fn may_be_replaced(path: &Path, start: &str) -> Result<(), String> {
+/// Writes a file at once: it is there whole, or not at all.
+pub fn write(path: &Path, kind: Kind, text: &str) -> Result<(), String> {
+    may_be_replaced(path, kind)?;
+    let part = part_of(path)?;
+    let written = create(&part).and_then(|mut file| file.write_all(text.as_bytes()));
+    let named = written.and_then(|()| fs::rename(&part, path)).map_err(|error| cannot(path, &error));
+    if named.is_err() {
+        let _ = fs::remove_file(&part);
+    }
+    named
+}
+
+/// There is no such file, or one that is empty or of this kind.
+fn may_be_replaced(path: &Path, Kind { start, what }: Kind) -> Result<(), String> {
     let shown = shown_name(path);
     match fs::symlink_metadata(path) {
         Err(error) if error.kind() == io::ErrorKind::NotFound => return Ok(()),
@@ -93,6 +113,6 @@ fn may_be_replaced(path: &Path, start: &str) -> Result<(), String> {
     if bytes.is_empty() || bytes == start.as_bytes() {
         Ok(())
     } else {
-        Err(format!("{shown} is there and is no table of a catalogue: it is not written over"))
+        Err(format!("{shown} is there and is no {what}: it is not written over"))
     }
 }
