@@ -84,7 +84,7 @@ pub fn entry(row: &Row, page: Option<String>) -> Entry {
         verdict: row.sort.word().to_string(),
         answer: (row.sort == Sort::Refused).then_some(row.numbers[0]),
         counts: (row.sort == Sort::Accepted).then_some([row.numbers[2], row.numbers[3]]),
-        words: row.words.clone(),
+        words: if row.why.is_empty() { row.words.clone() } else { row.why.clone() },
         place,
         older: row.older,
         page,

@@ -1,10 +1,9 @@
-//! What a page says of a refusal. All that it says comes from here.
+//! What a page says of a refusal. All that it says comes from here: the words of the library's refusal, and why it was given.
 
 use crate::subject::Texts;
-use zorambi::files::Loaded;
 use zorambi::words::{told, Known};
 use zorambi::{check_fault, check_older_fault, line, shown, Refused, Text, MAX_TEXT};
-use zorambi_explain::{Sort, Voice};
+use zorambi_explain::{texts as explain, Sort, Text as Read, Voice};
 use zorambi_show::{Names, Style};
 
 /// Bytes of a line that are shown.
@@ -15,37 +14,36 @@ pub struct Explained {
     pub refused: Refused,
     /// `refused: a split's K (14) at node 9`
     pub words: String,
-    /// What does not fit, in a sentence; empty if the words say it all.
+    /// What does not fit, in a sentence.
     pub why: String,
-    /// What to do about it, where there is something.
+    /// What to do about it.
     pub mend: String,
     /// `proof.txt:12: 4 8 -1 -1 -1 1 2 5 7`
     pub line: Option<String>,
 }
 
-/// What is said of a refusal of these texts, with names for symbols.
+/// What is said of a refusal of these texts, with these names of symbols.
 pub fn explained(refused: Refused, texts: &Texts, names: &Names) -> Explained {
+    let named = [(Sort::Schema, &texts.schema), (Sort::Proof, &texts.proof)];
     let fault = if texts.older { check_older_fault } else { check_fault };
-    let fault = fault(&texts.schema.bytes, &texts.proof.bytes);
-    let named = [("schema.txt", &texts.schema), ("proof.txt", &texts.proof)];
+    let at = fault(&texts.schema.bytes, &texts.proof.bytes)
+        .map(|(text, number)| (named[usize::from(text != Text::Schema)], number));
     let too_long = named.into_iter().find(|(_, text)| text.bytes.len() > MAX_TEXT);
-    let at = fault.map(|(text, number)| (named[usize::from(text != Text::Schema)], number));
-    let file = at.map(|(file, _)| file).or(too_long);
-    let unread = file.and_then(|(_, text): (_, &Loaded)| text.unread.as_ref());
-    let bytes = at.filter(|_| unread.is_none()).map(|((name, text), number)| (name, number, line(&text.bytes, number)));
+    let of = at.map(|(of, _)| of).or(too_long);
+    let unread = of.and_then(|(_, text)| text.unread.as_ref());
+    let at_fault =
+        at.filter(|_| unread.is_none()).map(|((sort, text), number)| (sort, number, line(&text.bytes, number)));
     let known = Known {
-        file: file.map(|(name, _)| name),
+        file: of.map(|(sort, _)| sort.file()),
         unread,
-        line: bytes.map(|(.., bytes)| bytes),
-        growing: false,
+        line: at_fault.map(|(.., bytes)| bytes),
+        ..Known::default()
     };
-    let line = bytes.map(|(name, number, bytes)| {
-        let cut = if bytes.len() > SHOWN { "..." } else { "" };
-        format!("{name}:{number}: {}{cut}", shown(&bytes[..bytes.len().min(SHOWN)]))
-    });
-    let of = |sort, loaded| zorambi_explain::Text::new(sort, loaded);
-    let both = [of(Sort::Schema, &texts.schema), of(Sort::Proof, &texts.proof)];
     let voice = Voice { names: names.clone(), style: Style::Unicode };
-    let why = zorambi_explain::texts(both, refused, &voice);
+    let why = explain(named.map(|(sort, text)| Read::new(sort, text)), refused, &voice);
+    let line = at_fault.map(|(sort, number, bytes)| {
+        let cut = if bytes.len() > SHOWN { "..." } else { "" };
+        format!("{}:{number}: {}{cut}", sort.file(), shown(&bytes[..bytes.len().min(SHOWN)]))
+    });
     Explained { refused, words: told(refused, &known), why: why.line, mend: why.mend, line }
 }
