@@ -15,7 +15,7 @@ ends() { # NAME STATUS PRINTED SAID COMMAND..
   local status
   "${@:5}" >"$work/out" 2>"$work/err"
   status=$?
-  alike "$1" "$2|$3|$4" "$status|$(cat "$work/out")|$(cat "$work/err")"
+  alike "$1" "$2|$3|$4" "$status|$(cat "$work/out")|$(unexplained <"$work/err")"
 }
 
 # ---- stand-ins for a proved program, beside a program that is installed
@@ -127,7 +127,7 @@ on_a_terminal() { # WORD..
 }
 unset NO_COLOR
 alike "accepted on a terminal" "${lines}0 0 65 3"$'\n\e[32maccepted: 65 nodes, 3 links\e[0m' "$(on_a_terminal check records/accepted/rca_zero)"
-alike "refused on a terminal" "${lines}14 3 0 0"$'\n\e[31mrefused: a void\'s bound (14) at node 3\e[0m\nproof.txt:8: 2 7 1 -1 -1 -1 0 1' \
+alike "refused on a terminal" "${lines}14 3 0 0"$'\n\e[31mrefused: a void\'s bound (14) at node 3\e[0m\n14: node 3 knows 0 <= n <= 8, but row 1 (some i from 5 to n: p0[i]) is empty only up to n = 4\nproof.txt:8: 2 7 1 -1 -1 -1 0 1' \
   "$(on_a_terminal check records/refused/void_above_least)"
 export NO_COLOR=1
 alike "accepted on a terminal, NO_COLOR" "${lines}0 0 65 3
@@ -174,25 +174,25 @@ object = json.load(sys.stdin)
 print([object[key] for key in sys.argv[1:]], len(object))' "$@"
 }
 keys=(record verdict answer place nodes links refusal file line text check)
-alike "an object of an acceptance" "['records/accepted/rca_zero', 'accepted', 0, 0, 65, 3, None, None, None, None, 'present'] 11" \
+alike "an object of an acceptance" "['records/accepted/rca_zero', 'accepted', 0, 0, 65, 3, None, None, None, None, 'present'] 12" \
   "$("$zorambi" check --json records/accepted/rca_zero | read_back "${keys[@]}")"
-alike "an object of a refusal" "['records/refused/void_above_least', 'refused', 14, 3, 0, 0, \"a void's bound\", 'proof.txt', 8, '2 7 1 -1 -1 -1 0 1', 'present'] 11" \
+alike "an object of a refusal" "['records/refused/void_above_least', 'refused', 14, 3, 0, 0, \"a void's bound\", 'proof.txt', 8, '2 7 1 -1 -1 -1 0 1', 'present'] 12" \
   "$("$zorambi" check --json records/refused/void_above_least | read_back "${keys[@]}")"
-alike "an object of an older record" "['accepted', 'older'] 11" "$("$zorambi" check --older --json records/tidy/rows_twice | read_back verdict check)"
+alike "an object of an older record" "['accepted', 'older'] 12" "$("$zorambi" check --older --json records/tidy/rows_twice | read_back verdict check)"
 ends "an object, its status and what is said" 1 "$("$zorambi" check --json records/refused/void_above_least)" "" "$zorambi" check --json records/refused/void_above_least
 record "$work/quo\"te\\"$'\n\xff'
 printf 'root "least"\\\x1b\n' >"$work/quo\"te\\"$'\n\xff/schema.txt'
-alike "an object with bytes of all kinds" "['$work/quo\"te\\\\\\\\\\\\x0a\\\\xff', 'a heading', 'schema.txt', 1, 'root \"least\"\\\\\\\\\\\\x1b'] 11" \
+alike "an object with bytes of all kinds" "['$work/quo\"te\\\\\\\\\\\\x0a\\\\xff', 'a heading', 'schema.txt', 1, 'root \"least\"\\\\\\\\\\\\x1b'] 12" \
   "$("$zorambi" check --json "$work/quo\"te\\"$'\n\xff' | read_back record refusal file line text)"
 printf 'n\n9\nsymbol index\n' >"$work/e/model.txt"
-alike "an object of a model" "['refused', 20, -1, 'the schema is false there', 'model'] 11" "$("$zorambi" model --json "$work/e" | read_back verdict answer place refusal check)"
+alike "an object of a model" "['refused', 20, -1, 'the schema is false there', 'model'] 12" "$("$zorambi" model --json "$work/e" | read_back verdict answer place refusal check)"
 printf 'n\n0\nsymbol index\n' >"$work/e/model.txt"
-ends "a model's n out of range" 1 "${lines}19 -1 0 0" "refused: n out of range: 0 is not 1 to 9999 (19)" "$zorambi" model "$work/e"
+ends "a model's n out of range" 1 "${lines}19 -1 0 0" "refused: n out of range (19)" "$zorambi" model "$work/e"
 found=(record n found pairs answer place refusal)
-alike "an object of no model" "['$work/e', 3, False, None, 0, 0, None] 7" "$("$zorambi" find --json "$work/e" 3 | read_back "${found[@]}")"
+alike "an object of no model" "['$work/e', 3, False, None, 0, 0, None] 8" "$("$zorambi" find --json "$work/e" 3 | read_back "${found[@]}")"
 sed -i '2s/4/2/' "$work/e/schema.txt"
-alike "an object of a model found" "['$work/e', 3, True, [[0, 3]], 0, 0, None] 7" "$("$zorambi" find --json "$work/e" 3 | read_back "${found[@]}")"
-alike "an object of a search that is refused" "['$work/e', 18, None, None, 30, -1, 'more than 16 pairs that occur at that n: 17 occur at n = 18'] 7" \
+alike "an object of a model found" "['$work/e', 3, True, [[0, 3]], 0, 0, None] 8" "$("$zorambi" find --json "$work/e" 3 | read_back "${found[@]}")"
+alike "an object of a search that is refused" "['$work/e', 18, None, None, 30, -1, 'more than 16 pairs that occur at that n'] 8" \
   "$("$zorambi" find --json "$work/e" 18 | read_back "${found[@]}")"
 ends "quiet, accepted" 0 "" "" "$zorambi" check --quiet records/accepted/rca_zero
 ends "quiet, refused" 1 "" "" "$zorambi" check --quiet records/refused/void_above_least
@@ -200,7 +200,7 @@ ends "quiet, a model" 1 "" "" "$zorambi" model --quiet "$work/e"
 ends "quiet, a model found" 0 "" "" "$zorambi" find --quiet "$work/e" 3
 ends "quiet, a search refused" 1 "" "" "$zorambi" find --quiet "$work/e" 18
 ends "quiet, no folder" 2 "" "zorambi check: no such folder: $work/none" "$zorambi" check --quiet "$work/none"
-for command in check model catalogue merge find convert small tidy join grow help; do
+for command in check model show explain catalogue merge find widths dimacs verilog convert small tidy join grow help; do
   ends "help $command" 0 "$("$zorambi" "$command" --help)" "" "$zorambi" help "$command"
   said_first=$("$zorambi" help "$command" | head -n 1)
   alike "help $command, its use" "use: zorambi $command" "${said_first:0:$((13 + ${#command}))}"

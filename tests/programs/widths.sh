@@ -13,9 +13,9 @@ alike "dimacs at 3" $'c pair 0 2 1\nc pair 0 3 2\np cnf 3 2\n-3 1 2 0\n3 0' "$(h
 alike "dimacs at 1" $'p cnf 0 1\n0' "$(head_of dimacs 1 9)"
 alike "verilog at 2" $'module schema_at_2 (\n  input p0_2, // symbol 0 at 2\n  output root\n);\n  assign root = p0_2;\nendmodule' "$(head_of verilog 2 9)"
 for command in dimacs verilog; do
-  gives "$command below the least value" 1 "" "${two}19 -1 0 0"$'\nrefused: n out of range: 0 is not 1 to 9999 (19)\n' "$command" "$work/w" 0
-  gives "$command above 9999" 1 "" "${two}19 -1 0 0"$'\nrefused: n out of range: 10000 is not 1 to 9999 (19)\n' "$command" "$work/w" 10000
-  gives "$command of a row too large" 1 "" "${two}8 12 0 0"$'\nrefused: a formula too large or too deep (8) at row 12\nschema.txt:16: 4 11 0 0\n' \
+  gives "$command below the least value" 1 "" "${two}19 -1 0 0"$'\nrefused: n out of range (19)\n19: n is 0, below the schema\'s least value, 1\n' "$command" "$work/w" 0
+  gives "$command above 9999" 1 "" "${two}19 -1 0 0"$'\nrefused: n out of range (19)\n19: n is 10000, over 9999: 1 too large\n' "$command" "$work/w" 10000
+  gives "$command of a row too large" 1 "" "${two}8 12 0 0"$'\nrefused: a formula too large or too deep (8) at row 12\n8: row 12 has size 4097, 4,096 allowed\nschema.txt:16: 4 11 0 0\n' \
     "$command" records/refused/size_4097 3
   gives "$command of no schema" 1 "" "${two}3 1 0 0"$'\nrefused: schema.txt is missing (3)\n' "$command" tests 3
   ends "$command to a full disk" 2 "" "zorambi $command: standard output: No space left on device (os error 28)" \
@@ -48,8 +48,8 @@ solves "a model that is none" 2 "" "zorambi widths: n = 3: WRONG: what $work/sol
 schema is false there (20). Do not rely on this solver's other answers, nor on 'no model' above" liar "$work/w" 3 4
 solves "a solver that is killed" 2 "" "zorambi widths: n = 3: $work/solvers/killed was ended by signal 9" killed "$work/w" 3 4
 solves "a solver that is not there" 2 "" "zorambi widths: n = 3: no such solver: $work/solvers/none" none "$work/w" 3 4
-solves "below the least value" 1 "${two}19 -1 0 0" "refused: n out of range: 0 is not 1 to 9999 (19)" no "$work/w" 0 4
-solves "up to above 9999" 1 "${two}19 -1 0 0" "refused: n out of range: 10000 is not 1 to 9999 (19)" no "$work/w" 3 10000
+solves "below the least value" 1 "${two}19 -1 0 0" $'refused: n out of range (19)' no "$work/w" 0 4
+solves "up to above 9999" 1 "${two}19 -1 0 0" $'refused: n out of range (19)' no "$work/w" 3 10000
 solves "the same, quietly" 1 "" "" no --quiet "$work/w" 3 10000
 solves "quietly" 0 "" "" no --quiet "$work/w" 3 4
 solves "an ill-formed row" 1 "${two}8 12 0 0" $'refused: a formula too large or too deep (8) at row 12\nschema.txt:16: 4 11 0 0' no records/refused/size_4097 3 4
@@ -77,8 +77,8 @@ alike "json" "[(1, False, False, None), (2, True, True, [[0, 2]])]" \
   "$(widths_json honest 1 2 '[(r["n"], r["found"], r["proved"], r["pairs"]) for r in rows]')"
 alike "json, no answer" "[(None, False, 'no answer: the solver does not know', 0)]" \
   "$(widths_json unknown 2 2 '[(r["found"], r["proved"], r["words"], r["answer"]) for r in rows]')"
-alike "json, refused" "[(None, False, None, 19, -1, 'n out of range: 0 is not 1 to 9999')]" \
-  "$(widths_json no 0 2 '[(r["found"], r["proved"], r["solver"], r["answer"], r["place"], r["refusal"]) for r in rows]')"
+alike "json, refused" "[(None, False, None, 19, -1, 'n out of range', \"n is 0, below the schema's least value, 1\")]" \
+  "$(widths_json no 0 2 '[(r["found"], r["proved"], r["solver"], r["answer"], r["place"], r["refusal"], r["why"]) for r in rows]')"
 
 # Models in a new or an empty folder, each beside its schema.
 solves "models" 0 $'n = 1: no model, the solver\'s word\nn = 2: a model, accepted by the proved check\nn = 3: a model, accepted by the proved check' "" \

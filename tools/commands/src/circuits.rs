@@ -19,8 +19,8 @@ begins with 'minisat' is given a second file's name, for what it writes. Without
 cadical, kissat, minisat and cryptominisat5 that is installed.\n\n\
 With --json it prints one object a line: record (the folder), n, found (true, false, or null where the solver does \
 not know), proved (whether the proved check accepted a model), pairs (the true pairs, each a symbol and an index), \
-solver, words (what is printed otherwise), answer and place (0, or those of a refusal) and refusal (why); what there \
-is not is null.\n\n\
+solver, words (what is printed otherwise), answer and place (0, or those of a refusal), refusal (what it is about) and \
+why (what does not fit, in a sentence); what there is not is null.\n\n\
 The exit status is 0 if the solver answers at every n, 1 for a refusal, 2 for wrong use, for a failure, for a model \
 that the proved check refuses, and if the solver does not know at some n.",
     options: &[

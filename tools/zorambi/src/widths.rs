@@ -124,7 +124,7 @@ impl Lines {
         let place = told.and_then(|told| told.refused.place).map_or(-1, |place| place as i64);
         format!(
             "{{\"record\":{},\"n\":{n},\"found\":{},\"proved\":{},\"pairs\":{},\"solver\":{},\"words\":{},\
-             \"answer\":{},\"place\":{},\"refusal\":{}}}\n",
+             \"answer\":{},\"place\":{},\"refusal\":{},\"why\":{}}}\n",
             json_string(&self.record),
             or_null(found),
             matches!(finding, Some(Finding::Proved(_))),
@@ -134,6 +134,7 @@ impl Lines {
             told.map_or(0, |told| told.refused.refusal.number()),
             told.map_or(0, |_| place),
             or_null(told.map(|told| json_string(&told.about))),
+            or_null(told.and_then(|told| told.why.as_deref()).map(json_string)),
         )
     }
 }
