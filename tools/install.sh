@@ -24,11 +24,9 @@ version=$("$program" --version | sed -n '1s/^zorambi \([0-9.]*\),.*/\1/p')
 [ -n "$version" ] || { say "$program does not say its version"; exit 2; }
 to=${DESTDIR-}$prefix
 
-# The shared library is the static one's code. '-z text' fails if that were not position independent.
 shared=libzorambi.so.$version
 soname=libzorambi.so.${version%%.*}
-cc -shared -o "$scratch/$shared" -Wl,-soname,"$soname" -Wl,-z,text -Wl,-z,defs \
-  -Wl,--whole-archive "$library" -Wl,--no-whole-archive
+"$root/tools/shared.sh" "$scratch/$shared" "$soname"
 
 # The commands that the program has, without those of ./zorambi.
 commands() { "$program" help | sed -n '/^and /q; s/^  \([a-z]*\) .*/\1/p'; }
