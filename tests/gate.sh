@@ -17,7 +17,7 @@ early_scripts=(tests/edit-reasons.sh tests/gate-counts.sh tests/contracts.py tes
 early_packages=(zorambi-reference zorambi-commands)
 # What needs the library, the programs and the program zorambi.
 packages=(zorambi zorambi-catalogue zorambi-cli)
-scripts=(tests/programs.sh tests/readme.sh tests/catalogue.sh tests/install.sh tests/stack.sh)
+scripts=(tests/programs.sh tests/readme.sh tests/catalogue.sh tests/install.sh tests/python.sh tests/stack.sh)
 
 # ---- how a group is counted
 

@@ -1,0 +1,25 @@
+"""python3 -m tests, in bindings/python: runs all tests, says which were not tried and why, and ends with 'N passed, M failed'."""
+
+import sys
+import unittest
+from pathlib import Path
+
+FOLDER = Path(__file__).resolve().parent
+
+
+def main() -> int:
+    suite = unittest.defaultTestLoader.discover(str(FOLDER), top_level_dir=str(FOLDER.parent))
+    result = unittest.TextTestRunner(verbosity=0, stream=sys.stdout).run(suite)
+    for test, reason in result.skipped:
+        print(f"not tried: {test.id()}: {reason}")
+    failed = len(result.failures) + len(result.errors) + len(result.unexpectedSuccesses)
+    passed = result.testsRun - failed - len(result.skipped)
+    if result.testsRun == 0:
+        print("no test was found")
+        failed = 1
+    print(f"{max(0, passed)} passed, {failed} failed")
+    return 1 if failed else 0
+
+
+if __name__ == "__main__":
+    sys.exit(main())
