@@ -2,6 +2,7 @@
 commits."""
 
 import unittest
+from array import array
 from typing import Any, Callable
 
 import zorambi
@@ -74,10 +75,11 @@ class Grows(unittest.TestCase):
         self.assertEqual(self.refused(Growing, Schema(1, 0, rows), [(0,) * 4] * 2).refusal, Refusal.REPEATED)
 
     def test_it_has_its_own_rows(self) -> None:
-        rows = [(2, 0, 1, 0), (3, 0, 1, 0), (4, 0, 1, 0)]
+        rows = array("i", [2, 0, 1, 0, 3, 0, 1, 0, 4, 0, 1, 0])
         schema = Schema(2, 0, rows)
-        growing = Growing(schema)
-        rows[2] = (0, 0, 0, 0)
+        more = array("i", [0, 0, 0, 0])
+        growing = Growing(schema, more)
+        rows[8], more[0] = 0, 99
         schema.root = 9
         growing.add((-1, 0, 2, -1, -1, -1, 0), [2])
         growing.record().schema.rows.clear()

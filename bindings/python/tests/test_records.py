@@ -60,6 +60,12 @@ class Paper(unittest.TestCase):
         self.assertEqual(zorambi.check_texts(*both).line, Line(Text.PROOF, 6, b"2 0 1 0"))
         self.assertEqual(zorambi.check_older_texts(*both), Verdict(0, None, 7, 1))
         self.assertEqual(zorambi.check(Record(record.schema, zorambi.tidy(record))), Verdict(0, None, 7, 1))
+        # With a wrong node besides, each check has its own line.
+        record.proof.nodes[5] = (4, 8, -1, -1, -1, 1, 2, 10, 2)
+        both = zorambi.write_schema(record.schema), zorambi.write_proof(record.proof)
+        self.assertEqual(zorambi.check_texts(*both).line, Line(Text.PROOF, 6, b"2 0 1 0"))
+        older = Line(Text.PROOF, 13, b"4 8 -1 -1 -1 1 2 5 7")
+        self.assertEqual((zorambi.check_older_texts(*both).line, zorambi.check_older_fault(*both)), (older, older))
 
     def test_without_nodes(self) -> None:
         verdict = zorambi.check(Record(paper().schema, Proof()))

@@ -76,6 +76,9 @@ class NeverCalled(unittest.TestCase):
             zorambi.write_schema,
             Schema(0, 0, [(0, 0, 0, 0), (0, 0, 0)]),
         )
+        self.raises(
+            ValueError, "the schema: row 0 has 5 numbers, not 4", zorambi.write_schema, Schema(0, 0, [(0, 0, 0, 0, 0)])
+        )
         self.raises(ValueError, "the nodes: row 0 has 7 numbers, not 9", zorambi.write_proof, Proof([], [(0,) * 7], []))
         self.raises(ValueError, "the pairs: row 0 has 1 numbers, not 2", zorambi.write_model, Model(0, [(0,)]))
         for wrong in (0, None, "0000", b"0000", {0: 0, 1: 0, 2: 0, 3: 0}, {0, 1, 2, 3}):
@@ -89,6 +92,9 @@ class NeverCalled(unittest.TestCase):
             zorambi.write_schema,
             Schema(0, 0, array("i", [0] * 7)),
         )
+        for shape in ((1, 8), (8, 1), (2, 2, 2)):
+            rows = memoryview(bytearray(32)).cast("i", shape)
+            self.raises(ValueError, f"an array of shape {shape} is not rows", zorambi.write_schema, Schema(0, 0, rows))
 
     def test_records_and_texts(self) -> None:
         self.raises(TypeError, "a record is needed, zorambi.Record, not a Schema", zorambi.check, Schema())
@@ -124,12 +130,14 @@ class Lent(unittest.TestCase):
             array("I", [0]),
             None,
         ):
-            self.assertRaises(TypeError, entries.read_schema, text, wrong, results)
+            self.assertRaisesRegex(
+                TypeError, "table is lent to be written", entries.read_schema, text, wrong, results
+            )
         for length in (0, 2, 4):
             self.assertRaises(ValueError, entries.read_schema, text, table, array("i", [0] * length))
         self.assertRaises(TypeError, entries.read_schema, text, table, [0] * 3)
         for wrong in (bytes(10), array("i", [0]), None, "", memoryview(bytearray(10))[::2]):
-            self.assertRaises(TypeError, entries.write_model, 0, [], 0, wrong)
+            self.assertRaisesRegex(TypeError, "out is lent to be written", entries.write_model, 0, [], 0, wrong)
         for wrong in (array("Q", [0, 0]), [0, 0], (ctypes.c_size_t * 3)(), None):
             self.assertRaises(TypeError, entries.line, b"", 1, wrong)
         self.assertEqual((table, results), (array("i", [7] * 4096), array("i", [7] * 3)))
@@ -146,6 +154,9 @@ class Lent(unittest.TestCase):
             entries.next_small(view[:8], 1, view[4:8])
         with self.assertRaisesRegex(ValueError, "share memory"):
             entries.next_small(view, 1, view[4:8])
+        with self.assertRaisesRegex(ValueError, "next and table share memory"):
+            entries.next_small(view[4:8], 1, view[:8])
+        entries.next_small(view[4:8], 1, view[:4])
         # What is only read may overlap.
         self.assertEqual(entries.check(view[:8], 2, view[4:12], 2, 0, 0, view[:9], 1, view[:1], 1) >> 39, 27)
 
