@@ -66,7 +66,7 @@ for name in schema.txt proof.txt; do
 done
 
 if command -v mypy >/dev/null; then
-  check "types" mypy --strict --python-version 3.9 --cache-dir "$work/mypy" bindings/python/zorambi
+  check "types" mypy --strict --cache-dir "$work/mypy" bindings/python/zorambi
 else
   echo "not tried: mypy is not installed"
 fi

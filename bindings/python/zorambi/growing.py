@@ -2,11 +2,11 @@
 
 import threading
 from dataclasses import dataclass
-from typing import Any, List, Sequence, Tuple
+from typing import Any, List, Tuple
 
 from . import entries
 from ._memory import flat, numbers, plain_rows, table
-from .record import MAX_MEMBERS, MAX_NODES, NODE_ROW, Proof, Record, Rows, Schema, schema_tables, zeros
+from .record import MAX_MEMBERS, MAX_NODES, NODE_ROW, Members, Proof, Record, Row, Rows, Schema, schema_tables, zeros
 from .verdict import Refused, unpacked
 
 
@@ -63,7 +63,7 @@ class Growing:
             self._standing = self._call(entries.begin)
             return self._standing
 
-    def add(self, row: Sequence[int], members: Sequence[int]) -> Standing:
+    def add(self, row: Row, members: Members) -> Standing:
         """Adds a node row (up rule on with other to by) with its set at the end. It is judged as by `check`, but that
         its children may come later and that it may not be a child too many."""
         with self._lock:
@@ -76,7 +76,7 @@ class Growing:
             self._standing = self._call(entries.take_back)
             return self._standing
 
-    def enquire(self, row: Sequence[int], members: Sequence[int]) -> Standing:
+    def enquire(self, row: Row, members: Members) -> Standing:
         """Answers as `add` would, and changes no row: what would be there with the row. One that would be added waits
         for `commit`, otherwise none does."""
         with self._lock:
@@ -114,7 +114,7 @@ class Growing:
             return Record(schema, Proof(plain_rows(proof_rows, proof_count, 4), nodes, members))
 
 
-def _node_row(row: Sequence[int]) -> Any:
+def _node_row(row: Row) -> Any:
     """The seven numbers of a node row."""
     given = flat(numbers("the row", row))
     if len(given) != 7:

@@ -11,8 +11,10 @@ from .verdict import Verdict, unpacked
 
 # Rows of so many numbers each, in a list or another sequence; or a buffer of int32 numbers, such as a numpy array, flat
 # or with a row in each line.
-Rows = Union[Sequence[Sequence[int]], Any]
-Members = Union[Sequence[int], Any]
+Rows = Union[List[Sequence[int]], Any]
+# Numbers in a list or another sequence, or in a buffer.
+Row = Union[Sequence[int], Any]
+Members = Union[List[int], Any]
 
 # What a node's row is.
 NODE_ROW = "up rule on with other to by; its set is given by itself"
@@ -66,7 +68,7 @@ class Proof(_Tables):
     nodes: Rows = field(default_factory=list)
     members: Members = field(default_factory=list)
 
-    def add_node(self, row: Sequence[int], members: Sequence[int]) -> int:
+    def add_node(self, row: Row, members: Members) -> int:
         """Adds a node (up rule on with other to by) with its set at the end, and gives its number. `nodes` and
         `members` are lists."""
         if len(row) != 7:

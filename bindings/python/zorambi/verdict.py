@@ -45,11 +45,10 @@ def about(number: int, place: Optional[int], rule: Optional[int] = None, growing
         return GROWING[number]
     if (number, place) in AT_PLACE:
         return AT_PLACE[number, place]
-    if rule is not None and not 0 <= rule < len(RULES):
-        words = NO_SUCH_RULE.get(number)
-    else:
-        words = None if rule is None else OF_RULE.get((number, rule))
-    return words or WORDS.get(number, "a refusal that this package does not know")
+    words = WORDS.get(number, "a refusal that this package does not know")
+    if rule is None:
+        return words
+    return OF_RULE.get((number, rule), words) if 0 <= rule < len(RULES) else NO_SUCH_RULE.get(number, words)
 
 
 def told(number: int, place: Optional[int], rule: Optional[int] = None, growing: bool = False) -> str:
