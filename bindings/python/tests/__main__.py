@@ -1,4 +1,4 @@
-"""python3 -m tests, in bindings/python: runs all tests, says which were not tried and why, and ends with 'N passed, M failed'."""
+"""python3 -m tests, in bindings/python: runs all tests, says which were not tried, and ends with 'N passed, M failed'."""
 
 import sys
 import unittest

@@ -155,7 +155,6 @@ def _copied(given: Iterable[Any], named: Callable[[int], str]) -> "array[int]":
     return copy
 
 
-def plain_rows(table: Numbers, count: int, width: int) -> List[Tuple[int, ...]]:
-    """The first rows of a table, as tuples."""
-    numbers = flat(table)[: count * width]
+def plain_rows(numbers: Any, width: int) -> List[Tuple[int, ...]]:
+    """The numbers of an array, which stand one after another, as rows, each a tuple."""
     return list(zip(*[iter(numbers)] * width))

@@ -106,12 +106,12 @@ class Growing:
     def record(self) -> Record:
         """The schema, the formula rows and the node rows that are there."""
         with self._lock:
-            schema_rows, schema_count, proof_rows, proof_count, root, least = self._given
+            schema_rows, _, proof_rows, _, root, least = self._given
             node_count, member_count = self._held
-            schema = Schema(root, least, plain_rows(schema_rows, schema_count, 4))
-            nodes = plain_rows(self._nodes, node_count, 9)
+            nodes = plain_rows(self._nodes[: node_count * 9], 9)
             members = self._members[:member_count].tolist()
-            return Record(schema, Proof(plain_rows(proof_rows, proof_count, 4), nodes, members))
+            schema = Schema(root, least, plain_rows(schema_rows, 4))
+            return Record(schema, Proof(plain_rows(proof_rows, 4), nodes, members))
 
 
 def _node_row(row: Row) -> Any:

@@ -18,7 +18,7 @@ from .record import (
     schema_tables,
     zeros,
 )
-from .text import filled_proof
+from .text import filled_proof, with_lists
 from .verdict import succeeded
 
 
@@ -29,7 +29,7 @@ def find_model(schema: Schema, n: int) -> Optional[Model]:
     pairs, results = zeros(MAX_PAIRS * 2), zeros(2)
     answer = succeeded(entries.find_model(*schema_tables(schema), number("n", n), pairs, results))
     n, count = results
-    return Model(n, plain_rows(pairs, count, 2)) if answer.nodes == 1 else None
+    return Model(n, plain_rows(pairs[: count * 2], 2)) if answer.nodes == 1 else None
 
 
 def convert(wide: Schema) -> Schema:
@@ -39,7 +39,7 @@ def convert(wide: Schema) -> Schema:
     plain, results = zeros(MAX_ROWS * 4), zeros(3)
     succeeded(entries.convert(*schema_tables(wide), plain, results))
     root, least, count = results
-    return Schema(root, least, plain_rows(plain, count, 4))
+    return Schema(root, least, plain_rows(plain[: count * 4], 4))
 
 
 def next_small(rows: Rows) -> Optional[Rows]:
@@ -51,7 +51,7 @@ def next_small(rows: Rows) -> Optional[Rows]:
     numbers, count = table("the table", rows, 4)
     following = zeros(count * 4)
     answer = succeeded(entries.next_small(numbers, count, following))
-    return plain_rows(following, count, 4) if answer.nodes == 1 else None
+    return plain_rows(following, 4) if answer.nodes == 1 else None
 
 
 def small(rows: int) -> Iterator[Schema]:
@@ -78,7 +78,7 @@ def tidy(record: Record) -> Proof:
     equals it, sets and fields get the new numbers, each set is sorted anew. If `check_older` accepts the record,
     `check` accepts its schema with this proof, with the same counts; otherwise its refusal is raised."""
     tables = record_tables(record)
-    return filled_proof(lambda *lent: succeeded(entries.tidy(*tables, *lent)))
+    return with_lists(filled_proof(lambda *lent: succeeded(entries.tidy(*tables, *lent))))
 
 
 def join(first: Record, second: Record) -> Record:
@@ -92,7 +92,5 @@ def join(first: Record, second: Record) -> Record:
     nodes, members, results = zeros(MAX_NODES * 9), zeros(MAX_MEMBERS), zeros(6)
     succeeded(entries.join(*record_tables(first), *record_tables(second), schema, proof, nodes, members, results))
     root, least, schema_rows, proof_rows, node_rows, member_count = results
-    return Record(
-        Schema(root, least, plain_rows(schema, schema_rows, 4)),
-        Proof(plain_rows(proof, proof_rows, 4), plain_rows(nodes, node_rows, 9), members[:member_count].tolist()),
-    )
+    joined = Proof(proof[: proof_rows * 4], nodes[: node_rows * 9], members[:member_count])
+    return Record(Schema(root, least, plain_rows(schema[: schema_rows * 4], 4)), with_lists(joined))

@@ -45,13 +45,15 @@ def _read(which: Text, text: bytes, read: Callable[[bytes], int]) -> None:
         raise Refused(refused.number, at, Line(which, at, line(text, at)) if at else None) from None
 
 
-def read_schema(text: bytes) -> Schema:
-    """Reads a schema text, also of a wide schema. Raises Refused with the line at fault."""
+# What is read stands in arrays, which the checks take as they are; a reader gives lists of rows.
+
+
+def _schema(text: bytes) -> Schema:
     text = text_bytes("a schema text", text)
     rows, results = zeros(MAX_ROWS * 4), zeros(3)
     _read(Text.SCHEMA, text, lambda text: entries.read_schema(text, rows, results))
     root, least, count = results
-    return Schema(root, least, plain_rows(rows, count, 4))
+    return Schema(root, least, rows[: count * 4])
 
 
 def filled_proof(fill: Callable[..., Any]) -> Proof:
@@ -59,22 +61,42 @@ def filled_proof(fill: Callable[..., Any]) -> Proof:
     rows, nodes, members, results = zeros(MAX_ROWS * 4), zeros(MAX_NODES * 9), zeros(MAX_MEMBERS), zeros(3)
     fill(rows, nodes, members, results)
     row_count, node_count, member_count = results
-    return Proof(plain_rows(rows, row_count, 4), plain_rows(nodes, node_count, 9), members[:member_count].tolist())
+    return Proof(rows[: row_count * 4], nodes[: node_count * 9], members[:member_count])
 
 
-def read_proof(text: bytes) -> Proof:
-    """Reads a proof text. Raises Refused with the line at fault."""
+def _proof(text: bytes) -> Proof:
     text = text_bytes("a proof text", text)
     return filled_proof(lambda *lent: _read(Text.PROOF, text, lambda text: entries.read_proof(text, *lent)))
 
 
-def read_model(text: bytes) -> Model:
-    """Reads a model text. Raises Refused with the line at fault."""
+def _model(text: bytes) -> Model:
     text = text_bytes("a model text", text)
     pairs, results = zeros(MAX_PAIRS * 2), zeros(2)
     _read(Text.MODEL, text, lambda text: entries.read_model(text, pairs, results))
     n, count = results
-    return Model(n, plain_rows(pairs, count, 2))
+    return Model(n, pairs[: count * 2])
+
+
+def read_schema(text: bytes) -> Schema:
+    """Reads a schema text, also of a wide schema. Raises Refused with the line at fault."""
+    schema = _schema(text)
+    return Schema(schema.root, schema.least, plain_rows(schema.rows, 4))
+
+
+def with_lists(proof: Proof) -> Proof:
+    """A proof whose tables are arrays, with lists instead."""
+    return Proof(plain_rows(proof.rows, 4), plain_rows(proof.nodes, 9), list(proof.members))
+
+
+def read_proof(text: bytes) -> Proof:
+    """Reads a proof text. Raises Refused with the line at fault."""
+    return with_lists(_proof(text))
+
+
+def read_model(text: bytes) -> Model:
+    """Reads a model text. Raises Refused with the line at fault."""
+    model = _model(text)
+    return Model(model.n, plain_rows(model.pairs, 2))
 
 
 def _written(entry: entries.Entry, *tables: Any) -> bytes:
@@ -138,16 +160,16 @@ def _with_line(judge: Callable[[], Verdict], fault: Callable[[], Optional[Line]]
 def check_texts(schema: bytes, proof: bytes) -> Verdict:
     """Reads a schema text, then a proof text, and checks the record. A text refused in reading gives its refusal, and
     nothing is checked. A refusal has its line."""
-    return _with_line(lambda: check(Record(read_schema(schema), read_proof(proof))), lambda: check_fault(schema, proof))
+    return _with_line(lambda: check(Record(_schema(schema), _proof(proof))), lambda: check_fault(schema, proof))
 
 
 def check_older_texts(schema: bytes, proof: bytes) -> Verdict:
     """The same with `check_older`."""
     return _with_line(
-        lambda: check_older(Record(read_schema(schema), read_proof(proof))), lambda: check_older_fault(schema, proof)
+        lambda: check_older(Record(_schema(schema), _proof(proof))), lambda: check_older_fault(schema, proof)
     )
 
 
 def check_model_texts(schema: bytes, model: bytes) -> Verdict:
     """Reads a schema text, then a model text, and checks the model. A refusal has its line."""
-    return _with_line(lambda: check_model(read_schema(schema), read_model(model)), lambda: model_fault(schema, model))
+    return _with_line(lambda: check_model(_schema(schema), _model(model)), lambda: model_fault(schema, model))
