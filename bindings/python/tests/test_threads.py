@@ -3,11 +3,13 @@
 import subprocess
 import sys
 import threading
+import time
 import unittest
 from concurrent.futures import ThreadPoolExecutor
+from unittest import mock
 
 import zorambi
-from zorambi import Growing, Refusal, Refused, Schema
+from zorambi import Growing, Refusal, Refused, Schema, Standing
 
 from . import common
 from .test_beside import Inputs
@@ -71,6 +73,26 @@ class Threads(unittest.TestCase):
         self.assertEqual(growing.standing.nodes, 241)
         self.assertEqual([growing.row(number)[0][0] for number in range(241)], list(range(-1, 240)))
         self.assertEqual(zorambi.check(growing.record()).refusal, Refusal.CHILDREN)
+
+    def test_calls_on_one_tableau_wait_for_one_another(self) -> None:
+        growing = Growing(Schema(1, 0, [(0, 0, 0, 0), (4, 0, 0, 0)]))
+        inside, most = [], []
+
+        def slow(*_: object) -> Standing:
+            inside.append(1)
+            most.append(len(inside))
+            time.sleep(0.005)
+            inside.pop()
+            return Standing()
+
+        row = ((-1, 0, 1, -1, -1, -1, 0), [1])
+        changes = [growing.take_back, growing.commit, growing.begin]
+        calls = [lambda: growing.add(*row), lambda: growing.enquire(*row), *changes]
+        with mock.patch.object(growing, "_call", slow), ThreadPoolExecutor(5) as pool:
+            for call in calls:
+                for waited in [pool.submit(each) for each in (call, *calls)]:
+                    waited.result()
+        self.assertEqual((len(most), max(most)), (30, 1))
 
     def test_a_small_stack(self) -> None:
         """In a process of its own: a stack that is too small ends it."""
