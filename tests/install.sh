@@ -59,6 +59,23 @@ else
   echo "not tried: pkg-config is not installed"
 fi
 
+# ---- Python, with nothing of the project: the package finds the library from where it is
+if python3 -c 'import sys; sys.exit(sys.version_info < (3, 9))' 2>/dev/null; then
+  python() { (cd "$scratch" && env -u ZORAMBI_LIBRARY PYTHONPATH="$prefix/lib/python3" PYTHONDONTWRITEBYTECODE=1 python3 "$@"); }
+  check "Python is told of" grep -q "^install: for Python: export PYTHONPATH=$scratch/first/lib/python3$" "$scratch/out"
+  mkdir "$scratch/paper"
+  out=$(python "$prefix/share/zorambi/examples/paper.py" paper)
+  check "Python: the paper's record" [ "$out" = "accepted: 7 nodes, 1 link" ]
+  for name in schema.txt proof.txt; do
+    check "Python: its $name" cmp -s "$scratch/paper/$name" "$root/records/paper/some_and_none/$name"
+  done
+  out=$(python -c 'import zorambi; print(zorambi.library_file())')
+  check "Python: the installed library" [ "$out" = "$(realpath "$prefix")/lib/libzorambi.so.0" ]
+  check "Python: all of the package" diff -r -x __pycache__ "$root/bindings/python/zorambi" "$prefix/lib/python3/zorambi"
+else
+  echo "not tried: python3 is not installed, or older than 3.9"
+fi
+
 # The shared library has the entries of the header and no others, and needs no change of its code at loading.
 nm -D --defined-only "$prefix/lib/libzorambi.so" | awk '{ print $3 }' | sort >"$scratch/has"
 grep -oE '^(uint64_t|void) zorambi_[a-z_]+\(' "$prefix/include/zorambi.h" | sed 's/.* //; s/(//' | sort >"$scratch/declared"

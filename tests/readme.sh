@@ -1,7 +1,7 @@
 #!/usr/bin/env bash
 # Every command shown in README.md, docs/ and the READMEs beside the examples, run as it stands there: a line '    $ COMMAND' in a block of code, with
 # what it prints and says in the lines after it. Commands of one file share a folder that has the project's files in it; OUT, which the
-# examples write, is new for each block. And the Cargo.toml line of the README builds a program.
+# examples write, is new for each block. And the Cargo.toml line of the README builds a program, and its lines for Python are one.
 set -u
 cd "$(dirname "$0")/.." || exit 2
 root=$PWD
@@ -52,7 +52,7 @@ run_page() { # FILE
     esac
   done < <(commands_of "$1"; echo block)
 }
-pages=(README.md docs/*.md docs/changes/*.md records/README.md)
+pages=(README.md docs/*.md docs/changes/*.md records/README.md examples/*/README.md)
 for page in "${pages[@]}"; do
   rm -rf "$work/at"
   run_page "$page"
@@ -85,6 +85,17 @@ if [ "$printed" = "7 nodes, 1 links" ]; then
 else
   failed=$((failed + 1))
   echo "the program of README.md's lines for Rust: $printed"
+fi
+
+# The code for Python, as a program.
+awk '/^## From Python/ { on = 1 } on && /^    (from|import) / { code = 1 } code && !/^    / && !/^$/ { exit } code { print substr($0, 5) }' \
+  README.md >"$work/example.py"
+printed=$(cd records/refused/void_above_least && PYTHONPATH=$root/bindings/python python3 "$work/example.py" 2>&1)
+if [ "$printed" = "refused: a void's bound (14) at node 3"$'\n'"14 3 proof.txt:8: 2 7 1 -1 -1 -1 0 1"$'\n'"Model(n=5, pairs=[(0, 5)])" ]; then
+  passed=$((passed + 1))
+else
+  failed=$((failed + 1))
+  echo "the program of README.md's lines for Python: $printed"
 fi
 
 echo "$passed passed, $failed failed"

@@ -59,6 +59,14 @@ printf '#!/bin/sh\n%s\n' "$text" >"build/release/$made"
 chmod +x "build/release/$made"
 R
 chmod +x "$work/kit/rt" "$work/kit/cargo"
+# The script of the shared library notes what it is given, and makes that.
+cat >"$repo/tools/shared.sh" <<R
+#!/bin/sh
+echo "\$*" >>"$work/sharing"
+sh "$work/linking" && mkdir -p build/lib && echo shared >"\$1"
+R
+chmod +x "$repo/tools/shared.sh"
+: >"$work/linking"
 echo kit-1 >"$work/version"
 : >"$work/during"
 : >"$work/building"
@@ -70,6 +78,7 @@ path=$work/kit:$PATH
 use() { # WORD...
   : >"$work/proofs"
   : >"$work/builds"
+  : >"$work/sharing"
   (cd "$from" && TMPDIR=$work/tmp PATH=$path "$zorambi" "$@") >"$work/out" 2>"$work/err"
   status=$?
   proofs=$(wc -l <"$work/proofs")
@@ -98,6 +107,9 @@ said() { # LINE...
 }
 printed() { # LINE...
   printf '%s\n' "$@" | cmp -s - "$work/out"
+}
+shares() { # TIMES
+  yes "build/lib/libzorambi.so libzorambi.so" | head -n "$1" | cmp -s - "$work/sharing"
 }
 says() { # TEXT
   grep -qF -- "$1" "$work/err"
@@ -221,8 +233,26 @@ rm -r "$repo/target/bin"
 use build
 expect "build" ended 0 3 "$words"
 expect "build, nothing is printed" cmp -s "$work/out" /dev/null
+expect "build makes the shared library" shares 1
+use build
+expect "build again makes it no more" shares 0
+echo by hand >>"$repo/build/lib/libzorambi.so"
+use build
+expect "another shared library in its place" shares 1
+echo '# a remark' >>"$repo/tools/shared.sh"
+use build
+expect "its script edited" shares 1
+rm "$repo/build/lib/libzorambi.so"
+echo false >"$work/linking"
+use build
+expect "the shared library is not made" ended 2 0 "$words"
+expect "the shared library is not made, what is said" said "zorambi: the shared library is not made"
+: >"$work/linking"
+use build
+expect "the shared library is made again" shares 1
 check
 expect "after build" ended 0 0 ""
+expect "only build makes the shared library" shares 0
 
 # ---- wrong words, and help, prove nothing
 

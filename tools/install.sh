@@ -24,11 +24,9 @@ version=$("$program" --version | sed -n '1s/^zorambi \([0-9.]*\),.*/\1/p')
 [ -n "$version" ] || { say "$program does not say its version"; exit 2; }
 to=${DESTDIR-}$prefix
 
-# The shared library is the static one's code. '-z text' fails if that were not position independent.
 shared=libzorambi.so.$version
 soname=libzorambi.so.${version%%.*}
-cc -shared -o "$scratch/$shared" -Wl,-soname,"$soname" -Wl,-z,text -Wl,-z,defs \
-  -Wl,--whole-archive "$library" -Wl,--no-whole-archive
+"$root/tools/shared.sh" "$scratch/$shared" "$soname"
 
 # The commands that the program has, without those of ./zorambi.
 commands() { "$program" help | sed -n '/^and /q; s/^  \([a-z]*\) .*/\1/p'; }
@@ -99,7 +97,7 @@ B
 }
 
 # Files are put in place whole: install removes an old one before it writes.
-install -d "$to/bin" "$to/libexec/zorambi" "$to/lib/pkgconfig" "$to/include" "$to/share/man/man1" \
+install -d "$to/bin" "$to/libexec/zorambi" "$to/lib/pkgconfig" "$to/lib/python3/zorambi" "$to/include" "$to/share/man/man1" \
   "$to/share/bash-completion/completions" "$to/share/zorambi/examples"
 install -m 755 "$program" "$to/bin/zorambi"
 install -m 755 "${proved[@]}" "$to/libexec/zorambi"
@@ -110,6 +108,10 @@ ln -sfn "$soname" "$to/lib/libzorambi.so"
 install -m 644 "$root/include/zorambi.h" "$to/include"
 install -m 755 "$root/examples/slurm/catalogue.sh" "$to/share/zorambi/examples/slurm-catalogue.sh"
 install -m 755 "$root/examples/parallel/catalogue.sh" "$to/share/zorambi/examples/parallel-catalogue.sh"
+
+# The package for Python finds libzorambi.so.0 two folders above its own, so that PREFIX can be moved.
+install -m 644 "$root"/bindings/python/zorambi/*.py "$root/bindings/python/zorambi/py.typed" "$to/lib/python3/zorambi"
+install -m 755 "$root/examples/python/paper.py" "$to/share/zorambi/examples/paper.py"
 
 # The folder is told from where the file is, so that PREFIX can be moved.
 cat >"$scratch/zorambi.pc" <<PC
@@ -132,3 +134,4 @@ completion >"$scratch/zorambi"
 install -m 644 "$scratch/zorambi" "$to/share/bash-completion/completions"
 
 say "zorambi $version is installed below $prefix"
+say "for Python: export PYTHONPATH=$prefix/lib/python3"

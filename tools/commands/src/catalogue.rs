@@ -61,7 +61,7 @@ pub const INSTALL: Command = Command {
     takes: "PREFIX",
     about: "install the programs, the library, the header and the manual below PREFIX",
     text: "Proves and builds what is needed first. What is installed needs neither the kit nor cargo: PREFIX/bin/zorambi, the proved programs in PREFIX/libexec/zorambi, \
-libzorambi.a and libzorambi.so with zorambi.pc for pkg-config in PREFIX/lib, zorambi.h in PREFIX/include, the manual's pages and completion for bash in PREFIX/share.",
+libzorambi.a and libzorambi.so with zorambi.pc for pkg-config in PREFIX/lib, zorambi.h in PREFIX/include, the package for Python in PREFIX/lib/python3, the manual's pages and completion for bash in PREFIX/share.",
     options: &[],
     names: [1, 1],
     examples: &[example("./zorambi install ~/.local", "for one user")],
