@@ -64,6 +64,7 @@ pub fn commands() -> &'static [&'static Command] {
         &catalogue::CATALOGUE,
         &catalogue::MERGE,
         &texts::FIND,
+        &texts::COMPILE,
         &texts::CONVERT,
         &texts::SMALL,
         &texts::TIDY,

@@ -3,6 +3,7 @@
 //! failure.
 
 mod check;
+mod compile;
 mod convert;
 mod end;
 mod find;
@@ -40,6 +41,7 @@ fn run(command: &Command, given: &Given) -> u8 {
         "catalogue" => return zorambi_catalogue::run(given),
         "merge" => return zorambi_catalogue::merge(given),
         "find" => find::find,
+        "compile" => compile::compile,
         "convert" => convert::convert,
         "small" => small::small,
         "tidy" => tidy::tidy,
