@@ -1,5 +1,5 @@
-//! Items and formulas, by going down the tokens; rows are made on the way up. 01's rules on bodies and on mixing are told at the place
-//! where they are broken.
+//! Items and formulas, by going down the tokens; rows are made on the way up. 01's rules on bodies and on mixing are
+//! told at the place where they are broken.
 
 use crate::lexer::{Kind, Token};
 use crate::rows::{Rows, AND, BIG_AND, BIG_OR, EQUIVALENT, EXCLUSIVE, FALSE, IMPLIES, LITERAL, NEGATED, NOT, OR, TRUE};
@@ -11,7 +11,8 @@ use zorambi_commands::nearest;
 
 const MAX_NUMBER: i32 = 9999;
 
-/// How deep formulas are gone down: a formula of depth 64 needs two for each of its levels, an operator and a parenthesis.
+/// How deep formulas are gone down: a formula of depth 64 needs two for each of its levels, an operator and a
+/// parenthesis.
 const MAX_NESTING: usize = 130;
 
 /// What a literal's number is added to.

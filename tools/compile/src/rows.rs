@@ -1,5 +1,6 @@
-//! Formula rows: each written once, parts before what they are part of. Size and depth are looked at as a row is made, of the row
-//! itself and of what it comes to as plain rows; the number of rows at the end, over those that the formula needs.
+//! Formula rows: each written once, parts before what they are part of. Size and depth are looked at as a row is
+//! made, of the row itself and of what it comes to as plain rows; the number of rows at the end, over those that the
+//! formula needs.
 
 use crate::source::Fault;
 use crate::words;
@@ -115,8 +116,8 @@ impl Rows {
         }
     }
 
-    /// The schema with that row as its root, with the rows that it needs, in the order in which they were made; and where each of them
-    /// stands in the source.
+    /// The schema with that row as its root, with the rows that it needs, in the order in which they were made; and
+    /// where each of them stands in the source.
     pub fn schema(&self, root: i32, least: i32) -> Result<(Schema, Vec<usize>), Fault> {
         let mut is_needed = vec![false; self.rows.len()];
         is_needed[root as usize] = true;

@@ -74,7 +74,8 @@ pub fn place(source: &[u8], at: usize) -> Place {
     Place { line, column: 1 + source[start..at].iter().filter(begins_character).count() }
 }
 
-/// The line of this byte as it can be shown, a blank for a tab, cut where it is long; and the caret's column in it, from 1.
+/// The line of this byte as it can be shown, a blank for a tab, cut where it is long; and the caret's column in it,
+/// from 1.
 fn pointed(source: &[u8], at: usize) -> (String, usize) {
     let (start, end) = line_of(source, at);
     let plain = |bytes: &[u8]| {

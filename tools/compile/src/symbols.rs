@@ -1,5 +1,5 @@
-//! The numbers of symbols. `p0` to `p255` are these numbers; other names take the smallest numbers left, in the order in which they
-//! first appear.
+//! The numbers of symbols. `p0` to `p255` are these numbers; other names take the smallest numbers left, in the order
+//! in which they first appear.
 
 use crate::lexer::Token;
 use crate::source::Fault;

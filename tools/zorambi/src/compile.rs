@@ -1,5 +1,5 @@
-//! `compile FILE [OUT]`: the wide schema of a source, as a schema text, printed or as wide.txt in the folder OUT, with the symbols'
-//! names beside it.
+//! `compile FILE [OUT]`: the wide schema of a source, as a schema text, printed or as wide.txt in the folder OUT,
+//! with the symbols' names beside it.
 
 use crate::end::{coloured, Ended, Stop, RED};
 use crate::out::{write_new, Out};

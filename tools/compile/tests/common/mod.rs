@@ -9,7 +9,8 @@ use zorambi_generate::Rng;
 use zorambi_reference::convert::wide_value;
 use zorambi_show::{Names, Notation, Style};
 
-/// The formula trees of several tables, each once; a `not` of a literal is the negated literal. Symbols go by their names.
+/// The formula trees of several tables, each once; a `not` of a literal is the negated literal. Symbols go by their
+/// names.
 #[derive(Default)]
 pub struct Trees {
     rows: HashMap<(Row, String), i32>,
