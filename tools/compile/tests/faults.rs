@@ -363,6 +363,11 @@ fn rows() {
     let told = fault(format!("formula {} or not y[0]", ands(512)));
     assert_eq!(told.words, "1,025 formula rows, at most 1,024: they become too many here");
     assert_eq!(told.at, format!("formula {} ", ands(512)).len());
+    // 20 literals, then 123 iffs and the ands between them: 40, 738 and 244 plain rows.
+    let pairs = (0..20).flat_map(|k| (k + 1..20).map(move |m| format!("(x[{k}] iff x[{m}])")));
+    let iffs = |count: usize| format!("formula {}", paired(pairs.clone().take(count).collect(), "and"));
+    assert!(compile(iffs(123).as_bytes()).is_ok());
+    assert!(fault(iffs(124)).words.starts_with("1,030 plain rows, at most 1,024: "));
     // Parts that the formula does not use write no rows.
     let source = format!("define unused = {}\nformula x[0]", ands(600));
     assert_eq!(compile(source.as_bytes()).expect("unused").schema.rows, [[2, 0, 0, 0]]);
