@@ -76,7 +76,7 @@ cp "$repo/called" "$repo/groups"
 groups=("rt ci " "rt try check_proof" "rt try check_older" "rt try check_model" "rt try cases" "zorambi build"
   edit-reasons.sh contracts.py quotations.py names.py zorambi.sh programs.sh readme.sh catalogue.sh install.sh stack.sh solver.sh python.sh altered.sh gate-counts.sh explain.sh pages.py
   selftest "cargo test zorambi" "cargo test zorambi-reference" "cargo test zorambi-commands"
-  "cargo test zorambi-catalogue" "cargo test zorambi-widths" "cargo test zorambi-cli" "compare least 1 20000" "compare least some 3" "compare least heavy " "compare least some 2" "cargo test zorambi-notation" "cargo test zorambi-show" "cargo test zorambi-explain" "cargo test zorambi-pages"
+  "cargo test zorambi-catalogue" "cargo test zorambi-widths" "cargo test zorambi-cli" "compare least 1 20000" "compare least some 3" "compare least heavy " "compare least some 2" "cargo test zorambi-notation" "cargo test zorambi-show" "cargo test zorambi-explain" "cargo test zorambi-pages" "cargo test zorambi-compile"
   valgrind "make test examples/c" "make handed tests/c" "make c tests/c" "make cpp tests/c")
 for group in "${groups[@]}"; do expect "'$group' is run" called "$group"; done
 

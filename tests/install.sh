@@ -99,7 +99,7 @@ for command in $(zorambi help | sed -n '/^and /q; s/^  \([a-z]*\) .*/\1/p'); do
   done_commands="${done_commands-} $command"
 done
 check "the commands that are run here are all there are" \
-  [ "${done_commands-}" = " check model show explain catalogue merge find widths dimacs verilog convert small tidy join grow help" ]
+  [ "${done_commands-}" = " check model show explain catalogue merge find widths dimacs verilog compile convert small tidy join grow help" ]
 check "a page of the whole" grep -q '^.BR zorambi\\-catalogue (1)$' "$prefix/share/man/man1/zorambi.1"
 
 check "check" same "$(zorambi check accepted/rca_zero)" <(printf 'answer place nodes links\n0 0 65 3\n')

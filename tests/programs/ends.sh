@@ -206,7 +206,7 @@ for command in check model show explain catalogue merge find widths dimacs veril
   alike "help $command, its use" "use: zorambi $command" "${said_first:0:$((13 + ${#command}))}"
 done
 ends "--help" 0 "$("$zorambi" help)" "" "$zorambi" --help
-alike "help lists every command" "21" "$("$zorambi" help --list | grep -c .)"
+alike "help lists every command" "22" "$("$zorambi" help --list | grep -c .)"
 release=$(sed -n 's/^version = "\(.*\)"/\1/p' Cargo.toml)
 alike "--version" "zorambi $release, library $(sha256sum target/staticlib/libzorambi.a | head -c 16), rattle logic $(rt version | sed 's/.* logic //')" "$("$zorambi" --version)"
 # The examples of the help can be run as they stand there; those of widths where their solver is installed.

@@ -75,6 +75,7 @@ pub fn commands() -> &'static [&'static Command] {
         &circuits::WIDTHS,
         &circuits::DIMACS,
         &circuits::VERILOG,
+        &texts::COMPILE,
         &texts::CONVERT,
         &texts::SMALL,
         &texts::TIDY,

@@ -27,6 +27,24 @@ The exit status is 0 for a model and for none, 1 for a refusal, 2 for wrong use 
     of_script: false,
 };
 
+pub const COMPILE: Command = Command {
+    name: "compile",
+    takes: "FILE [OUT] [--names FILE]",
+    about: "write the wide schema of a schema written as designers write it",
+    text: "FILE is a source in the small language of docs/LANGUAGE.md: names for symbols, x[i], x[n-1], not, and, or, implies, iff, xor, 'all i from 1 to n-1: ..', \
+'some i ..', parts by name, a least value, comments. '-' is standard input. The wide schema is written as wide.txt into OUT, a new or empty folder, with \
+names.txt, the symbols' numbers and names, beside it; without OUT it is printed. 'zorambi convert' makes the plain schema of it.\n\n\
+A mistake is told with its line and column, what was expected, and the line itself.\n\n\
+The exit status is 0 for success, 1 for a source with a mistake, 2 for wrong use or a failure.",
+    options: &[Opt { name: "--names", value: Some("FILE"), about: "write the symbols' numbers and names into a new file too" }],
+    names: [1, 2],
+    examples: &[
+        example("zorambi compile examples/blocks/adder.zor", "the wide schema, printed"),
+        example("zorambi compile examples/blocks/adder.zor /tmp/adder", "/tmp/adder/wide.txt and /tmp/adder/names.txt, for 'zorambi convert /tmp/adder'"),
+    ],
+    of_script: false,
+};
+
 pub const CONVERT: Command = Command {
     name: "convert",
     takes: "[--follow] DIR [OUT]",

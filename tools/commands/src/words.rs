@@ -150,7 +150,7 @@ fn missing(command: &'static Command, count: usize) -> String {
 }
 
 /// The known word nearest to this one, if one is near enough that it may have been meant.
-pub fn nearest(word: &str, known: impl Iterator<Item = &'static str>) -> Option<&'static str> {
+pub fn nearest<'a>(word: &str, known: impl Iterator<Item = &'a str>) -> Option<&'a str> {
     let near = known.map(|known| (distance(word, known), known)).min_by_key(|(distance, _)| *distance);
     near.filter(|(distance, known)| *distance <= 2.min(known.len() / 2)).map(|(_, known)| known)
 }

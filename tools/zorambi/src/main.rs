@@ -4,6 +4,7 @@
 
 mod check;
 mod circuit;
+mod compile;
 mod convert;
 mod end;
 mod explain;
@@ -49,6 +50,7 @@ fn run(command: &Command, given: &Given) -> u8 {
         "widths" => widths::widths,
         "dimacs" => circuit::dimacs,
         "verilog" => circuit::verilog,
+        "compile" => compile::compile,
         "convert" => convert::convert,
         "small" => small::small,
         "tidy" => tidy::tidy,
