@@ -25,7 +25,8 @@ pub fn compile(given: &Given) -> Result<Ended, Stop> {
         Ok(compiled) => compiled,
         Err(fault) => return Ok(mistaken(&fault, file, &source)),
     };
-    let wide = write_schema(&compiled.schema).map_err(|refused| Stop::refused(refused, &Known::default(), None))?;
+    let wide =
+        write_schema(&compiled.schema).map_err(|refused| Stop::refused(refused, &Known::default(), None, None))?;
     let names = compiled.names_text().into_bytes();
     if let Some(path) = given.value("--names") {
         write_new(Path::new(path), &names).map_err(|error| Stop::Wrong(format!("{}: {error}", shown_name(path))))?;
