@@ -107,7 +107,7 @@ zorambi check refused/open_clash >"$scratch/out"
 check "check: refused" [ $? -eq 1 ]
 check "check: its line" grep -q '^proof.txt:6: 1 6 0 1 -1 -1 0 0 1$' "$scratch/err"
 check "check --older" same "$(zorambi check --older tidy/rows_twice)" <(printf 'answer place nodes links\n0 0 8 1\n')
-model=$(cd "$records" && dirname "$(find . -name model.txt | sort | head -n 1)")
+model=$(cd "$records" && dirname "$(find refused -name model.txt | sort | head -n 1)")
 zorambi model "$model" >"$scratch/out"
 check "model" [ $? -eq 0 ]
 zorambi catalogue . --csv "$scratch/t.csv" --failed >"$scratch/out"
