@@ -110,6 +110,8 @@ check "check --older" same "$(zorambi check --older tidy/rows_twice)" <(printf '
 model=$(cd "$records" && dirname "$(find refused -name model.txt | sort | head -n 1)")
 zorambi model "$model" >"$scratch/out"
 check "model" [ $? -eq 0 ]
+zorambi explain refused/open_clash >"$scratch/out"
+check "explain" grep -q '^14: node 3 knows n >= 4: row 0 ' "$scratch/out"
 zorambi catalogue . --csv "$scratch/t.csv" --failed >"$scratch/out"
 check "catalogue" [ $? -eq 1 ]
 zorambi merge "$scratch/t.csv" --csv "$scratch/m.csv" >"$scratch/out"
