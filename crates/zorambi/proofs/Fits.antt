@@ -1,7 +1,7 @@
 -- What the ways there and back answer fits into the numbers that the entries give.
 use Prim.Native.Nat.{ℕ}
 use native.Mathlib.Omega.{arith}
-use mathlib.Core.Path.{_≡_, refl}
+use mathlib.Core.Path.{_≡_, refl, subst}
 use mathlib.Core.Bool.{Bool, true, false}
 use mathlib.Core.List.{List}
 use lib.Dec.{leb}
@@ -11,7 +11,7 @@ use Rattle.stab.specs.Basic.{_and_}
 use Rattle.stab.specs.Text.{fiveDigits}
 use Rattle.stab.specs.Read.{Reading, read, stopped}
 use Rattle.stab.specs.Check.{holds}
-use Rattle.stab.specs.Write.{Writing, wrote, refused, rowsWritable, setsWritable, schemaText, proofText, modelText, writeSchema, writeProof, writeModel}
+use Rattle.stab.specs.Write.{Writing, wrote, refused, rowsWritable, setsWritable, schemaText, proofText, modelText, writeSchema, writeProof, writeModel, written}
 use Rattle.stab.specs.Entry.{SchemaFits, ProofFits, ModelFits, WrittenFits}
 use Rattle.stab.specs.declared.Finding.the-variants.{Nothing}
 use Rattle.stab.proofs.Bools.{and-left, and-right, nothing≢found}
