@@ -200,7 +200,7 @@ ends "quiet, a model" 1 "" "" "$zorambi" model --quiet "$work/e"
 ends "quiet, a model found" 0 "" "" "$zorambi" find --quiet "$work/e" 3
 ends "quiet, a search refused" 1 "" "" "$zorambi" find --quiet "$work/e" 18
 ends "quiet, no folder" 2 "" "zorambi check: no such folder: $work/none" "$zorambi" check --quiet "$work/none"
-for command in check model show explain catalogue merge find widths dimacs verilog convert small tidy join grow help; do
+for command in check model show explain catalogue merge find widths dimacs verilog compile convert small tidy join grow help; do
   ends "help $command" 0 "$("$zorambi" "$command" --help)" "" "$zorambi" help "$command"
   said_first=$("$zorambi" help "$command" | head -n 1)
   alike "help $command, its use" "use: zorambi $command" "${said_first:0:$((13 + ${#command}))}"

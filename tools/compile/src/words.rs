@@ -283,5 +283,5 @@ pub fn plain_rows(count: usize) -> String {
 /// What the library says of the wide schema.
 pub fn refused(refused: Refused, schema: &Schema) -> String {
     let why = zorambi_explain::convert(&schema.into(), refused, &Voice::default());
-    format!("{}\n{}", told(refused, &Known::default()), why.line)
+    format!("{}: {}", told(refused, &Known::default()), why.line)
 }

@@ -6,8 +6,8 @@ use std::collections::HashMap;
 use zorambi::{Row, Schema};
 use zorambi_generate::rng::mix;
 use zorambi_generate::Rng;
+use zorambi_notation::{Names, Notation, Style};
 use zorambi_reference::convert::wide_value;
-use zorambi_show::{Names, Notation, Style};
 
 /// The formula trees of several tables, each once; a `not` of a literal is the negated literal. Symbols go by their
 /// names.
