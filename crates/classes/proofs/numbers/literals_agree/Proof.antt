@@ -121,7 +121,7 @@ returns-4 c rows f g ex ey wf wg same p l =
 is-raised-requires-2 : tie.Need-is-raised-requires-2
 is-raised-requires-2 c κs =
     let p = begin (c .before .before .before .before) .pre in
-    ((p .1, p .0), (offset-read _ (c .before .struct-told7 .given .1 .1 .1 .0 .1) (p .2), offset-read _ (c .struct-told8 .given .1 .1 .1 .0 .1) (p .3)))
+    ((omega (arith, p .1), omega (arith, p .0)), (offset-read _ (c .before .struct-told7 .given .1 .1 .1 .0 .1) (p .2), offset-read _ (c .struct-told8 .given .1 .1 .1 .0 .1) (p .3)))
 
 returns-5 : tie.Need-returns-5
 returns-5 c rows f g ex ey wf wg same p l =

@@ -33,7 +33,7 @@ start c = c .before .before .before .before .before .before
 is-raised-requires-2 : tie.Need-is-raised-requires-2
 is-raised-requires-2 c κs =
     let p = start c .pre in
-    (p .0, (offset-read _ (c .before .struct-told3 .given .1 .1 .1 .0 .1) (p .1 .2), offset-read _ (c .struct-told4 .given .1 .1 .1 .0 .1) (p .1 .3)))
+    ((omega (arith, p .0), omega (arith, p .0)), (offset-read _ (c .before .struct-told3 .given .1 .1 .1 .0 .1) (p .1 .2), offset-read _ (c .struct-told4 .given .1 .1 .1 .0 .1) (p .1 .3)))
 
 returns-2 : tie.Need-returns-2
 returns-2 c =
