@@ -1,10 +1,11 @@
-//! Generated texts, writings and calls of the tools: every refusal has a reason, thousands of each number that is not rare by its nature.
+//! Generated texts, writings and calls of the tools: every refusal has a reason, thousands of each number.
 
 mod common;
 
 use common::{numbers_in, refused, Count};
 use std::fs;
 use std::path::{Path, PathBuf};
+use zorambi::words::grouped;
 use zorambi::{
     convert, entries, find_model, join, next_small, read_model, read_proof, read_schema, write_proof, write_schema,
     Growing, Proof, Record, Refused, Row, Schema,
@@ -89,11 +90,11 @@ fn every_refusal_in_reading_has_a_reason() {
     for sort in [Sort::Schema, Sort::Wide, Sort::Proof, Sort::Model] {
         let texts = shipped(sort);
         assert!(!texts.is_empty());
-        for at in 0..9000 {
+        for at in 0..11_000 {
             let mut text = texts[rng.below(texts.len())].clone();
             match at % 10 {
-                0..=5 => slip(&mut text, &mut rng),
-                6..=8 => damage_text(&mut text, &mut rng),
+                0..=4 => slip(&mut text, &mut rng),
+                5..=7 => damage_text(&mut text, &mut rng),
                 _ => text = too_much(sort, &mut rng),
             }
             let Some(refused) = read(sort, &text) else { continue };
@@ -107,7 +108,7 @@ fn every_refusal_in_reading_has_a_reason() {
             }
         }
     }
-    count.end(&[1, 3, 4, 5], 800);
+    count.end(&[1, 3, 4, 5], 2000);
 }
 
 /// `line 4, column 7: ..`
@@ -120,7 +121,7 @@ fn place_of(line: &str) -> Option<(usize, usize)> {
 fn every_refusal_in_writing_has_a_reason() {
     let (mut count, mut rng) = (Count::default(), Rng::new(46));
     let proofs: Vec<Proof> = shipped(Sort::Proof).iter().filter_map(|text| read_proof(text).ok()).collect();
-    for _ in 0..16_000 {
+    for _ in 0..28_000 {
         let proof = &proofs[rng.below(proofs.len())];
         let mut tables =
             [proof.rows.as_flattened().to_vec(), proof.nodes.as_flattened().to_vec(), proof.members.clone()];
@@ -164,7 +165,7 @@ fn every_refusal_in_writing_has_a_reason() {
             count.take(refused, &zorambi_explain::write_model(table.least, (members, member_count), room, refused));
         }
     }
-    count.end(&[2, 5, 21, 22], 1000);
+    count.end(&[2, 5, 21, 22], 2000);
 }
 
 /// A schema of so many rows over literals and iterations, wide or plain.
@@ -206,7 +207,7 @@ fn every_refusal_of_converting_and_finding_has_a_reason() {
             }
         }
     }
-    count.end(&[6, 7, 19, 23, 30], 1000);
+    count.end(&[6, 7, 19, 23, 30], 2000);
 }
 
 #[test]
@@ -237,7 +238,7 @@ fn tiny(least: i32, rows: Vec<Row>) -> Record {
 #[test]
 fn every_refusal_of_joining_has_a_reason() {
     let (mut count, mut rng) = (Count::default(), Rng::new(44));
-    for _ in 0..3000 {
+    for _ in 0..12_000 {
         let mut some = || {
             let from = rng.range(0, 3000);
             tiny(i32::from(rng.chance(30)), (0..rng.range(400, 800)).map(|c| [2, 0, 1, from + c]).collect())
@@ -247,7 +248,7 @@ fn every_refusal_of_joining_has_a_reason() {
             count.take(refused, &zorambi_explain::join(&first, &second, refused));
         }
     }
-    count.end(&[28, 29], 500);
+    count.end(&[28, 29], 2000);
 }
 
 #[test]
@@ -291,29 +292,43 @@ fn every_refusal_of_a_row_that_is_added_has_a_reason() {
             }
             growing.add(row, &set).unwrap();
         }
-        while growing.take_back().is_ok() {}
+    }
+    for record in records.iter().cycle().take(2000) {
+        let mut growing = Growing::begin(record.schema.clone(), record.proof.rows.clone()).unwrap();
         let refused = growing.take_back().unwrap_err();
         count.take(refused, &zorambi_explain::grow(&growing.record(), 0, refused));
     }
-    count.end(&[9, 10, 11, 12, 17, 26], 500);
+    count.end(&[9, 10, 11, 12, 17, 25, 26], 2000);
 }
 
 /// 24 comes where 1,024 nodes stand, or the members would pass 8,192.
 #[test]
 fn no_room() {
+    let (mut count, mut rng) = (Count::default(), Rng::new(47));
     let schema = Schema { root: 1, least: 0, rows: vec![[1, 0, 0, 0], [4, 0, 0, 0]] };
     let mut growing = Growing::begin(schema, Vec::new()).unwrap();
     for node in 0..1024 {
         growing.add([node - 1, 0, 1, -1, -1, -1, 0], &[1]).unwrap();
     }
-    let refused = growing.add([1023, 0, 1, -1, -1, -1, 0], &[1]).unwrap_err();
-    let why = zorambi_explain::grow(&growing.record(), 1, refused);
-    assert_eq!(why.line, "1,024 nodes are held, and 1,024 are allowed");
-    growing.take_back().unwrap();
-    let set: Vec<i32> = (0..8000).collect();
-    let refused = growing.add([1022, 0, 1, -1, -1, -1, 0], &set).unwrap_err();
-    let why = zorambi_explain::grow(&growing.record(), set.len(), refused);
-    assert_eq!(why.line, "the row's set has 8000 members, and 1,023 are held: 8,192 are allowed, so 831 too many");
+    for held in [1024, 1023] {
+        for _ in 0..1000 {
+            let set: Vec<i32> = (0..rng.range(if held == 1024 { 0 } else { 7170 }, 8192)).collect();
+            let refused = growing.add([rng.range(-1, 1024), 0, 1, -1, -1, -1, 0], &set).unwrap_err();
+            let why = zorambi_explain::grow(&growing.record(), set.len(), refused);
+            let wanted = if held == 1024 {
+                "1,024 nodes are held, and 1,024 are allowed".to_string()
+            } else {
+                let (members, over) = (set.len(), grouped((set.len() + held - 8192) as u64));
+                format!(
+                    "the row's set has {members} members, and 1,023 are held: 8,192 are allowed, so {over} too many"
+                )
+            };
+            count.truth(if why.line == wanted { Ok(()) } else { Err(why.line.clone()) });
+            count.take(refused, &why);
+        }
+        growing.take_back().unwrap();
+    }
+    count.end(&[24], 2000);
 }
 
 /// A text of the join that is too long, and one that is not.
