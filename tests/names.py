@@ -1,17 +1,19 @@
 #!/usr/bin/env python3
 """What the documents name is there.
 
-Every name in backquotes in docs/TOUR.md, READING.md, THEOREMS.md, DECISIONS.md and WRONG_ANSWERS.md that looks like a file, a definition,
-a theorem, a function or an edit has to exist in the tree:
+Every name in backquotes in README.md, docs/MANUAL.md, ARCHITECTURE.md, TOUR.md, READING.md, THEOREMS.md, DECISIONS.md and
+WRONG_ANSWERS.md that looks like a file, a definition, a theorem, a function or an edit has to exist in the tree:
 
 - `name/NAME` in WRONG_ANSWERS.md is an edit, crates/name/must-fail/NAME.edit, or a wrong answer that an edit of the crate has under that name;
 - a path, or a file's name, is a file or folder: from the top, below crates/, or below the folder that the page says it speaks of;
 - `crate::module::name`, `module::name` and `name_*` are functions, types or modules of the code, there and not elsewhere;
-- `NAME` (`FILE`) is defined in that file; a theorem of THEOREMS.md in one of the files of its row; a function that DECISIONS.md
+- `NAME` (`FILE`) is defined in that file, and so is each NAME of `FILE` (`NAME`, `NAME`); a theorem of THEOREMS.md in one of the files of its row; a function that DECISIONS.md
   lists after another's path in its crate;
 - any other name is a definition, a theorem, a function, a type, one of its cases or fields, a crate, a record or an edit of any crate.
 
-What is left out: what has a space in it (commands, lines of text), numbers, and the words of WORDS, which name nothing of the tree.
+What is left out: what has a space in it (commands, lines of text), numbers, what is made below target/ and build/, and the words of WORDS, which name nothing of the tree;
+of README.md, MANUAL.md and ARCHITECTURE.md also single words in small letters, which are commands and what is typed and printed.
+What a link in one of these pages leads to is there, a heading too.
 
     tests/names.py [PAGE...]
 """
@@ -21,11 +23,14 @@ from pathlib import Path
 
 ROOT = Path(__file__).resolve().parent.parent
 CRATES = ROOT / "crates"
-PAGES = ["TOUR", "READING", "THEOREMS", "DECISIONS", "WRONG_ANSWERS"]
+PAGES = ["README", "MANUAL", "ARCHITECTURE", "TOUR", "READING", "THEOREMS", "DECISIONS", "WRONG_ANSWERS"]
+# Pages for users: a single word in small letters is one that is typed or printed.
+FOR_USERS = {"README", "MANUAL", "ARCHITECTURE"}
 # Where a page's files are when it names no folder.
 FOLDERS = {"READING": CRATES / "stab" / "specs", "THEOREMS": CRATES / "stab" / "proofs"}
 # Words in marks that are no names of the tree: libraries and types of the kit, a byte, a command, folders and files of any crate.
-WORDS = {"io", "os", "libc", "i32", "u", "cargo", "specs/", "proofs/", "CRATE/NAME", "crates/CRATE/must-fail/NAME.edit"}
+WORDS = {"io", "os", "libc", "i32", "u", "cargo", "specs/", "proofs/", "CRATE/NAME", "crates/CRATE/must-fail/NAME.edit", "schema.txt",
+         "proof.txt", "model.txt", "wide.txt", "names.txt", "PYTHONPATH", "PREFIX/lib/python3", "NAME", "requires"}
 
 NAME = re.compile(r"[A-Za-z][\w′₀-₉]*(?:[-·][\w′₀-₉]+)*$")
 
@@ -69,6 +74,9 @@ class Tree:
         for file in self.antt:
             self.names |= stated(code(file.read_text()))
         self.names |= {path.name for path in (ROOT / "records").glob("*/*")}
+        self.names |= set(re.findall(r"\b(zorambi_\w+)\(", (ROOT / "include" / "zorambi.h").read_text()))
+        for file in ROOT.glob("bindings/rust/src/*.rs"):
+            self.names |= set(re.findall(r"\bpub (?:fn|struct|enum|const) (\w+)", file.read_text()))
         self.edits = {f"{file.parent.parent.name}/{name}" for file in CRATES.glob("*/must-fail/*.edit") for name in wrong_answers(file)}
 
     def module(self, parts):
@@ -82,6 +90,8 @@ class Tree:
     def has_path(self, words):
         """crate::module::name or module::name, where * stands for any rest of a name."""
         *place, last = words
+        if place == ["zorambi"] and any(re.search(rf"\b(fn|struct|enum) {last}\b", file.read_text()) for file in ROOT.glob("bindings/rust/src/*.rs")):
+            return True
         if place[0] in self.crates:
             candidates = [self.module(place)]
             if candidates == [None] and self.module(place[:-1]):  # a type's function
@@ -104,6 +114,16 @@ class Tree:
         return any((base / word).exists() for base in bases)
 
 
+def path_of(page):
+    return ROOT / "README.md" if page == "README" else ROOT / "docs" / f"{page}.md"
+
+
+def headings(file):
+    """What a link to a heading of the page may name, as the forges make it of the heading's words."""
+    titles = re.findall(r"^#+ (.*)", file.read_text(), re.M)
+    return {re.sub(r"[^\w -]", "", title.lower()).replace(" ", "-") for title in titles}
+
+
 def blocks(text):
     """Paragraphs and rows of tables, with the number of their first line."""
     start, lines = 1, []
@@ -122,7 +142,8 @@ def blocks(text):
 
 def fault(tree, page, word, named):
     """What is wrong with a word, or None; the empty string where it names nothing."""
-    if " " in word or word in WORDS:
+    if " " in word or word in WORDS or word.startswith(("target/", "build/")) or \
+            (page in FOR_USERS and re.fullmatch(r"[a-z]+", word)):
         return ""
     if page == "WRONG_ANSWERS" and re.fullmatch(r"\w+/\w+", word):
         return None if word in tree.edits else "no such edit"
@@ -150,12 +171,17 @@ def main():
             passed += 1
         elif what:
             failed += 1
-            print(f"docs/{page}.md:{line}: `{word}`: {what}")
+            print(f"{path_of(page).relative_to(ROOT)}:{line}: `{word}`: {what}")
 
     for page in sys.argv[1:] or PAGES:
         before = passed
-        for line, block in blocks((ROOT / "docs" / f"{page}.md").read_text()):
+        for line, block in blocks(path_of(page).read_text()):
             named = []
+            for link in re.findall(r"\]\(([^)]+)\)", block):
+                file, _, heading = link.partition("#")
+                target = path_of(page).parent / file if file else path_of(page)
+                there = target.exists() and (not heading or heading in headings(target))
+                tell(page, line, link, None if there else "a link to nothing")
             for word in re.findall(r"`([^`]+)`", block):
                 tell(page, line, word, fault(tree, page, word, named))
                 path = next((base / word for base in (ROOT, CRATES) if "/" in word and (base / word).exists()), None)
@@ -165,6 +191,11 @@ def main():
                 path = next((base / file for base in [CRATES, ROOT, *([FOLDERS[page]] if page in FOLDERS else []), *named] if (base / file).is_file()), None)
                 if path and (path.suffix in (".rt", ".antt") or file == "./zorambi"):
                     tell(page, line, name, None if defined_in(path, name) else f"not defined in {file}")
+            for file, names in re.findall(r"`([^` ]+)` \(((?:`[^` ]+`(?:, )?)+)\)", block):
+                path = next((base / file for base in [CRATES, ROOT, *named] if (base / file).is_file()), None)
+                if path and path.suffix in (".rt", ".antt"):
+                    for name in re.findall(r"`([^`]+)`", names):
+                        tell(page, line, name, None if defined_in(path, name) else f"not defined in {file}")
             cells = [cell.strip() for cell in block.strip("|").split("|")] if block.startswith("|") else []
             if page == "DECISIONS" and len(cells) == 2:
                 last = None
@@ -182,7 +213,7 @@ def main():
                         tell(page, line, name, None if any(defined_in(file, name) for file in files) else f"not in {cells[2]}")
         if passed == before:
             failed += 1
-            print(f"docs/{page}.md names nothing")
+            print(f"{path_of(page).relative_to(ROOT)} names nothing")
     print(f"{passed} passed, {failed} failed")
     return 1 if failed else 0
 
