@@ -156,8 +156,8 @@ uint64_t zorambi_tidy(const int32_t *schema, size_t schema_len, size_t schema_ro
                       int32_t root, int32_t least,
                       const int32_t *nodes, size_t nodes_len, size_t node_rows,
                       const int32_t *members, size_t members_len, size_t member_count,
-                      int32_t *tidy_proof, size_t tidy_proof_len, int32_t *tidy_nodes, size_t tidy_nodes_len,
-                      int32_t *tidy_members, size_t tidy_members_len, int32_t results[3]);
+                      int32_t *out_proof, size_t out_proof_len, int32_t *out_nodes, size_t out_nodes_len,
+                      int32_t *out_members, size_t out_members_len, int32_t results[3]);
 
 /* ---- One record for either fault. */
 
@@ -169,18 +169,18 @@ uint64_t zorambi_tidy(const int32_t *schema, size_t schema_len, size_t schema_ro
  * with one node more than both have and the sum of their links. What zorambi_check refuses is refused alike, the first before the
  * second, and the number does not tell which it was: ask zorambi_check. Then come least values that differ, then a join over a
  * limit. After a refusal tables and results are all 0. */
-uint64_t zorambi_join(const int32_t *schema_1, size_t schema_1_len, size_t schema_1_rows,
-                      const int32_t *proof_1, size_t proof_1_len, size_t proof_1_rows,
-                      int32_t root_1, int32_t least_1,
-                      const int32_t *nodes_1, size_t nodes_1_len, size_t node_1_rows,
-                      const int32_t *members_1, size_t members_1_len, size_t member_1_count,
-                      const int32_t *schema_2, size_t schema_2_len, size_t schema_2_rows,
-                      const int32_t *proof_2, size_t proof_2_len, size_t proof_2_rows,
-                      int32_t root_2, int32_t least_2,
-                      const int32_t *nodes_2, size_t nodes_2_len, size_t node_2_rows,
-                      const int32_t *members_2, size_t members_2_len, size_t member_2_count,
-                      int32_t *schema, size_t schema_len, int32_t *proof, size_t proof_len,
-                      int32_t *nodes, size_t nodes_len, int32_t *members, size_t members_len, int32_t results[6]);
+uint64_t zorambi_join(const int32_t *first_schema, size_t first_schema_len, size_t first_schema_rows,
+                      const int32_t *first_proof, size_t first_proof_len, size_t first_proof_rows,
+                      int32_t first_root, int32_t first_least,
+                      const int32_t *first_nodes, size_t first_nodes_len, size_t first_node_rows,
+                      const int32_t *first_members, size_t first_members_len, size_t first_member_count,
+                      const int32_t *second_schema, size_t second_schema_len, size_t second_schema_rows,
+                      const int32_t *second_proof, size_t second_proof_len, size_t second_proof_rows,
+                      int32_t second_root, int32_t second_least,
+                      const int32_t *second_nodes, size_t second_nodes_len, size_t second_node_rows,
+                      const int32_t *second_members, size_t second_members_len, size_t second_member_count,
+                      int32_t *out_schema, size_t out_schema_len, int32_t *out_proof, size_t out_proof_len,
+                      int32_t *out_nodes, size_t out_nodes_len, int32_t *out_members, size_t out_members_len, int32_t results[6]);
 
 /* ---- A tableau that grows. */
 
@@ -450,37 +450,41 @@ static inline uint64_t zorambi_c_next_small(const int32_t *table, size_t table_l
 static inline uint64_t zorambi_c_tidy(const int32_t *schema, size_t schema_len, size_t schema_rows, const int32_t *proof,
                                       size_t proof_len, size_t proof_rows, int32_t root, int32_t least, const int32_t *nodes,
                                       size_t nodes_len, size_t node_rows, const int32_t *members, size_t members_len,
-                                      size_t member_count, int32_t *tidy_proof, size_t tidy_proof_len, int32_t *tidy_nodes,
-                                      size_t tidy_nodes_len, int32_t *tidy_members, size_t tidy_members_len,
+                                      size_t member_count, int32_t *out_proof, size_t out_proof_len, int32_t *out_nodes,
+                                      size_t out_nodes_len, int32_t *out_members, size_t out_members_len,
                                       int32_t results[3]) {
   return zorambi_tidy(zorambi_numbers_of(schema, schema_len), schema_len, schema_rows, zorambi_numbers_of(proof, proof_len),
                       proof_len, proof_rows, root, least, zorambi_numbers_of(nodes, nodes_len), nodes_len, node_rows,
                       zorambi_numbers_of(members, members_len), members_len, member_count,
-                      zorambi_lent_numbers(tidy_proof, tidy_proof_len), tidy_proof_len,
-                      zorambi_lent_numbers(tidy_nodes, tidy_nodes_len), tidy_nodes_len,
-                      zorambi_lent_numbers(tidy_members, tidy_members_len), tidy_members_len, results);
+                      zorambi_lent_numbers(out_proof, out_proof_len), out_proof_len,
+                      zorambi_lent_numbers(out_nodes, out_nodes_len), out_nodes_len,
+                      zorambi_lent_numbers(out_members, out_members_len), out_members_len, results);
 }
 /* One record for either fault. */
-static inline uint64_t zorambi_c_join(const int32_t *schema_1, size_t schema_1_len, size_t schema_1_rows, const int32_t *proof_1,
-                                      size_t proof_1_len, size_t proof_1_rows, int32_t root_1, int32_t least_1,
-                                      const int32_t *nodes_1, size_t nodes_1_len, size_t node_1_rows, const int32_t *members_1,
-                                      size_t members_1_len, size_t member_1_count, const int32_t *schema_2, size_t schema_2_len,
-                                      size_t schema_2_rows, const int32_t *proof_2, size_t proof_2_len, size_t proof_2_rows,
-                                      int32_t root_2, int32_t least_2, const int32_t *nodes_2, size_t nodes_2_len,
-                                      size_t node_2_rows, const int32_t *members_2, size_t members_2_len, size_t member_2_count,
-                                      int32_t *schema, size_t schema_len, int32_t *proof, size_t proof_len, int32_t *nodes,
-                                      size_t nodes_len, int32_t *members, size_t members_len, int32_t results[6]) {
-  return zorambi_join(zorambi_numbers_of(schema_1, schema_1_len), schema_1_len, schema_1_rows,
-                      zorambi_numbers_of(proof_1, proof_1_len), proof_1_len, proof_1_rows, root_1, least_1,
-                      zorambi_numbers_of(nodes_1, nodes_1_len), nodes_1_len, node_1_rows,
-                      zorambi_numbers_of(members_1, members_1_len), members_1_len, member_1_count,
-                      zorambi_numbers_of(schema_2, schema_2_len), schema_2_len, schema_2_rows,
-                      zorambi_numbers_of(proof_2, proof_2_len), proof_2_len, proof_2_rows, root_2, least_2,
-                      zorambi_numbers_of(nodes_2, nodes_2_len), nodes_2_len, node_2_rows,
-                      zorambi_numbers_of(members_2, members_2_len), members_2_len, member_2_count,
-                      zorambi_lent_numbers(schema, schema_len), schema_len, zorambi_lent_numbers(proof, proof_len), proof_len,
-                      zorambi_lent_numbers(nodes, nodes_len), nodes_len, zorambi_lent_numbers(members, members_len), members_len,
-                      results);
+static inline uint64_t zorambi_c_join(const int32_t *first_schema, size_t first_schema_len, size_t first_schema_rows,
+                                      const int32_t *first_proof, size_t first_proof_len, size_t first_proof_rows,
+                                      int32_t first_root, int32_t first_least, const int32_t *first_nodes,
+                                      size_t first_nodes_len, size_t first_node_rows, const int32_t *first_members,
+                                      size_t first_members_len, size_t first_member_count, const int32_t *second_schema,
+                                      size_t second_schema_len, size_t second_schema_rows, const int32_t *second_proof,
+                                      size_t second_proof_len, size_t second_proof_rows, int32_t second_root,
+                                      int32_t second_least, const int32_t *second_nodes, size_t second_nodes_len,
+                                      size_t second_node_rows, const int32_t *second_members, size_t second_members_len,
+                                      size_t second_member_count, int32_t *out_schema, size_t out_schema_len,
+                                      int32_t *out_proof, size_t out_proof_len, int32_t *out_nodes, size_t out_nodes_len,
+                                      int32_t *out_members, size_t out_members_len, int32_t results[6]) {
+  return zorambi_join(zorambi_numbers_of(first_schema, first_schema_len), first_schema_len, first_schema_rows,
+                      zorambi_numbers_of(first_proof, first_proof_len), first_proof_len, first_proof_rows, first_root,
+                      first_least, zorambi_numbers_of(first_nodes, first_nodes_len), first_nodes_len, first_node_rows,
+                      zorambi_numbers_of(first_members, first_members_len), first_members_len, first_member_count,
+                      zorambi_numbers_of(second_schema, second_schema_len), second_schema_len, second_schema_rows,
+                      zorambi_numbers_of(second_proof, second_proof_len), second_proof_len, second_proof_rows, second_root,
+                      second_least, zorambi_numbers_of(second_nodes, second_nodes_len), second_nodes_len, second_node_rows,
+                      zorambi_numbers_of(second_members, second_members_len), second_members_len, second_member_count,
+                      zorambi_lent_numbers(out_schema, out_schema_len), out_schema_len,
+                      zorambi_lent_numbers(out_proof, out_proof_len), out_proof_len,
+                      zorambi_lent_numbers(out_nodes, out_nodes_len), out_nodes_len,
+                      zorambi_lent_numbers(out_members, out_members_len), out_members_len, results);
 }
 /* A tableau that grows. */
 static inline uint64_t zorambi_c_begin(const int32_t *schema, size_t schema_len, size_t schema_rows, const int32_t *proof,

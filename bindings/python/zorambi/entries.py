@@ -213,16 +213,16 @@ class Entry:
 def _record(of: str = "") -> Tuple[Tuple[str, _Kind], ...]:
     """The tables of a record, or of one of two records, with their counts, the root and the least value."""
     return (
-        ("schema" + of, NUMBERS),
-        ("schema" + of + "_rows", COUNT),
-        ("proof" + of, NUMBERS),
-        ("proof" + of + "_rows", COUNT),
-        ("root" + of, NUMBER),
-        ("least" + of, NUMBER),
-        ("nodes" + of, NUMBERS),
-        ("node" + of + "_rows", COUNT),
-        ("members" + of, NUMBERS),
-        ("member" + of + "_count", COUNT),
+        (of + "schema", NUMBERS),
+        (of + "schema_rows", COUNT),
+        (of + "proof", NUMBERS),
+        (of + "proof_rows", COUNT),
+        (of + "root", NUMBER),
+        (of + "least", NUMBER),
+        (of + "nodes", NUMBERS),
+        (of + "node_rows", COUNT),
+        (of + "members", NUMBERS),
+        (of + "member_count", COUNT),
     )
 
 
@@ -374,9 +374,9 @@ tidy = Entry(
     "zorambi_tidy",
     "Folds the proof rows of an older record that are written twice. Results: rows, nodes, members.",
     *_record(),
-    ("tidy_proof", LENT),
-    ("tidy_nodes", LENT),
-    ("tidy_members", LENT),
+    ("out_proof", LENT),
+    ("out_nodes", LENT),
+    ("out_members", LENT),
     ("results", _results(3)),
 )
 
@@ -384,12 +384,12 @@ tidy = Entry(
 join = Entry(
     "zorambi_join",
     "Joins two records. Results: root, least, schema rows, proof rows, nodes, members.",
-    *_record("_1"),
-    *_record("_2"),
-    ("schema", LENT),
-    ("proof", LENT),
-    ("nodes", LENT),
-    ("members", LENT),
+    *_record("first_"),
+    *_record("second_"),
+    ("out_schema", LENT),
+    ("out_proof", LENT),
+    ("out_nodes", LENT),
+    ("out_members", LENT),
     ("results", _results(6)),
 )
 

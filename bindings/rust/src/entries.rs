@@ -275,9 +275,9 @@ entry! {
         node_rows: usize,
         members: &[i32],
         member_count: usize,
-        tidy_proof: &mut [i32],
-        tidy_nodes: &mut [i32],
-        tidy_members: &mut [i32],
+        out_proof: &mut [i32],
+        out_nodes: &mut [i32],
+        out_members: &mut [i32],
         results: &mut [i32; 3],
     )
 }
@@ -307,10 +307,10 @@ entry! {
         second_node_rows: usize,
         second_members: &[i32],
         second_member_count: usize,
-        schema: &mut [i32],
-        proof: &mut [i32],
-        nodes: &mut [i32],
-        members: &mut [i32],
+        out_schema: &mut [i32],
+        out_proof: &mut [i32],
+        out_nodes: &mut [i32],
+        out_members: &mut [i32],
         results: &mut [i32; 6],
     )
 }
