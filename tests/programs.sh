@@ -183,6 +183,7 @@ neighbour "node 1 by 9999" proof.txt 's/^0 2 -1 -1 -1 -1 0 2 3$/0 2 -1 -1 -1 -1 
 neighbour "node 1 by -1" proof.txt 's/^0 2 -1 -1 -1 -1 0 2 3$/0 2 -1 -1 -1 -1 -1 2 3/' "12 1 0 0" \
   "refused: the fields of rule 2, split (12) at node 1" "proof.txt:8: 0 2 -1 -1 -1 -1 -1 2 3"
 neighbour "node 6 on 8 with 6" proof.txt 's/^4 6 6 8 -1/4 6 8 6 -1/' "12 6 0 0" "refused: the fields of rule 6, clash (12) at node 6"
+# shellcheck disable=SC2016
 neighbour "last row gone" proof.txt '$d' "17 4 0 0" "refused: the number of children of rule 4, unfold or (17) at node 4"
 
 # ---- proof rows written twice
@@ -238,6 +239,7 @@ other_neighbour() { # NAME FILE SED WORDS
   check_record "$work/r" "$1"
   said "$1" "$4"
 }
+# shellcheck disable=SC2016
 other_neighbour "no node" proof.txt '7,$d' "refused: no node (10)"
 other_neighbour "an ill-formed schema row" schema.txt 's/^7 0 2 0$/7 9 2 0/' "schema.txt:6: 7 9 2 0"
 other_neighbour "an ill-formed proof row" proof.txt 's/^6 1 2 1$/6 1 2 99999/' "proof.txt:4: 6 1 2 99999"
@@ -396,6 +398,7 @@ record "$work/near"
 mkdir "$work/near"$'\n'
 gives "a folder's name that ends with a newline" 1 $'answer place nodes links\n3 1 0 0\n' $'refused: schema.txt is missing (3)\n' check "$work/near"$'\n'
 gives "no folder of a name that ends with newlines" 2 "" "zorambi check: no such folder: $work/near\x0a\x0a"$'\n' check "$work/near"$'\n\n'
+# shellcheck disable=SC1003
 gives "a name with bytes that are not printable" 2 "" 'zorambi check: no such folder: a\xffb\x1b[31m\\'$'\n' check $'a\xffb\e[31m\\'
 gives "a file as a folder" 2 "" "zorambi check: $work/near/schema.txt is no folder"$'\n' check "$work/near/schema.txt"
 out=$(cd "$work" && "$zorambi" check near 2>&1)
