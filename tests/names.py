@@ -1,8 +1,8 @@
 #!/usr/bin/env python3
 """What the documents name is there.
 
-Every name in backquotes in README.md, docs/MANUAL.md, ARCHITECTURE.md, TOUR.md, READING.md, THEOREMS.md, DECISIONS.md and
-WRONG_ANSWERS.md that looks like a file, a definition, a theorem, a function or an edit has to exist in the tree:
+Every name in backquotes in README.md, docs/MANUAL.md, ARCHITECTURE.md, TOUR.md, READING.md, THEOREMS.md, DECISIONS.md,
+WRONG_ANSWERS.md and REQUIRES.md that looks like a file, a definition, a theorem, a function or an edit has to exist in the tree:
 
 - `name/NAME` in WRONG_ANSWERS.md is an edit, crates/name/must-fail/NAME.edit, or a wrong answer that an edit of the crate has under that name;
 - a path, or a file's name, is a file or folder: from the top, below crates/, or below the folder that the page says it speaks of;
@@ -23,7 +23,7 @@ from pathlib import Path
 
 ROOT = Path(__file__).resolve().parent.parent
 CRATES = ROOT / "crates"
-PAGES = ["README", "MANUAL", "ARCHITECTURE", "TOUR", "READING", "THEOREMS", "DECISIONS", "WRONG_ANSWERS"]
+PAGES = ["README", "MANUAL", "ARCHITECTURE", "TOUR", "READING", "THEOREMS", "DECISIONS", "WRONG_ANSWERS", "REQUIRES"]
 # Pages for users: a single word in small letters is one that is typed or printed.
 FOR_USERS = {"README", "MANUAL", "ARCHITECTURE"}
 # Where a page's files are when it names no folder.

@@ -630,9 +630,9 @@ fn main() {
     let shipped = shipped(Path::new(&folder));
     println!("# Benchmark\n");
     println!(
-        "The proved library beside the other implementation (`tests/reference`, plain Rust built for release), on the \
-         same inputs in one run, by turns. Times are medians of one call's CPU time; the ratio is the library's time by the other's. \
-         Measured on {}. `./zorambi bench` prints this page.",
+        "The proved library beside the other implementation (`tests/reference`, plain Rust built for release), on the same inputs\n\
+         in one run, by turns. Times are medians of one call's CPU time; the ratio is the library's time by the other's. Measured\n\
+         on {}. `./zorambi bench` prints this page up to its notes.",
         processor()
     );
     checks(&shipped);
