@@ -205,12 +205,12 @@ def main():
                     elif last in tree.crates and NAME.match(word):
                         files = (CRATES / last / "src").rglob("*.rt")
                         tell(page, line, word, None if any(defined_in(file, word) for file in files) else f"not in crate {last}")
-            if page == "THEOREMS" and len(cells) == 4 and "antt" in cells[2]:
-                files = [FOLDERS[page] / file for file in re.findall(r"`([^`]+)`", cells[2])]
+            if page == "THEOREMS" and len(cells) == 3 and "antt" in cells[1]:
+                files = [FOLDERS[page] / file for file in re.findall(r"`([^`]+)`", cells[1])]
                 files = [file for file in files if file.is_file()]
-                for name in re.findall(r"`([^`]+)`", cells[1]):
+                for name in re.findall(r"`([^`]+)`", cells[0]):
                     if NAME.match(name):
-                        tell(page, line, name, None if any(defined_in(file, name) for file in files) else f"not in {cells[2]}")
+                        tell(page, line, name, None if any(defined_in(file, name) for file in files) else f"not in {cells[1]}")
         if passed == before:
             failed += 1
             print(f"{path_of(page).relative_to(ROOT)} names nothing")
