@@ -132,3 +132,21 @@ The exit status is 0 at the end of the input, 1 if DIR holds a row that is refus
     examples: &[example("zorambi grow records/paper/some_and_none", "begins with a closed tableau of 7 nodes")],
     of_script: false,
 };
+
+pub const EDIT: Command = Command {
+    name: "edit",
+    takes: "[--no-browser] DIR",
+    about: "build a tableau for the schema in DIR on a page in the browser, each row judged as it is chosen",
+    text: "Serves one page on 127.0.0.1, at a free port, until Ctrl-C or until it is ended from the page. Its address is printed, with a secret in it \
+without which nothing is answered; where there is a screen it is opened in the browser. The page is the drawing of 'zorambi show --html', and a form for \
+the next row: a click on an open leaf makes it the parent, rules that can apply there are offered, and with each change the row is asked about and \
+coloured, a refusal explained. Rows, words and verdicts come from 'zorambi grow --json'. It needs Python 3.9 or later.\n\n\
+Saving writes proof.txt by the proved writer: to a new file first, then in place, with the one before kept as proof.txt.bak. Rows that are not saved \
+stand in proof.txt.journal, and are taken up again after a crash; saving removes it. A text that another program changed meanwhile is told before it \
+is written over. One program at a time edits a folder.\n\n\
+The exit status is 0 when it is ended, 1 if DIR holds a row that is refused, 2 for wrong use or a failure.",
+    options: &[flag("--no-browser", "open no browser: print the address alone")],
+    names: [1, 1],
+    examples: &[example("zorambi edit --no-browser examples/grow", "the paper's schema, and its first five nodes")],
+    of_script: false,
+};

@@ -6,6 +6,7 @@ mod check;
 mod circuit;
 mod compile;
 mod convert;
+mod edit;
 mod end;
 mod explain;
 mod find;
@@ -59,6 +60,7 @@ fn run(command: &Command, given: &Given) -> u8 {
         "tidy" => tidy::tidy,
         "join" => join::join,
         "grow" => grow::grow,
+        "edit" => edit::edit,
         name => {
             say(&format!("zorambi: {name} is a command of ./zorambi in the project's folder\n"));
             return 2;
