@@ -393,6 +393,34 @@ def changed_underneath(scratch):
         same("nothing half written", [name for name in os.listdir(folder) if ".new" in name], [])
 
 
+def no_journal(scratch):
+    """Where the journal cannot be written that is told, and rows are saved all the same."""
+    folder = schema_alone(scratch / "no journal at all")
+    with Editor(folder) as editor:
+        editor.do("look")
+        (folder / JOURNAL / "x").mkdir(parents=True)
+        state = editor.row("add", node_lines()[0])["state"]
+        check(f"it is told: {state['notes']}", state["unsaved"] and any("save soon" in note for note in state["notes"]))
+        same("nothing half written", sorted(os.listdir(folder)), [JOURNAL, "schema.txt"])
+        shutil.rmtree(folder / JOURNAL)
+        state = editor.do("formula", rows=FORMULAS)["state"]
+        check("once it can be it is", not state["notes"] and (folder / JOURNAL).read_text().count("\n") == 3)
+        # Formula rows are taken back, unless a node names them.
+        same("a formula row back", len(editor.do("formula back")["state"]["tableau"]["rows"]), 8)
+        # A failed save is no save.
+        (folder / "proof.txt").mkdir()
+        told = editor.do("save", over=True)
+        check("a folder in its place", not told["saved"] and "not saved" in told["words"])
+        (folder / "proof.txt").rmdir()
+        editor.do("back")
+        state = editor.row("add", node_lines()[0])["state"]
+        check("still unsaved", state["unsaved"] and (folder / JOURNAL).is_file())
+        editor.process.kill()
+    with Editor(folder) as editor:
+        state = editor.do("look")["state"]
+        same("and not lost", (state["nodes"], len(state["tableau"]["rows"])), (1, 8))
+
+
 def strange_journals(scratch):
     outside = scratch / "outside"
     hashes = [hashlib.sha256((PAPER / name).read_bytes()).hexdigest() for name in ("schema.txt", "proof.txt")]
@@ -606,6 +634,9 @@ def by_clicks(window, scratch):
         same("open leaves are marked", page.run("return [...document.querySelectorAll('#tableau .node.open')].map((node) => node.id)"), ["n4"])
         # The wrong link.
         page.rule(8)
+        page.click("#unwrite")
+        check("a formula row that a node names stays", "refused" in page.text("#said") and "row 8" in page.text("#unwrite"))
+        page.rule(8)
         page.click("#n1")
         page.tick(8)
         page.by(2)
@@ -813,6 +844,7 @@ def main():
         two_pages(scratch)
         crash(scratch)
         changed_underneath(scratch)
+        no_journal(scratch)
         strange_journals(scratch)
         markup = hostile(scratch)
         endings(scratch)

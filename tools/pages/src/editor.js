@@ -137,7 +137,7 @@ const editor = (() => {
     const done = now.closed ? "The tableau is closed" : "No leaf is open";
     find("below").textContent = !row ? done : row.up < 0 ? "The first node" : `Below node ${row.up}`;
     find("gives").textContent = offers ? `${offers.gives}.` : now.unsaved ? "Save writes it to proof.txt; Back takes the last row back." : "Back takes the last row back.";
-    for (const part of ["rules", "set", "judged", "fields"]) find(part).hidden = !row;
+    for (const part of ["rules", "set", "written", "judged", "fields"]) find(part).hidden = !row;
     fillLeaves();
     if (!row) return;
     fillRules();
@@ -239,6 +239,9 @@ const editor = (() => {
         made("span", { className: "formula", textContent: textOf(number) }), from);
     });
     find("set").replaceChildren(made("legend", { textContent: "Set" }), ...lines);
+    const rowsOfProof = now.tableau.rows.length - now.tableau.schemaRows;
+    find("written").hidden = !rowsOfProof;
+    find("unwrite").textContent = `Take formula row ${now.tableau.rows.length - 1} back`;
   }
 
   // ---- the row and what is said of it
@@ -331,6 +334,12 @@ const editor = (() => {
     await changed(told);
   }
 
+  // The last formula row goes if no row names it; that is the program's word.
+  async function takeFormulaBack() {
+    const told = await send(() => ({ do: "formula back" }));
+    await changed(told);
+  }
+
   async function save(over = false) {
     const told = await send(() => ({ do: "save", over }));
     if (told.changed) {
@@ -403,6 +412,7 @@ const editor = (() => {
       attempt(add);
     });
     find("back").addEventListener("click", () => attempt(back));
+    find("unwrite").addEventListener("click", () => attempt(takeFormulaBack));
     find("save").addEventListener("click", () => attempt(() => save()));
     find("end").addEventListener("click", () => attempt(end));
     document.addEventListener("keydown", (event) => {

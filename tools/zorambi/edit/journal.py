@@ -26,9 +26,10 @@ class Journal:
             number = os.open(self.path, os.O_RDONLY | os.O_NOFOLLOW | os.O_NONBLOCK)
         except OSError:
             return None
+        if not stat.S_ISREG(os.fstat(number).st_mode):
+            os.close(number)
+            return None
         with open(number, "rb") as file:
-            if not stat.S_ISREG(os.fstat(number).st_mode):
-                return None
             text = file.read(LONGEST)
         first, *lines = text.decode("ascii", "replace").split("\n")[:-1] or [""]
         hashes = FIRST.fullmatch(first)
@@ -52,8 +53,12 @@ class Journal:
         number = os.open(part, os.O_WRONLY | os.O_CREAT | os.O_EXCL | os.O_APPEND, 0o644)
         self.file = open(number, "wb", buffering=0)
         text = "\n".join([f"zorambi journal 1 {hashes[0]} {hashes[1]}", *lines]) + "\n"
-        self.write(text)
-        os.replace(part, self.path)
+        try:
+            self.write(text)
+            os.replace(part, self.path)
+        except OSError:
+            os.unlink(part)
+            raise
 
     def append(self, line):
         self.write(line + "\n")

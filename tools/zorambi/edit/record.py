@@ -35,9 +35,10 @@ class Folder:
             number = os.open(self.file(name), os.O_RDONLY | os.O_NONBLOCK)
         except OSError:
             return "none"
+        if not stat.S_ISREG(os.fstat(number).st_mode):
+            os.close(number)
+            return "none"
         with open(number, "rb") as file:
-            if not stat.S_ISREG(os.fstat(number).st_mode):
-                return "none"
             return hashlib.sha256(file.read(LONGEST)).hexdigest()
 
     def changed(self, hashes):

@@ -1,7 +1,6 @@
 """What the pages ask: one tableau, held by the program `zorambi grow --json`. Pages say which version of it they know, so that none
 changes what it has not seen."""
 
-import os
 import threading
 
 from journal import NAME, OLD, Journal
@@ -58,11 +57,12 @@ class Session:
         self.program = Program(self.path, self.folder.path)
         first = self.program.first
         self.hashes = tuple(first[name] or "none" for name in ("schema_sha256", "proof_sha256"))
-        self.is_anew = False
+        # The program knows what proof.txt holds, and so whether rows are unsaved.
+        self.knows_saved, self.is_unsaved = True, False
 
     def begin_with_journal(self, hashes, lines):
         self.program = Program(self.path, self.folder.path, anew=True)
-        self.hashes, self.is_anew = hashes, True
+        self.hashes, self.knows_saved, self.is_unsaved = hashes, False, True
         for number, line in enumerate(lines, 2):
             answer = self.program.say(line)
             if answer["answer"] != 0:
@@ -98,7 +98,7 @@ class Session:
         self.tell()
 
     def tell(self):
-        more = {"name": self.name, "version": self.version, "unsaved": self.journal.is_begun()}
+        more = {"name": self.name, "version": self.version, "unsaved": self.is_unsaved}
         self.state.update(more, notes=[*self.notes, *self.told])
 
     def look_at_files(self):
@@ -127,6 +127,7 @@ class Session:
                 "add": self.add,
                 "back": self.back,
                 "formula": self.formula,
+                "formula back": self.formula_back,
                 "save": self.save,
                 "end": self.ask_to_end,
             }.get(asked.get("do") if isinstance(asked, dict) and isinstance(asked.get("do"), str) else None)
@@ -178,6 +179,10 @@ class Session:
         before = self.lines_before()
         return self.done(self.program.say(line), line, before)
 
+    def formula_back(self, _):
+        before = self.lines_before()
+        return self.done(self.program.say("formula back"), "formula back", before)
+
     def lines_before(self):
         """What the journal begins with, if it is not begun."""
         return None if self.journal.is_begun() else self.lines()
@@ -186,15 +191,17 @@ class Session:
         if answer["answer"] != 0:
             return {"answer": answer}
         self.notes = []
+        self.is_unsaved = answer["unsaved"] or not self.knows_saved
         try:
-            self.write_journal(answer, line, before)
+            self.write_journal(line, before)
         except OSError as error:
+            self.journal.close()
             self.notes.append(f"{NAME} cannot be written ({error.strerror}): save soon, a crash would lose rows")
         self.changed()
         return {"answer": answer, "state": self.state}
 
-    def write_journal(self, answer, line, before):
-        if not self.is_anew and not answer["unsaved"]:
+    def write_journal(self, line, before):
+        if not self.is_unsaved:
             self.journal.remove()
             return
         if before is not None:
@@ -208,7 +215,7 @@ class Session:
         if changed and asked.get("over") is not True:
             kept = "proof.txt as it is there is kept as proof.txt.bak if it is written over."
             return {"changed": True, "saved": False, "words": f"{self.words_of(changed)} {kept}"}
-        if not self.journal.is_begun() and not changed:
+        if not self.is_unsaved and not changed:
             return {"saved": True, "state": self.state}
         try:
             words = self.write_proof()
@@ -226,9 +233,11 @@ class Session:
         answer = self.program.say(f"save {part}")
         if answer["answer"] != 0:
             return f"{answer['words']}: {answer.get('why', '')}"
+        # It takes what it wrote for saved, whatever becomes of that.
+        self.knows_saved = False
         self.folder.replace(part)
         self.hashes = tuple(map(self.folder.hash_of, TEXTS))
-        self.is_anew = False
+        self.knows_saved, self.is_unsaved = True, False
         self.journal.remove()
         return ""
 
@@ -237,9 +246,10 @@ class Session:
         return {"words": self.kept() or "The program has ended."}
 
     def kept(self):
-        if not self.journal.is_begun():
+        if not self.is_unsaved:
             return ""
-        return f"not saved: {self.words()}; the rows are kept in {NAME}, and 'zorambi edit' takes them up again"
+        where = f"kept in {NAME}, and 'zorambi edit' takes them up again" if self.journal.is_begun() else "lost: no journal could be written"
+        return f"not saved: {self.words()}; the rows are {where}"
 
     def end(self):
         """What is said in the end."""
