@@ -329,9 +329,11 @@ const editor = (() => {
     if (told.state) await take(told.state, up === undefined ? {} : { up });
   }
 
+  // It goes on where the row stood.
   async function back() {
+    const up = now.tableau.nodes.at(-1)?.up;
     const told = await send(() => ({ do: "back" }));
-    await changed(told);
+    await changed(told, up);
   }
 
   // The last formula row goes if no row names it; that is the program's word.
