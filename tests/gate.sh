@@ -17,7 +17,7 @@ early_scripts=(tests/edit-reasons.sh tests/gate-counts.sh tests/contracts.py tes
 early_packages=(zorambi-reference zorambi-commands)
 # What needs the library, the programs and the program zorambi.
 packages=(zorambi zorambi-catalogue zorambi-widths zorambi-cli zorambi-notation zorambi-show zorambi-explain zorambi-pages zorambi-compile)
-scripts=(tests/programs.sh tests/readme.sh tests/manual.py tests/style.sh tests/catalogue.sh tests/install.sh tests/stack.sh tests/solver.sh tests/explain.sh tests/pages.py tests/python.sh)
+scripts=(tests/programs.sh tests/readme.sh tests/manual.py tests/style.sh tests/catalogue.sh tests/install.sh tests/stack.sh tests/solver.sh tests/explain.sh tests/pages.py tests/editor.py tests/python.sh)
 
 # ---- how a group is counted
 

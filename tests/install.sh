@@ -99,7 +99,7 @@ for command in $(zorambi help | sed -n '/^and /q; s/^  \([a-z]*\) .*/\1/p'); do
   done_commands="${done_commands-} $command"
 done
 check "the commands that are run here are all there are" \
-  [ "${done_commands-}" = " check model show explain catalogue merge find widths dimacs verilog compile convert small tidy join grow help" ]
+  [ "${done_commands-}" = " check model show explain catalogue merge find widths dimacs verilog compile convert small tidy join grow edit help" ]
 check "a page of the whole" grep -q '^.BR zorambi\\-catalogue (1)$' "$prefix/share/man/man1/zorambi.1"
 
 check "check" same "$(zorambi check accepted/rca_zero)" <(printf 'answer place nodes links\n0 0 65 3\n')
@@ -133,6 +133,23 @@ check "tidy" cmp -s "$scratch/out" "$records/tidy/rows_once/proof.txt"
 zorambi join accepted/chain_531 accepted/cmp_transitive "$scratch/joined"
 check "join" same "$(zorambi check "$scratch/joined")" <(printf 'answer place nodes links\n0 0 71 2\n')
 check "grow" [ "$(zorambi grow accepted/rca_zero </dev/null | tail -n 1 | cut -d ' ' -f 1-5)" = "0 0 65 3 closed" ]
+# The editor answers with its page, and is ended from there.
+edited() {
+  cp -r "$records/paper/some_and_none" "$scratch/edited" && clean python3 -c '
+import subprocess, sys, urllib.request
+with subprocess.Popen([sys.argv[1], "edit", "--no-browser", sys.argv[2]], stdout=subprocess.PIPE, text=True) as editor:
+    address = editor.stdout.readline().strip()
+    page = urllib.request.urlopen(address, timeout=20).read()
+    end = urllib.request.Request(address + "do", b"{\"do\":\"end\"}", {"Content-Type": "application/json"})
+    urllib.request.urlopen(end, timeout=20).close()
+    sys.exit(editor.wait(20) or b"<title>zorambi edit</title>" not in page)' "$prefix/bin/zorambi" "$scratch/edited" 2>"$scratch/err"
+}
+if clean python3 -c 'import sys; sys.exit(sys.version_info < (3, 9))' 2>/dev/null; then
+  check "edit" edited
+else
+  zorambi edit accepted/rca_zero >"$scratch/out"
+  check "edit without Python" [ $? -eq 2 ]
+fi
 check "--version" grep -qE '^zorambi [0-9.]+, library [0-9a-f]{16}, rattle logic [0-9a-f]{16}$' <(zorambi --version)
 
 # Through a link, and in a folder that nobody may write to.

@@ -97,10 +97,11 @@ B
 }
 
 # Files are put in place whole: install removes an old one before it writes.
-install -d "$to/bin" "$to/libexec/zorambi" "$to/lib/pkgconfig" "$to/lib/python3/zorambi" "$to/include" "$to/share/man/man1" \
+install -d "$to/bin" "$to/libexec/zorambi/edit" "$to/lib/pkgconfig" "$to/lib/python3/zorambi" "$to/include" "$to/share/man/man1" \
   "$to/share/bash-completion/completions" "$to/share/zorambi/examples"
 install -m 755 "$program" "$to/bin/zorambi"
 install -m 755 "${proved[@]}" "$to/libexec/zorambi"
+install -m 644 "$root"/tools/zorambi/edit/*.py "$to/libexec/zorambi/edit"
 install -m 644 "$library" "$to/lib"
 install -m 755 "$scratch/$shared" "$to/lib"
 ln -sfn "$shared" "$to/lib/$soname"

@@ -200,13 +200,13 @@ ends "quiet, a model" 1 "" "" "$zorambi" model --quiet "$work/e"
 ends "quiet, a model found" 0 "" "" "$zorambi" find --quiet "$work/e" 3
 ends "quiet, a search refused" 1 "" "" "$zorambi" find --quiet "$work/e" 18
 ends "quiet, no folder" 2 "" "zorambi check: no such folder: $work/none" "$zorambi" check --quiet "$work/none"
-for command in check model show explain catalogue merge find widths dimacs verilog compile convert small tidy join grow help; do
+for command in check model show explain catalogue merge find widths dimacs verilog compile convert small tidy join grow edit help; do
   ends "help $command" 0 "$("$zorambi" "$command" --help)" "" "$zorambi" help "$command"
   said_first=$("$zorambi" help "$command" | head -n 1)
   alike "help $command, its use" "use: zorambi $command" "${said_first:0:$((13 + ${#command}))}"
 done
 ends "--help" 0 "$("$zorambi" help)" "" "$zorambi" --help
-alike "help lists every command" "22" "$("$zorambi" help --list | grep -c .)"
+alike "help lists every command" "23" "$("$zorambi" help --list | grep -c .)"
 release=$(sed -n 's/^version = "\(.*\)"/\1/p' Cargo.toml)
 alike "--version" "zorambi $release, library $(sha256sum target/staticlib/libzorambi.a | head -c 16), rattle logic $(rt version | sed 's/.* logic //')" "$("$zorambi" --version)"
 # The examples of the help can be run as they stand there; those of widths where their solver is installed.
@@ -214,6 +214,8 @@ alike "--version" "zorambi $release, library $(sha256sum target/staticlib/libzor
 sed -i "s|/tmp/|$work/tmp/|g" "$work/examples"
 while read -r example; do
   [[ $example == *part-\** ]] && continue
+  # It serves until it is ended: tests/editor.py.
+  [[ $example == "zorambi edit "* ]] && continue
   [[ $example == "zorambi widths "* ]] && ! command -v cadical >/dev/null && continue
   (PATH=$(dirname "$zorambi"):$PATH; eval "$example") >"$work/out" 2>"$work/err" </dev/null
   alike "$example" 01 "0$(($? < 2))"

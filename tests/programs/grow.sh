@@ -302,7 +302,7 @@ no such word: 'xxxxxxxxxxyyyyyyyyyy...'; 'help' lists them
 " "$work/or"
 "$zorambi" grow "$work/g" <<<help >"$work/out" 2>"$work/err"
 alike "help, its status" 0 $?
-for word in '? ROW' commit back rows open 'save FILE' help; do alike "help on $word" 1 "$(grep -c "^$word " "$work/out")"; done
+for word in '? ROW' commit back 'formula KIND A B C, ..' 'formula back' rows open 'save FILE' help; do alike "help on $word" 1 "$(grep -c "^$word " "$work/out")"; done
 # Rows that were not saved are told at the end; what was taken back, saved or never changed is not.
 answers "nothing added" "back
 " "0 0 0 0 open
@@ -406,6 +406,155 @@ for shown in $'0 0 7 1 \e[32mclosed\e[0m' $'4 10 0 0 open \e[31mrefused: a line\
   alike "in colour" "$shown" "$(grep -F -x -m 1 -- "$shown" <<<"$shown_on_terminal")"
 done
 alike "not in colour" "" "$(on_terminal NO_COLOR=1 | grep -F $'\e[' | head -n 1)"
+
+# ---- formula rows, written while it grows
+
+rm -rf "$work/f"
+mkdir "$work/f"
+cp records/paper/some_and_none/schema.txt "$work/f"
+paper_rows=$(nodes_of records/paper/some_and_none)
+written='formula 7 0 2 1
+formula 2 0 1 0, 6 1 2 1, 3 0 1 0'
+# The paper's record with its formula rows written between its nodes, which are held all the while.
+answers "formula rows between nodes" "$(head -n 3 <<<"$paper_rows")
+$written
+$(tail -n +4 <<<"$paper_rows")
+save $work/f/whole
+" "0 0 0 0 open
+0 0 1 0 open
+0 0 2 0 open
+0 0 3 0 open
+0 0 3 0 open
+0 0 3 0 open
+0 0 4 0 open
+0 0 5 0 open
+0 0 6 1 open
+0 0 7 1 closed
+saved $work/f/whole
+" "$work/f" ""
+alike "formula rows between nodes, as saved" "" "$(cmp "$work/f/whole" records/paper/some_and_none/proof.txt 2>&1)"
+# Whatever is refused leaves all as it was.
+answers "formula rows that are refused" "$(head -n 1 <<<"$paper_rows")
+formula 7 0 2 1
+formula 7 0 2 1
+formula 2 0 1 0, 9 0 0 0
+formula 4 5 9 0
+formula 7 0 2
+formula 7  0 2 1
+formula 7 0 2 1,2 0 1 0
+formula up rule on with other to by set
+formula
+formula back x
+open
+" "0 0 0 0 open
+0 0 1 0 open
+0 0 1 0 open
+27 6 0 0 open refused: a proof row written twice (27) at row 6
+7 7 0 0 open refused: an ill-formed formula (7) at row 7
+7 6 0 0 open refused: an ill-formed formula (7) at row 6
+4 6 0 0 open refused: a line's form (4) at line 6
+4 7 0 0 open refused: a line's form (4) at line 7
+4 8 0 0 open refused: a line's form (4) at line 8
+4 9 0 0 open refused: a line's form (4) at line 9
+formula wants rows KIND A B C, with a comma between
+4 11 0 0 open refused: a line's form (4) at line 11
+node 0: rule 0, and, has 0 of 1 children
+" "$work/f"
+# A row that a node names is not taken back.
+answers "formula back" "$written
+$(head -n 5 <<<"$paper_rows")
+formula back
+back
+back
+formula back
+formula back
+formula back
+formula back
+formula back
+" "0 0 0 0 open
+0 0 0 0 open
+0 0 0 0 open
+0 0 1 0 open
+0 0 2 0 open
+0 0 3 0 open
+0 0 4 0 open
+0 0 5 0 open
+12 3 0 0 open refused: the fields of rule 3, unfold and (12) at node 3
+0 0 4 0 open
+0 0 3 0 open
+0 0 3 0 open
+0 0 3 0 open
+0 0 3 0 open
+0 0 3 0 open
+the proof has no formula row to take back; those of the schema stay
+" "$work/f"
+# No more rows than there may be: 1,024 with the schema's.
+{
+  for symbol in $(seq 0 3); do
+    printf 'formula '
+    for c in $(seq 1 $((symbol < 3 ? 254 : 253))); do printf '2 %d 1 %d, ' "$symbol" "$c"; done
+    printf '3 %d 1 0\n' "$symbol"
+  done
+  echo "formula 3 9 1 0"
+} >"$work/f/lines"
+"$zorambi" grow "$work/f" <"$work/f/lines" >"$work/out" 2>"$work/err"
+alike "formula rows to the limit" "0 0 0 0 open 5 -1 0 0 open refused: too many rows or members (5)" "$(tail -n 2 "$work/out" | short_answers | paste -sd ' ')"
+
+# ---- anew, and as JSON
+
+gives "--anew" 0 $'answer place nodes links\n0 0 0 0 open\n' "" grow --anew records/accepted/rca_zero </dev/null
+mkdir -p "$work/f/broken"
+cp "$work/f/schema.txt" "$work/f/broken"
+echo x >"$work/f/broken/proof.txt"
+gives "--anew, whatever the proof is" 0 $'answer place nodes links\n0 0 0 0 open\n' "" grow --anew "$work/f/broken" </dev/null
+
+# Members of the object that the last line is answered by, as Python shows them.
+json_answer() { # LINES MEMBER..
+  "$zorambi" grow --json "$work/f" <<<"$1" | python3 -c '
+import json, sys
+answers = [json.loads(line) for line in sys.stdin]
+print(len(answers), *(answers[-1].get(name, "-") for name in sys.argv[1:]))' "${@:2}"
+}
+first_row=$(head -n 1 <<<"$paper_rows")
+alike "json: what is held" "2 0 0 0 0 False False 0 nodes, 0 links, open" "$(json_answer "" answer place nodes links closed unsaved words)"
+alike "json: added" "2 0 1 False True 1 node, 0 links, open -" "$(json_answer "$first_row" answer nodes closed unsaved words then)"
+alike "json: asked" "2 0 0 {'nodes': 1, 'links': 0, 'closed': False, 'words': '1 node, 0 links, open'}" "$(json_answer "? $first_row" answer nodes then)"
+alike "json: refused" "2 12 0 0 refused: the fields of rule 1, or (12) at node 0 -" "$(json_answer "? -1 1 4 -1 -1 -1 0 4" answer place nodes words then)"
+alike "json: why" "2 node 0: on, row 4 ((⋁ i=2..n: p0(i)) ∧ ⋀ i=2..n: ¬p0(i)), is an and (kind 4); rule 1, or, wants an or (kind 5)" "$(json_answer "? -1 1 4 -1 -1 -1 0 4" why)"
+alike "json: no such word" "2 None None no such word: 'x'; 'help' lists them" "$(json_answer x answer place words)"
+alike "json: rows" "4 ['7 0 2 1'] ['$first_row']" "$(json_answer "formula 7 0 2 1
+$first_row
+rows" formulas rows)"
+alike "json: open" "3 [{'node': 0, 'words': 'has 0 of 1 children'}]" "$(json_answer "$first_row
+open" open)"
+alike "json: drawn" "2 0 0 - None" "$(json_answer draw answer nodes then asked)"
+alike "json: drawn with a row" "2 0 0 {'nodes': 1, 'links': 0, 'closed': False, 'words': '1 node, 0 links, open'} 0" "$(json_answer "draw $first_row" answer nodes then asked)"
+alike "json: drawn with what cannot be read" "2 4 1 None" "$(json_answer "draw 1 2" answer place asked)"
+alike "json: offers of no node" "2 None offers wants the number of a node, or -1 for the first one" "$(json_answer "offers 0" answer words)"
+alike "json: a line for each line" "$(yes draw | head -n 40 | "$zorambi" grow --json "$work/f" | wc -l)" 41
+# A rule is offered where the library takes a row with it, and nowhere else: at each node of the shipped records that has children, the
+# rule of the first of them.
+alike "json: rules that stand in accepted records are offered" "0 wrong" "$(python3 - "$zorambi" records/accepted/* <<'P'
+import json, os, subprocess, sys
+wrong = many = 0
+for record in sys.argv[2:]:
+    if not os.path.isfile(f"{record}/proof.txt"):
+        continue
+    proof = open(f"{record}/proof.txt").read().split("up rule on with other to by set\n")
+    rows = [line.split() for line in proof[1].splitlines()]
+    formulas = proof[0].splitlines()[1:]
+    lines = [f"formula {', '.join(formulas)}"] if formulas else []
+    asked = []
+    for row in rows:
+        asked.append(len(lines))
+        lines += [f"offers {row[0]}", " ".join(row)]
+    answers = subprocess.run([sys.argv[1], "grow", "--json", "--anew", record], input="\n".join(lines) + "\n", capture_output=True, text=True).stdout.splitlines()[1:]
+    for row, at in zip(rows, asked):
+        many += 1
+        wrong += json.loads(answers[at])["rules"][int(row[1])]["whyNot"] is not None
+print(wrong, "wrong" if many > 200 else f"of {many}")
+P
+)"
 
 # ---- folders that hold no tableau
 

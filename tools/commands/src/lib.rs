@@ -81,6 +81,7 @@ pub fn commands() -> &'static [&'static Command] {
         &texts::TIDY,
         &texts::JOIN,
         &texts::GROW,
+        &texts::EDIT,
         &checks::HELP,
         &checks::BUILD,
         &checks::TEST,

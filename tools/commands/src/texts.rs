@@ -107,16 +107,46 @@ The exit status is 0 for success, 1 for a refusal, 2 for wrong use or a failure.
 
 pub const GROW: Command = Command {
     name: "grow",
-    takes: "[--follow] DIR",
+    takes: "[--follow] [--anew] [--json] DIR",
     about: "build a tableau for the schema in DIR row by row, from standard input",
     text: "Begins with what DIR's proof.txt has, if there is one, and answers each line of standard input at once. A line is a node row as a proof \
-text has it, which is added; '? ROW' to ask about a row; 'commit' to add the row last asked about; 'back' to take the last row back; 'rows' \
+text has it, which is added; '? ROW' to ask about a row; 'commit' to add the row last asked about; 'back' to take the last row back; \
+'formula KIND A B C, ..' to put formula rows after those that are there, and 'formula back' to take the last one back; 'rows' \
 to list the rows held; 'open' to list the nodes that want children; 'save FILE' to write the proof text; 'help'.\n\n\
-An answer to a row, commit or back is 'answer place nodes links', then 'open' or 'closed', and why if it was refused. An answer to an enquiry \
+An answer to a row, commit, back or formula is 'answer place nodes links', then 'open' or 'closed', and why if it was refused. An answer to an enquiry \
 has '? ' before it. At the end of the input rows that were not saved are told on standard error.\n\n\
+With a formula row more or less the tableau is begun again and the rows held are added again, each judged by the library; where one is refused \
+all stays as it was.\n\n\
+With --json each answer is one object on one line: answer and place (0, or those of a refusal; null for a line that is no such word), nodes, links \
+and closed (what is held), unsaved, words, of an enquiry that was answered with yes then (what would be held), and of a refusal why, context and mend. \
+For the page of 'zorambi edit' there are four words more: 'draw', the drawing of what is held; 'draw ROW', an enquiry with the drawing as it would \
+be and the formula rows that the step needs; 'offers UP', the rows that the next child of node UP may have, and each rule with why it cannot apply \
+there; and 'page', the page itself.\n\n\
 The exit status is 0 at the end of the input, 1 if DIR holds a row that is refused, 2 for wrong use or a failure.",
-    options: &[FOLLOW],
+    options: &[
+        FOLLOW,
+        flag("--anew", "begin with the schema alone, whatever proof.txt has"),
+        flag("--json", "answer each line by one JSON object"),
+    ],
     names: [1, 1],
     examples: &[example("zorambi grow records/paper/some_and_none", "begins with a closed tableau of 7 nodes")],
+    of_script: false,
+};
+
+pub const EDIT: Command = Command {
+    name: "edit",
+    takes: "[--no-browser] DIR",
+    about: "build a tableau for the schema in DIR on a page in the browser, each row judged as it is chosen",
+    text: "Serves one page on 127.0.0.1, at a free port, until Ctrl-C or until it is ended from the page. Its address is printed, with a secret in it \
+without which nothing is answered; where there is a screen it is opened in the browser. The page is the drawing of 'zorambi show --html', and a form for \
+the next row: a click on an open leaf makes it the parent, rules that can apply there are offered, and with each change the row is asked about and \
+coloured, a refusal explained. Rows, words and verdicts come from 'zorambi grow --json'. It needs Python 3.9 or later.\n\n\
+Saving writes proof.txt by the proved writer: to a new file first, then in place, with the one before kept as proof.txt.bak. Rows that are not saved \
+stand in proof.txt.journal, and are taken up again after a crash; saving removes it. A text that another program changed meanwhile is told before it \
+is written over. One program at a time edits a folder.\n\n\
+The exit status is 0 when it is ended, 1 if DIR holds a row that is refused, 2 for wrong use or a failure.",
+    options: &[flag("--no-browser", "open no browser: print the address alone")],
+    names: [1, 1],
+    examples: &[example("zorambi edit --no-browser examples/grow", "the paper's schema, and its first five nodes")],
     of_script: false,
 };

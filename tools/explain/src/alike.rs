@@ -95,6 +95,21 @@ impl<'a> Written<'a> {
         self.from.voice.formula(&self.rows, written)
     }
 
+    /// Its number among these rows. Those of its parts that are not there, and itself, are put at their end.
+    pub fn put(&self, written: usize, rows: &mut Vec<Row>) -> i32 {
+        let [kind, a, b, c] = self.rows[written];
+        let row = match kind {
+            4 | 5 => [kind, self.put(a as usize, rows), self.put(b as usize, rows), c],
+            6 | 7 => [kind, self.put(a as usize, rows), b, c],
+            _ => [kind, a, b, c],
+        };
+        let there = rows.iter().position(|other| *other == row).unwrap_or_else(|| {
+            rows.push(row);
+            rows.len() - 1
+        });
+        there as i32
+    }
+
     /// The parts of both that are to be set side by side, if the rows themselves fit: those that are alike are left out.
     fn partings(&self, stands: usize, wanted: usize) -> Option<Vec<Parting>> {
         let ([kind, a, b, c], [wanted_kind, d, e, f]) = (self.rows[stands], self.rows[wanted]);

@@ -8,18 +8,19 @@ use crate::why::{things, Why};
 use zorambi::words::{counted, RULES};
 
 /// What a rule uses: the kinds of on and with, and whether it uses other and to.
-struct Uses {
-    on: Option<i32>,
-    with: Option<i32>,
-    other: bool,
-    to: bool,
+#[derive(Clone, Copy, Debug, PartialEq, Eq)]
+pub struct Uses {
+    pub on: Option<i32>,
+    pub with: Option<i32>,
+    pub other: bool,
+    pub to: bool,
 }
 
 const fn uses(on: Option<i32>, with: Option<i32>, other: bool, to: bool) -> Uses {
     Uses { on, with, other, to }
 }
 
-const USES: [Uses; 9] = [
+pub const USES: [Uses; 9] = [
     uses(Some(4), None, false, false),
     uses(Some(5), None, false, false),
     uses(None, None, false, false),

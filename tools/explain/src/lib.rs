@@ -9,6 +9,7 @@ mod fields;
 mod formulas;
 mod limits;
 mod models;
+mod next;
 mod notation;
 mod partners;
 mod rows;
@@ -19,8 +20,11 @@ mod tools;
 mod why;
 mod writing;
 
+pub use fields::{Uses, USES};
+pub use next::{Child, Needed};
 pub use notation::Voice;
-pub use tableau::Tables;
+pub use rows::kind_name;
+pub use tableau::{Tables, CHILDREN};
 pub use texts::{Sort, Text};
 pub use why::Why;
 
@@ -251,4 +255,14 @@ pub fn node(tables: &Tables, refused: Refused, voice: &Voice) -> Option<String> 
     let notation = Notation::new(tableau.rows.all(), &voice.names, voice.style);
     let bound = tableau.bound(node);
     Some(format!("node {node} knows {} and says: {}", tableau.knows(bound), rule(row, Some(bound), &notation)))
+}
+
+/// What the next child of a node may have; `None` if there is no such node.
+pub fn child(tables: &Tables, parent: usize, voice: &Voice) -> Option<Child> {
+    next::child(&Tableau::new(tables, voice), parent)
+}
+
+/// The formula rows that the step of a node needs; none if its rule needs none, or if the row that it works on is none.
+pub fn needed(tables: &Tables, node: usize, voice: &Voice) -> Vec<Needed> {
+    next::needed(&Tableau::new(tables, voice), node).unwrap_or_default()
 }

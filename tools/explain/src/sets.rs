@@ -125,7 +125,7 @@ pub fn parent(tableau: &Tableau, place: Option<usize>) -> Option<Why> {
 }
 
 /// The rows that the parent's rule gives this child, and what they are of it.
-fn given(tableau: &Tableau, parent: usize, order: usize) -> (Vec<i32>, String) {
+pub fn given(tableau: &Tableau, parent: usize, order: usize) -> (Vec<i32>, String) {
     let Node { rule, on, with, other, .. } = tableau.nodes[parent];
     let [_, left, right, _] = tableau.rows.get(on).unwrap_or_default();
     let child = if order == 0 { "its first child" } else { "its second child" };

@@ -1,6 +1,7 @@
 //! The record as the page's script reads it: one JSON object with all that is drawn and told, places included.
 
 use crate::escape::string;
+use crate::json::{list, numbers, object as json_object, or_null};
 use crate::layout::Point;
 use crate::picture::{Picture, Place, GLYPHS};
 use crate::svg::{arc_path, edge, head_path};
@@ -35,8 +36,7 @@ pub fn object(picture: &Picture) -> String {
         ("links", links(picture)),
         ("note", note(picture)),
     ];
-    let members: Vec<String> = members.iter().map(|(name, value)| format!("\"{name}\":{value}")).collect();
-    format!("{{{}}}", members.join(",\n"))
+    json_object(&members)
 }
 
 fn answer(verdict: Verdict) -> u8 {
@@ -52,18 +52,6 @@ fn refused(place: Place) -> String {
         Place::Row(row) => format!("{{\"row\":{row}}}"),
         Place::Elsewhere => "null".to_string(),
     }
-}
-
-fn or_null(text: Option<&str>) -> String {
-    text.map_or("null".to_string(), string)
-}
-
-fn list(items: impl Iterator<Item = String>) -> String {
-    format!("[{}]", items.collect::<Vec<_>>().join(","))
-}
-
-fn numbers(numbers: &[i32]) -> String {
-    list(numbers.iter().map(i32::to_string))
 }
 
 /// Each row: its four numbers and its text.

@@ -14,6 +14,11 @@ pub const KIND: Kind = Kind { start: START, what: "page of a record" };
 
 const STYLE: &str = include_str!("page.css");
 const SCRIPT: &str = include_str!("page.js");
+const EDITOR_STYLE: &str = include_str!("editor.css");
+const EDITOR_SCRIPT: &str = include_str!("editor.js");
+/// What the editor's page has besides its drawing: it is filled by its script.
+const EDITOR_HEADER: &str = include_str!("editor-header.html");
+const EDITOR_PANEL: &str = include_str!("editor-panel.html");
 
 /// The page. `up` is where the page of its catalogue is, if it has one.
 pub fn page(picture: &Picture, up: Option<&str>) -> String {
@@ -21,7 +26,7 @@ pub fn page(picture: &Picture, up: Option<&str>) -> String {
         "{START}<html lang=\"en\">\n<head>\n{head}<title>{title}</title>\n<style>\n{STYLE}{drawing}</style>\n</head>\n<body>\n\
          {header}<main>\n<section class=\"left\" aria-label=\"the tableau\">\n{tools}<div id=\"drawing\">\n{svg}</div>\n</section>\n{panel}</main>\n\
          <script type=\"application/json\" id=\"record\">\n{data}\n</script>\n<script>{SCRIPT}</script>\n</body>\n</html>\n",
-        head = head(SCRIPT),
+        head = head(SCRIPT, ""),
         title = text(&picture.title()),
         drawing = svg::STYLE,
         header = header(picture, up),
@@ -32,15 +37,27 @@ pub fn page(picture: &Picture, up: Option<&str>) -> String {
     )
 }
 
+/// The page of the editor. It has nothing of a record in it: its script asks the server that it comes from, and no other.
+pub fn editor() -> String {
+    let script = format!("{SCRIPT}{EDITOR_SCRIPT}");
+    format!(
+        "<!DOCTYPE html>\n<html lang=\"en\">\n<head>\n{head}<title>zorambi edit</title>\n<style>\n{STYLE}{drawing}{EDITOR_STYLE}</style>\n</head>\n\
+         <body class=\"editor\">\n{EDITOR_HEADER}<main>\n<section class=\"left\" aria-label=\"the tableau\">\n{TOOLS}<div id=\"drawing\">\n{EMPTY}</div>\n\
+         </section>\n{EDITOR_PANEL}</main>\n<script>{script}</script>\n</body>\n</html>\n",
+        head = head(&script, "; connect-src 'self'"),
+        drawing = svg::STYLE,
+    )
+}
+
 const EMPTY: &str = "<p class=\"empty\">There is no node to draw.</p>\n";
 
-/// What every page says of itself. Its own script alone may run in it, and nothing may be loaded.
-pub fn head(script: &str) -> String {
+/// What every page says of itself. Its own script alone may run in it, and nothing may be loaded, but what is added here.
+pub fn head(script: &str, more: &str) -> String {
     format!(
         "<meta charset=\"utf-8\">\n<meta name=\"viewport\" content=\"width=device-width, initial-scale=1\">\n\
          <meta name=\"color-scheme\" content=\"light dark\">\n\
          <meta http-equiv=\"Content-Security-Policy\" content=\"default-src 'none'; style-src 'unsafe-inline'; img-src data:; \
-         script-src 'sha256-{}'\">\n<link rel=\"icon\" href=\"data:,\">\n",
+         script-src 'sha256-{}'{more}\">\n<link rel=\"icon\" href=\"data:,\">\n",
         base64(&sha256(script.as_bytes()))
     )
 }

@@ -10,12 +10,14 @@
 //! * [`links`]: names of pages, and how they lead to each other
 //! * [`beside`]: files that are whole or not there
 //! * [`escape`]: text that stays text
+//! * [`json`]: objects and lists for scripts
 
 pub mod beside;
 pub mod data;
 pub mod escape;
 pub mod explained;
 pub mod html;
+pub mod json;
 pub mod layout;
 pub mod links;
 pub mod listing;

@@ -70,7 +70,7 @@ impl Listing {
         format!(
             "{START}<html lang=\"en\">\n<head>\n{}<title>{}</title>\n<style>\n{STYLE}</style>\n</head>\n<body>\n\
              <script type=\"application/json\" id=\"pages\">{}</script>\n<script type=\"application/json\" id=\"rows\">\n[",
-            head(SCRIPT),
+            head(SCRIPT, ""),
             text(&self.title),
             self.pages.as_deref().map_or("null".to_string(), string),
         )

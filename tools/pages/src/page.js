@@ -1,6 +1,6 @@
 "use strict";
 // The page of a record. It draws one object, `record`: its nodes with their places, formulas as text, links, the verdict. Whatever comes
-// from it is set as text, never as markup. `zorambi.show(record)` draws another one in its place.
+// from it is set as text, never as markup. `zorambi.show(record)` draws another one in its place; the editor does so with each change.
 const zorambi = (() => {
   const SVG = "http://www.w3.org/2000/svg";
   const find = (id) => document.getElementById(id);
@@ -10,6 +10,8 @@ const zorambi = (() => {
   let nodes; // the elements of the nodes
   let selected = null; // a node's number
   const at = { x: 0, y: 0, scale: 1 }; // how the drawing is moved; as it is here the whole fits
+  let isWhole = true; // the reader has not moved it
+  let onNode = () => false; // what else a click on a node or Enter does; true if that is all
 
   // ---- elements
 
@@ -99,6 +101,28 @@ const zorambi = (() => {
   function fit() {
     const scale = Math.min(1, 1.25 / fitted());
     Object.assign(at, { x: (record.width / 2) * (1 - scale), y: (record.height / 2) * (1 - scale), scale });
+    isWhole = true;
+    move();
+  }
+
+  // Where a node stands from the middle of the window, and how large it is, in pixels.
+  function standing(number) {
+    const node = record.nodes[number] ?? { x: 0, y: 0 };
+    const pixels = fitted();
+    return {
+      x: (at.x + node.x * at.scale - record.width / 2) * pixels,
+      y: (at.y + node.y * at.scale - record.height / 2) * pixels,
+      pixels: pixels * at.scale,
+    };
+  }
+
+  // Moves the drawing so that a node stands where it stood in the one before.
+  function stay(number, { x, y, pixels }) {
+    const node = record.nodes[number] ?? { x: 0, y: 0 };
+    const whole = fitted();
+    at.scale = pixels / whole;
+    at.x = x / whole + record.width / 2 - node.x * at.scale;
+    at.y = y / whole + record.height / 2 - node.y * at.scale;
     move();
   }
 
@@ -119,6 +143,7 @@ const zorambi = (() => {
     at.x = place.x - (place.x - at.x) * (scale / at.scale);
     at.y = place.y - (place.y - at.y) * (scale / at.scale);
     at.scale = scale;
+    isWhole = false;
     move();
   }
 
@@ -133,7 +158,9 @@ const zorambi = (() => {
     for (const [axis, start, size, whole] of [["x", node.x, width, record.width], ["y", node.y, height, record.height]]) {
       const middle = at[axis] + (start + size / 2) * at.scale;
       const room = half[axis] - size * at.scale;
-      if (grows || Math.abs(middle - whole / 2) > room) at[axis] = whole / 2 - (start + size / 2) * at.scale;
+      if (!grows && Math.abs(middle - whole / 2) <= room) continue;
+      at[axis] = whole / 2 - (start + size / 2) * at.scale;
+      isWhole = false;
     }
     move();
   }
@@ -156,6 +183,7 @@ const zorambi = (() => {
       from.moved = true;
       svg.classList.add("dragged");
       Object.assign(at, { x: from.x + right, y: from.y + down });
+      isWhole = false;
       move();
     });
     const end = () => {
@@ -167,8 +195,10 @@ const zorambi = (() => {
     svg.addEventListener("click", (event) => {
       const node = event.target.closest(".node");
       const link = event.target.closest(".link");
-      if (node) select(Number(node.dataset.node));
-      else if (link) select(Number(link.dataset.to), true);
+      if (node) {
+        select(Number(node.dataset.node));
+        onNode(Number(node.dataset.node));
+      } else if (link) select(Number(link.dataset.to), true);
     });
   }
 
@@ -176,6 +206,13 @@ const zorambi = (() => {
 
   function select(number, toMiddle = false) {
     if (!record.nodes[number]) return;
+    mark(number);
+    bring(record.nodes[number], toMiddle);
+    nodes[number].focus({ preventScroll: true });
+  }
+
+  // Shows what is selected without going there.
+  function mark(number) {
     unmark();
     selected = number;
     const element = nodes[number];
@@ -183,8 +220,6 @@ const zorambi = (() => {
     element.setAttribute("aria-selected", "true");
     element.setAttribute("tabindex", "0");
     for (const link of svg.querySelectorAll(`.link[data-from="${number}"], .link[data-to="${number}"]`)) link.classList.add("lit");
-    bring(record.nodes[number], toMiddle);
-    element.focus({ preventScroll: true });
     find("selected").replaceChildren(...aboutNode(record.nodes[number]));
   }
 
@@ -352,7 +387,7 @@ const zorambi = (() => {
     ArrowDown: (node) => select(children[node.number][0] ?? node.number),
     ArrowLeft: (node) => select(beside(node.number, -1) ?? node.number),
     ArrowRight: (node) => select(beside(node.number, 1) ?? node.number),
-    Enter: (node) => (node.class === 8 && record.nodes[node.to] ? select(node.to, true) : bring(node, true)),
+    Enter: (node) => onNode(node.number) || (node.class === 8 && record.nodes[node.to] ? select(node.to, true) : bring(node, true)),
   };
 
   function listenToKeys() {
@@ -387,25 +422,37 @@ const zorambi = (() => {
 
   // ---- all of it
 
-  function show(given) {
+  // With a node to stay at, that node keeps its place where the reader has moved the drawing, and what is selected stays so.
+  function show(given, stayAt = null) {
+    const before = stayAt !== null && svg && record.nodes.length ? { ...standing(stayAt), selected, isWhole } : null;
+    const focused = document.activeElement?.closest?.("#tableau .node")?.dataset.node;
     record = given;
     selected = null;
     children = record.nodes.map(() => []);
     for (const node of record.nodes) if (node.parent !== null) children[node.parent].push(node.number);
     find("selected").replaceChildren(...(record.nodes.length ? aboutNothing() : []));
-    if (record.nodes.length) {
-      const old = find("tableau") ?? document.querySelector("#drawing > .empty");
+    const old = find("tableau") ?? document.querySelector("#drawing > .empty");
+    find("tools").hidden = !record.nodes.length;
+    if (!record.nodes.length && svg) {
+      old.replaceWith(made("p", { className: "empty", textContent: "There is no node to draw." }));
+      svg = null;
+    } else if (record.nodes.length) {
       draw();
-      find("tools").hidden = false;
       svg.style.setProperty("--box-width", `${record.box[0]}px`);
       svg.style.setProperty("--box-height", `${record.box[1]}px`);
       old.replaceWith(svg);
       nodes[0].setAttribute("tabindex", "0");
       listenToMoves();
-      fit();
+      if (before && !before.isWhole) stay(stayAt, before);
+      else fit();
     }
     const schema = find("schema");
     if (schema) schema.replaceChildren(formula(schema.textContent));
+    if (stayAt !== null) {
+      if (before && record.nodes[before.selected]) mark(before.selected);
+      if (focused !== undefined && nodes[focused] && svg) nodes[focused].focus({ preventScroll: true });
+      return;
+    }
     const { node, row } = record.refused ?? {};
     if (node !== undefined) {
       select(node, fitted() < 0.6);
@@ -413,7 +460,7 @@ const zorambi = (() => {
     } else if (row !== undefined) selectRow(row);
   }
 
-  show(JSON.parse(find("record").textContent));
+  if (find("record")) show(JSON.parse(find("record").textContent));
   listenToSearch();
   listenToKeys();
   listenToRules();
@@ -421,5 +468,5 @@ const zorambi = (() => {
   find("out").addEventListener("click", () => zoom(0.8));
   find("fit").addEventListener("click", fit);
   window.addEventListener("resize", () => svg && move());
-  return { show };
+  return { show, select, bring: (number) => bring(record.nodes[number], fitted() * at.scale < 0.6), listen: (listener) => (onNode = listener), find, made, drawn, formula };
 })();

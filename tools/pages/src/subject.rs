@@ -36,6 +36,8 @@ pub struct Subject {
     pub names: Names,
     /// What is told of bad lines of names.txt.
     pub notes: Vec<String>,
+    /// How a tableau that grows stands, which is told in place of a verdict.
+    pub standing: Option<String>,
 }
 
 impl Subject {
@@ -57,12 +59,26 @@ impl Subject {
             Verdict::Accepted { .. } => None,
             Verdict::Refused { refusal, place } => Some(explained(Refused { refusal, place }, texts, &names)),
         };
-        Subject { name: name.to_string(), record, is_whole, verdict, explained, names, notes }
+        Subject { name: name.to_string(), record, is_whole, verdict, explained, names, notes, standing: None }
+    }
+
+    /// A tableau that grows, with the row that is asked about and what is said of its refusal.
+    pub fn growing(
+        name: &str,
+        record: Record,
+        names: Names,
+        standing: String,
+        explained: Option<Explained>,
+    ) -> Subject {
+        let verdict = check(&record);
+        let (name, standing) = (name.to_string(), Some(standing));
+        Subject { name, record, is_whole: true, verdict, explained, names, notes: Vec::new(), standing }
     }
 
     /// The verdict in one line.
     pub fn words(&self) -> String {
-        self.explained.as_ref().map_or_else(|| self.verdict.to_string(), |explained| explained.words.clone())
+        let told = self.explained.as_ref().map(|explained| &explained.words).or(self.standing.as_ref());
+        told.cloned().unwrap_or_else(|| self.verdict.to_string())
     }
 }
 

@@ -6,11 +6,15 @@ mod check;
 mod circuit;
 mod compile;
 mod convert;
+mod edit;
 mod end;
 mod explain;
 mod find;
 mod grow;
+mod held;
 mod join;
+mod live;
+mod offers;
 mod out;
 mod private;
 mod programs;
@@ -56,6 +60,7 @@ fn run(command: &Command, given: &Given) -> u8 {
         "tidy" => tidy::tidy,
         "join" => join::join,
         "grow" => grow::grow,
+        "edit" => edit::edit,
         name => {
             say(&format!("zorambi: {name} is a command of ./zorambi in the project's folder\n"));
             return 2;

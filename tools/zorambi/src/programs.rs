@@ -3,7 +3,7 @@
 
 use crate::end::Stop;
 use crate::private::Private;
-use std::path::PathBuf;
+use std::path::{Path, PathBuf};
 use std::process::{Command, Stdio};
 use zorambi::files::Loaded;
 use zorambi::{shown, shown_name, Refusal, Refused, Verdict};
@@ -34,14 +34,23 @@ impl Printed {
     }
 }
 
-/// Where it is: installed, or in the project's folder.
-fn path_of(name: &str) -> Result<PathBuf, Stop> {
+/// This program's own file.
+pub fn own_file() -> Result<PathBuf, Stop> {
     let own = std::env::current_exe().and_then(|path| path.canonicalize());
-    let own = own.map_err(|error| Stop::Wrong(format!("where this program is cannot be told: {error}")))?;
+    own.map_err(|error| Stop::Wrong(format!("where this program is cannot be told: {error}")))
+}
+
+/// Where something is that goes with this program: installed, or in this place of the project's folder.
+pub fn beside(name: &str, built: &str, is_it: fn(&Path) -> bool) -> Result<PathBuf, [String; 2]> {
+    let own = own_file().unwrap_or_default();
     let folder = own.parent().map(PathBuf::from).unwrap_or_default();
-    let places = ["../libexec/zorambi", "../../target/bin"].map(|place| folder.join(place).join(name));
-    places.iter().find(|path| path.is_file()).cloned().ok_or_else(|| {
-        let [installed, built] = places.map(shown_name);
+    let places = ["../libexec/zorambi", built].map(|place| folder.join(place).join(name));
+    places.iter().find(|path| is_it(path)).cloned().ok_or_else(|| places.map(shown_name))
+}
+
+fn path_of(name: &str) -> Result<PathBuf, Stop> {
+    own_file()?;
+    beside(name, "../../target/bin", Path::is_file).map_err(|[installed, built]| {
         Stop::Wrong(format!(
             "the proved program {name} is missing: neither {installed} nor {built} is there; ./zorambi makes it"
         ))

@@ -35,6 +35,11 @@ impl Text {
         Ok(text)
     }
 
+    /// This text, whatever a folder holds.
+    pub fn given(bytes: &[u8], sort: Sort) -> Text {
+        Text { folder: String::new(), sort, text: Loaded { bytes: bytes.to_vec(), unread: None } }
+    }
+
     /// The same in one of several folders.
     pub fn of(folder: &OsStr, sort: Sort, follow: bool) -> Result<Text, Stop> {
         let told = shown_name(Path::new(folder).join(""));
