@@ -1,7 +1,7 @@
 // The lowered rows of a link: refusal 16.
-use branch::header::Header;
 use branch::node;
 use classes::compare;
+use stab::Header;
 ghost use mathlib.Core.Path.{_≡_};
 ghost use mathlib.Core.Bool.{true, false};
 ghost use Prim.Native.Nat.{ℕ, _+_, _*_, _-_, _<_, _≤_, _^_};
@@ -13,7 +13,8 @@ ghost use Rattle.stab.specs.Node.{nodeAt, set, setOf};
 ghost use Rattle.stab.specs.Rule.{isLowered, hasLowered};
 ghost use Rattle.classes.specs.Class.{Ready};
 ghost use Rattle.classes.specs.Agreed.{Remembers};
-ghost use Rattle.branch.specs.Lent.{lent, SetOfRows};
+ghost use Rattle.stab.specs.Lent.{lent};
+ghost use Rattle.branch.specs.Lent.{SetOfRows};
 
 // The first place from lo up to hi in the set of node j at which row z stands, lowered by k; hi where it stands at none.
 fn place(

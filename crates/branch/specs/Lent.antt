@@ -1,4 +1,4 @@
--- The lent tables with the numbers that go with them, and what a step's code reads of them.
+-- What a step's code reads of the lent tables.
 use Prim.Native.Nat.{ℕ, zero, suc, _+_, _*_, _<_, _≤_}
 use mathlib.Core.Path.{_≡_}
 use mathlib.Core.Bool.{Bool, true, false}
@@ -14,11 +14,6 @@ use Rattle.stab.specs.Node.{Tableau, Bound, Node, node, nodeAt, set, setOf}
 use Rattle.stab.specs.Rule as R
 use Rattle.stab.specs.Rule.{unused, kindFits}
 use Rattle.stab.specs.declared.Rule.{Rule}
-use Rattle.branch.specs.declared.header.Header.{Header}
-
-abbrev pub lent : List ℤ → List ℤ → List ℤ → List ℤ → Header → Tableau
-lent schema proof nodes members h =
-    record { schema = schema; schemaRows = h .«schema_rows»; proof = proof; proofRows = h .«proof_rows»; root = h .root; least = h .least; nodes = nodes; nodeRows = h .«node_rows»; members = members; memberCount = h .«member_count» }
 
 -- the upper bound that a number stands for: 0 for none, else one less than it
 unfoldable pub upper : ℕ → Option ℕ

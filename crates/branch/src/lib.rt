@@ -1,5 +1,4 @@
 // The nodes of a tableau: their numbers, members, splits and links.
-pub mod header;
 pub mod links;
 pub mod member;
 pub mod node;

@@ -18,7 +18,8 @@ fn tell(name: &[u8], printed: &[u8]) {
 // A model of the schema above.
 fn case(name: &[u8], model: &[u8]) {
     let mut out = [0u8; 64];
-    let n = program::model_texts(&SCHEMA, model, &mut out);
+    let told = program::model_texts(&SCHEMA, model, &mut out);
+    let n = told.bytes;
     tell(name, &out[..n]);
 }
 
@@ -29,7 +30,8 @@ fn checked(older: bool, name: &[u8], schema: &[u8], proof: &[u8]) {
     let s = files::load(schema, &mut first);
     let p = files::load(proof, &mut second);
     let mut out = [0u8; 64];
-    let n = program::check_texts(older, &first[..s], &second[..p], &mut out);
+    let told = program::check_texts(older, &first[..s], &second[..p], &mut out);
+    let n = told.bytes;
     tell(name, &out[..n]);
 }
 
@@ -44,7 +46,8 @@ fn model(name: &[u8], schema: &[u8], model: &[u8]) {
     let s = files::load(schema, &mut first);
     let m = files::load(model, &mut second);
     let mut out = [0u8; 64];
-    let n = program::model_texts(&first[..s], &second[..m], &mut out);
+    let told = program::model_texts(&first[..s], &second[..m], &mut out);
+    let n = told.bytes;
     tell(name, &out[..n]);
 }
 

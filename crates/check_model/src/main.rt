@@ -7,9 +7,10 @@ fn main() {
     let s = files::load(b"schema.txt", &mut schema);
     let m = files::load(b"model.txt", &mut model);
     let mut out = [0u8; 64];
-    let n = program::model_texts(&schema[..s], &model[..m], &mut out);
+    let told = program::model_texts(&schema[..s], &model[..m], &mut out);
+    let n = told.bytes;
     io::write_all(STDOUT_FILENO, &out[..n]);
-    let fault = program::model_fault(&schema[..s], &model[..m]);
+    let fault = told.fault;
     if fault.second {
         files::show(b"model.txt", &schema[..s], &model[..m], fault);
     } else {

@@ -21,9 +21,9 @@ use Rattle.convert.specs.declared.rows.Stands.{Stands}
 unfoldable pub inputRefusal : WideSchema → Finding
 inputRefusal W =
     atUnless (leb 4096 (W .room)) TableTooShort 0 otherwise
-    wholeUnless (holds (W .wide) 4 (W .wideRows)) TableTooShort otherwise
-    wholeUnless (leb (W .wideRows) 1024) TooMany otherwise
-    wideRefusal (rowAt (W .wide)) (W .wideRows) (W .root) (W .least)
+    wholeUnless (holds (W .schema .table) 4 (W .schema .rows)) TableTooShort otherwise
+    wholeUnless (leb (W .schema .rows) 1024) TooMany otherwise
+    wideRefusal (W .schema)
 
 -- ---- what a wide row gives
 

@@ -1,9 +1,9 @@
 // What a child's set is drawn from: refusal 11.
-use branch::header::Header;
 use branch::member;
 use branch::node;
 use branch::worked;
 use formula::kept;
+use stab::Header;
 ghost use mathlib.Core.Path.{_≡_};
 ghost use mathlib.Core.List.{[], _∷_};
 ghost use Prim.Native.Nat.{_+_, _-_, _<_, _≤_, _^_};
@@ -15,7 +15,8 @@ ghost use Rattle.stab.specs.Node as N;
 ghost use Rattle.stab.specs.Node.{nodeAt, set, setOf};
 ghost use Rattle.stab.specs.Search.{placeOf};
 ghost use Rattle.stab.specs.Rule.{oneOf, given, drawnFrom};
-ghost use Rattle.branch.specs.Lent.{lent, SetHeld, ChildKnown};
+ghost use Rattle.stab.specs.Lent.{lent};
+ghost use Rattle.branch.specs.Lent.{SetHeld, ChildKnown};
 
 // z is a part of row r.
 fn is_part(schema: &[i32], s: usize, proof: &[i32], r: usize, z: i32) -> bool

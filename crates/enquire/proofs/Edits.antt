@@ -1,15 +1,15 @@
 -- What a call answers and leaves, from what is found.
-use Prim.Native.Nat.{ℕ, _+_, _*_, _≤_}
+use Prim.Native.Nat.{ℕ, _+_, _≤_}
 use native.Mathlib.Omega.{arith}
 use mathlib.Core.Path.{_≡_, refl, sym, _∙_, ap, ap₂}
 use mathlib.Core.Bool.{Bool, true, false}
-use mathlib.Core.List.{List, [], _∷_, _++_}
+use mathlib.Core.List.{List, _++_}
 use lib.IntN.{ℤ, pos}
 use lib.ListN.{length, getD, take, drop}
 use lib.Seq.{sets, getD-take, getD-drop, length-sets}
 use Rattle.stab.specs.Basic.{nat, _otherwise_}
 use Rattle.stab.specs.Node.{Tableau}
-use Rattle.stab.specs.Check.{wholeUnless}
+use Rattle.stab.specs.Check.{wholeUnless, refusal, heldMode}
 use Rattle.stab.specs.Text.{padded}
 use Rattle.stab.specs.declared.Place.{Place}
 use Rattle.stab.specs.declared.Place.the-variants.{Whole}
@@ -21,14 +21,12 @@ use Rattle.stab.proofs.Bools.{found-unless, otherwise-found, otherwise-same}
 use Rattle.folds.proofs.Fronts.{sets-more}
 use Rattle.signed.specs.Numbers.{cleared}
 use Rattle.signed.proofs.Tables.{cleared-padded}
-use Rattle.growing.specs.Growing.{heldRefusal, NodeRow, added, addRefusal, takeBackRefusal, growthBy, leftBy, Call, add, takeBack, callRefusal, changed, answered, after}
-use Rattle.growing.specs.Enquiry.{stored, nothingWaits, waits, waitingRow, Editor, EditorCall, enquire, commit, grow, commitRefusal, editorRefusal, spokenOf, editorAnswer, heldAfter, waitingAfter, waitingRefused, waitingBy, edited}
-use Rattle.growing.specs.declared.Growth.{Growth}
+use Rattle.growing.specs.Growing.{NodeRow, added, turnedAway, growthBy, leftBy, Call, add, takeBack, callRefusal, changed, answered, after}
+use Rattle.growing.specs.Enquiry.{stored, nothingWaits, waits, waitingRow, Editor, enquire, commit, grow, commitRefusal, editorRefusal, spokenOf, editorAnswer, heldAfter, waitingAfter, waitingRefused, waitingBy, edited}
 use Rattle.growing.specs.declared.Growth.the-variants.{Held, Refused as GrowthRefused}
-use Rattle.growing.proofs.Grown.{refused-leaves}
 use Rattle.growing.proofs.Enquiries.{commit-judged}
 use Rattle.grow.specs.State.{rowFrom}
-use Rattle.grow.proofs.Calls.{accepted-left}
+use Rattle.grow.proofs.Calls.{turned-growth}
 
 -- ---- what an answer says
 
@@ -142,17 +140,17 @@ module _ (E : Editor) (h : waits (E .waiting) ≡ true) where
   }
 
 module _ (E : Editor) (h : waits (E .waiting) ≡ false) where
-  pub nothing-waits : commitRefusal E ≡ (heldRefusal (E .held) otherwise Found Waiting Whole)
+  pub nothing-waits : commitRefusal E ≡ (refusal heldMode (E .held) otherwise Found Waiting Whole)
   unfolding commitRefusal wholeUnless
-  nothing-waits = otherwise-same (heldRefusal (E .held)) _ _ (λ e. otherwise-found _ _ (found-unless (waits (E .waiting)) _ _ h))
+  nothing-waits = otherwise-same (refusal heldMode (E .held)) _ _ (λ e. otherwise-found _ _ (found-unless (waits (E .waiting)) _ _ h))
 
-  pub no-commit-answer : (r : Growth) → ((U : Tableau) → r ≡ growthBy (heldRefusal (E .held) otherwise Found Waiting Whole) (E .held) U) → r ≡ editorAnswer E commit
+  pub no-commit-answer : turnedAway (E .held) Waiting Whole ≡ editorAnswer E commit
   unfolding editorAnswer editorRefusal
-  no-commit-answer r f = f (spokenOf E commit) ∙ ap (λ (x : Finding). growthBy x (E .held) (spokenOf E commit)) (sym nothing-waits)
+  no-commit-answer = turned-growth (E .held) Waiting Whole (spokenOf E commit) ∙ ap (λ (x : Finding). growthBy x (E .held) (spokenOf E commit)) (sym nothing-waits)
 
   pub no-commit : edited E commit ≡ E
   unfolding edited editorRefusal leftBy waitingBy waitingRefused _otherwise_
-  no-commit = go (heldRefusal (E .held)) nothing-waits
+  no-commit = go (refusal heldMode (E .held)) nothing-waits
     where
       go : (x : Finding) → commitRefusal E ≡ (x otherwise Found Waiting Whole) → (record { held = leftBy (commitRefusal E) (E .held) (heldAfter E commit); waiting = waitingBy (commitRefusal E) (E .waiting) commit }) ≡ E
       go Nothing e = λ i. record { held = ap (λ (x : Finding). leftBy x (E .held) (heldAfter E commit)) e i; waiting = ap (λ (x : Finding). waitingBy x (E .waiting) commit) e i }

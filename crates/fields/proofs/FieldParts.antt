@@ -12,8 +12,9 @@ use Rattle.stab.specs.declared.Rule.{Rule}
 use Rattle.stab.proofs.Bools.{and-left, and-right}
 use Rattle.stab.proofs.Trees.{below-pos}
 use Rattle.stab.proofs.Whole.{eqZ-true}
-use Rattle.branch.specs.Lent.{lent, otherFits, byFits, linkFits, rowsFit, restFits, FieldsKnown}
-use Rattle.branch.specs.declared.header.Header.{Header}
+use Rattle.stab.specs.Lent.{lent}
+use Rattle.branch.specs.Lent.{otherFits, byFits, linkFits, rowsFit, restFits, FieldsKnown}
+use Rattle.stab.specs.declared.Header.{Header}
 use Rattle.fields.proofs.Answers.{first-fails, second-fails, second-decides, third-decides, implies-made, implies-spared}
 
 regroup : (a b c d e f g : Bool) → (a and b and c and d and e and f and g) ≡ (a and (b and c and d) and (e and f) and g)

@@ -1,9 +1,9 @@
 // A node's fields against the rule table: refusal 12.
 pub mod rules;
 
-use branch::header::Header;
 use branch::member;
 use branch::node;
+use stab::Header;
 use stab::Rule;
 ghost use mathlib.Core.Path.{_≡_};
 ghost use mathlib.Core.Bool.{true, false};
@@ -13,7 +13,8 @@ ghost use Rattle.stab.specs.Formula.{formulaRows};
 ghost use Rattle.stab.specs.Node.{nodeAt, setOf};
 ghost use Rattle.stab.specs.Rule.{unused, symbolFits, fieldsFit};
 ghost use Rattle.branch.specs.NodeColumn.{nodeColumn};
-ghost use Rattle.branch.specs.Lent.{lent, SetHeld, fitsKind, otherFits, byFits, linkFits, rowsFit, restFits};
+ghost use Rattle.stab.specs.Lent.{lent};
+ghost use Rattle.branch.specs.Lent.{SetHeld, fitsKind, otherFits, byFits, linkFits, rowsFit, restFits};
 
 // Number k of node j stands in the node's set.
 fn in_set(nodes: &[i32], members: &[i32], j: usize, k: usize) -> bool

@@ -3,7 +3,7 @@ use Prim.Native.Nat.{ℕ, _^_, _≤_, _<_}
 use native.Mathlib.Omega.{arith}
 use native.Mathlib.Nat.{min-eq-left, min-eq-right}
 use native.Mathlib.Decide.{decLt}
-use mathlib.Core.Path.{_≡_, refl, sym, _∙_, ap}
+use mathlib.Core.Path.{_≡_, sym, _∙_, ap}
 use mathlib.Core.Bool.{Bool}
 use mathlib.Core.List.{List, []}
 use mathlib.Core.Option.{Option, none, some, Option·map}
@@ -24,7 +24,7 @@ use Rattle.stab.specs.declared.Place.the-variants.{Whole}
 use Rattle.stab.specs.declared.Refusal.{Refusal}
 use Rattle.stab.specs.declared.Refusal.the-variants.{Wires}
 use Rattle.stab.proofs.Bools.{if-true, nothing-unless, found-unless, otherwise-nothing, otherwise-found}
-use Rattle.found.specs.Find.{Query, formula, wires, among, holdsWith, firstModel, findRefusal, modelOr, foundBy, find, modelPairs, givenBy, given, foundTable}
+use Rattle.found.specs.Find.{Query, wires, among, firstModel, findRefusal, modelOr, foundBy, find, modelPairs, givenBy, given, foundTable}
 use Rattle.found.specs.Number.{numbered, leastBelow, leastOr}
 use Rattle.found.specs.Keys.{keysOf}
 use Rattle.found.specs.declared.ModelFound.the-variants.{Refused as FindRefused}
@@ -32,7 +32,7 @@ use Rattle.found.proofs.Numbers.{least-none, least-is, first-by-number}
 use Rattle.occurring.specs.Held.{heldCount, keyTable}
 use Rattle.occurring.proofs.Keys.{keys-length}
 use Rattle.assigned.proofs.Searches.{Least, least-at}
-use Rattle.find.specs.Search.{queryRefusal, wiresRefusal, asked, firstAt}
+use Rattle.find.specs.Search.{queryRefusal, wiresRefusal, searchAnswer, searchTable, firstAt}
 use Rattle.find.proofs.Searches.{find-is}
 
 -- ---- the pairs that are held
@@ -102,7 +102,7 @@ module _ (Q : Query) where
   unfolding wiresRefusal wholeUnless
   few-refusal h = nothing-unless (leb (length (wires Q)) 16) _ _ (le-leb (length (wires Q)) 16 h)
 
-  pub answer-over : 16 < length (wires Q) → FindRefused Wires Whole ≡ foundBy (wiresRefusal Q) Q
+  pub answer-over : 16 < length (wires Q) → FindRefused Wires Whole ≡ searchAnswer Q
   unfolding foundBy
   answer-over h = sym (ap (λ (x : Finding). foundBy x Q) (over-refusal h))
 
@@ -111,7 +111,7 @@ module _ (Q : Query) where
   given-over h = ap (λ (x : Finding). givenBy x Q) (over-refusal h)
 
   module _ (h : length (wires Q) ≤ 16) (x : Option (List Wire)) (e : firstModel Q ≡ x) where
-    pub answer-few : modelOr (Q .n) x ≡ foundBy (wiresRefusal Q) Q
+    pub answer-few : modelOr (Q .n) x ≡ searchAnswer Q
     unfolding foundBy
     answer-few = sym (ap (λ (y : Finding). foundBy y Q) (few-refusal h) ∙ ap (modelOr (Q .n)) e)
 
@@ -137,36 +137,16 @@ module _ (Q : Query) (f : Finding) (e : f ≡ queryRefusal Q) where
 
   -- nothing is
   module _ (h : f ≡ Nothing) where
-    pub query-none : queryRefusal Q ≡ Nothing
+    query-none : queryRefusal Q ≡ Nothing
     query-none = sym e ∙ h
 
     later-is : findRefusal Q ≡ wiresRefusal Q
     later-is = find-is Q ∙ otherwise-nothing (queryRefusal Q) (wiresRefusal Q) query-none
 
-    pub searched-is : foundBy (wiresRefusal Q) Q ≡ find Q
+    pub searched-is : searchAnswer Q ≡ find Q
     unfolding find
     searched-is = ap (λ (x : Finding). foundBy x Q) (sym later-is)
 
-    pub searched-table : padded (pos 0) (Q .room) (table (givenBy (wiresRefusal Q) Q)) ≡ foundTable Q
+    pub searched-table : searchTable Q ≡ foundTable Q
     unfolding foundTable given
     searched-table = ap (λ (x : Finding). padded (pos 0) (Q .room) (table (givenBy x Q))) (sym later-is)
-
--- the search reads the schema, its root, n and the room
-module _ (Q : Query) where
-  found-same : (x : Finding) → foundBy x (asked (Q .schema) (Q .root) (Q .n) (Q .room)) ≡ foundBy x Q
-  unfolding foundBy firstModel holdsWith wires formula
-  found-same Nothing = refl
-  found-same (Found why p) = refl
-
-  given-same : (x : Finding) → givenBy x (asked (Q .schema) (Q .root) (Q .n) (Q .room)) ≡ givenBy x Q
-  unfolding givenBy firstModel holdsWith wires formula
-  given-same Nothing = refl
-  given-same (Found why p) = refl
-
-  pub asked-found : foundBy (wiresRefusal (asked (Q .schema) (Q .root) (Q .n) (Q .room))) (asked (Q .schema) (Q .root) (Q .n) (Q .room)) ≡ foundBy (wiresRefusal Q) Q
-  unfolding wiresRefusal wires formula
-  asked-found = found-same (wiresRefusal Q)
-
-  pub asked-given : givenBy (wiresRefusal (asked (Q .schema) (Q .root) (Q .n) (Q .room))) (asked (Q .schema) (Q .root) (Q .n) (Q .room)) ≡ givenBy (wiresRefusal Q) Q
-  unfolding wiresRefusal wires formula
-  asked-given = given-same (wiresRefusal Q)

@@ -10,7 +10,7 @@ use lib.Signed.{leZ}
 use lib.ListN.{length}
 use Rattle.stab.specs.Basic.{_and_, _otherwise_}
 use Rattle.stab.specs.Formula.{rowAt}
-use Rattle.stab.specs.Check.{wholeUnless, atUnless, holds, formulasRefusal}
+use Rattle.stab.specs.Check.{wholeUnless, atUnless, holds, schemaRefusal}
 use Rattle.stab.specs.declared.Place.{Place}
 use Rattle.stab.specs.declared.Place.the-variants.{At}
 use Rattle.stab.specs.declared.Refusal.{Refusal}
@@ -38,9 +38,9 @@ module _ (ok : Bool) (why : Refusal) (k : ℕ) (rest : Finding) where
   at-later x h e = e ∙ sym (otherwise-nothing (atUnless ok why k) rest (nothing-unless ok _ _ h))
 
 -- what is found is not nothing
-pub found-some : (f : Finding) (x : Finding) (why : Refusal) (p : Place) → f ≡ x → f ≡ Found why p → x ≡ Nothing → ⊥
-found-some f x why p e h n =
-    let found : Found why p ≡ Nothing = sym (h) ∙ e ∙ n in
+pub found-some : (f : Finding) (why : Refusal) (p : Place) → f ≡ Found why p → f ≡ Nothing → ⊥
+found-some f why p h n =
+    let found : Found why p ≡ Nothing = sym h ∙ n in
     let z : _≡_ {A = ℕ} 0 1 = cc in
     omega arith
 
@@ -55,10 +55,10 @@ pub find-is : (Q : Query) → findRefusal Q ≡ (queryRefusal Q otherwise wiresR
 unfolding findRefusal queryRefusal tablesRefusal wiresRefusal
 find-is Q =
     let a = atUnless (leb 8192 (Q .room)) TableTooShort 0 in
-    let b = wholeUnless (holds (Q .schema) 4 (Q .schemaRows)) TableTooShort in
-    let c = wholeUnless (leb (Q .schemaRows) 1024) TooMany in
-    let f = formulasRefusal (rowAt (Q .schema)) (Q .schemaRows) (Q .schemaRows) (Q .root) (Q .least) in
-    let w = wholeUnless (leZ (Q .least) (Q .n) and leZ (Q .n) (pos 9999)) Width in
+    let b = wholeUnless (holds (Q .schema .table) 4 (Q .schema .rows)) TableTooShort in
+    let c = wholeUnless (leb (Q .schema .rows) 1024) TooMany in
+    let f = schemaRefusal (Q .schema) in
+    let w = wholeUnless (leZ (Q .schema .least) (Q .n) and leZ (Q .n) (pos 9999)) Width in
     let x = wiresRefusal Q in
     sym
     (otherwise-assoc (a otherwise (b otherwise c)) (f otherwise w) x
@@ -69,28 +69,28 @@ find-is Q =
 -- ---- what holds of a query that has passed
 
 module _ (Q : Query) (h : queryRefusal Q ≡ Nothing) where
-  tables-none : tablesRefusal (Q .room) (Q .schema) (Q .schemaRows) ≡ Nothing
+  tables-none : tablesRefusal (Q .room) (Q .schema .table) (Q .schema .rows) ≡ Nothing
   unfolding queryRefusal
   tables-none = otherwise-first _ _ h
 
-  pub formulas-none : formulasRefusal (rowAt (Q .schema)) (Q .schemaRows) (Q .schemaRows) (Q .root) (Q .least) ≡ Nothing
+  formulas-none : schemaRefusal (Q .schema) ≡ Nothing
   unfolding queryRefusal
-  formulas-none = otherwise-first _ _ (otherwise-second (tablesRefusal (Q .room) (Q .schema) (Q .schemaRows)) _ h)
+  formulas-none = otherwise-first _ _ (otherwise-second (tablesRefusal (Q .room) (Q .schema .table) (Q .schema .rows)) _ h)
 
-  width-in : (leZ (Q .least) (Q .n) and leZ (Q .n) (pos 9999)) ≡ true
+  width-in : (leZ (Q .schema .least) (Q .n) and leZ (Q .n) (pos 9999)) ≡ true
   unfolding queryRefusal wholeUnless
   width-in =
       unless-nothing _ _ _
-      (otherwise-second (formulasRefusal (rowAt (Q .schema)) (Q .schemaRows) (Q .schemaRows) (Q .root) (Q .least)) _
-      (otherwise-second (tablesRefusal (Q .room) (Q .schema) (Q .schemaRows)) _ h))
+      (otherwise-second (schemaRefusal (Q .schema)) _
+      (otherwise-second (tablesRefusal (Q .room) (Q .schema .table) (Q .schema .rows)) _ h))
 
-  pub query-ready : (facts : List ℕ) → Passed (rowAt (Q .schema)) facts (Q .schemaRows) → Ready (Q .schema) facts (Q .root) (Q .n) (Q .room)
+  pub query-ready : (facts : List ℕ) → Passed (rowAt (Q .schema .table)) facts (Q .schema .rows) → Ready Q facts
   query-ready facts p =
-      let tables = tables-clear (Q .room) (Q .schema) (Q .schemaRows) .0 tables-none in
-      let root = passed-root (rowAt (Q .schema)) (Q .schemaRows) (Q .root) (Q .least) formulas-none in
+      let tables = tables-clear (Q .room) (Q .schema .table) (Q .schema .rows) .0 tables-none in
+      let root = passed-root (Q .schema) formulas-none in
       record {
         row = omega (arith, root, tables .1 .1);
-        passed = passed-less (rowAt (Q .schema)) facts _ (Q .schemaRows) (omega (arith, root)) p;
-        width = n-small (Q .least) (Q .n) width-in;
-        table = tables .0;
+        passed = passed-less (rowAt (Q .schema .table)) facts _ (Q .schema .rows) (omega (arith, root)) p;
+        width = n-small (Q .schema .least) (Q .n) width-in;
+        room = tables .0;
       }

@@ -10,13 +10,15 @@ use lib.ListN.{length, set}
 use Rattle.stab.specs.Basic.{_and_, nat, _otherwise_}
 use Rattle.stab.specs.Formula.{rowAt, tree}
 use Rattle.stab.specs.Meaning.{truth}
-use Rattle.stab.specs.Check.{wholeUnless, atUnless, holds, formulasRefusal}
-use Rattle.stab.specs.Occurs.{Wire, occurring}
+use Rattle.stab.specs.Check.{wholeUnless, atUnless, holds, schemaRefusal}
+use Rattle.stab.specs.Occurs.{Wire, occurring, table}
+use Rattle.stab.specs.Text.{padded}
 use Rattle.stab.specs.declared.Refusal.the-variants.{TableTooShort, TooMany, Width, Wires}
 use Rattle.stab.specs.declared.Finding.{Finding}
 use Rattle.formula.specs.Rows.{Passed}
 use Rattle.pairs.specs.Index.{unbiased}
-use Rattle.found.specs.Find.{Query, wires, among, firstFrom}
+use Rattle.found.specs.Find.{Query, wires, among, firstFrom, foundBy, givenBy}
+use Rattle.found.specs.declared.ModelFound.{ModelFound}
 
 -- ---- refusals
 
@@ -30,24 +32,27 @@ tablesRefusal room schema s =
 -- those before 30
 unfoldable pub queryRefusal : Query → Finding
 queryRefusal Q =
-    tablesRefusal (Q .room) (Q .schema) (Q .schemaRows) otherwise
-    formulasRefusal (rowAt (Q .schema)) (Q .schemaRows) (Q .schemaRows) (Q .root) (Q .least) otherwise
-    wholeUnless (leZ (Q .least) (Q .n) and leZ (Q .n) (pos 9999)) Width
+    tablesRefusal (Q .room) (Q .schema .table) (Q .schema .rows) otherwise
+    schemaRefusal (Q .schema) otherwise
+    wholeUnless (leZ (Q .schema .least) (Q .n) and leZ (Q .n) (pos 9999)) Width
 
 -- 30
 unfoldable pub wiresRefusal : Query → Finding
 wiresRefusal Q = wholeUnless (leb (length (wires Q)) 16) Wires
 
 -- what the search asks of a query that has passed so far, and of what is kept of its rows
-pub record Ready (schema : List ℤ) (facts : List ℕ) (root n : ℤ) (room : ℕ) : Type 0 where
-  pub row : nat root < 1024
-  pub passed : Passed (rowAt schema) facts (nat root + 1)
-  pub width : nat n ≤ 9999
-  pub table : 8192 ≤ room
+pub record Ready (Q : Query) (facts : List ℕ) : Type 0 where
+  pub row : nat (Q .schema .root) < 1024
+  pub passed : Passed (rowAt (Q .schema .table)) facts (nat (Q .schema .root) + 1)
+  pub width : nat (Q .n) ≤ 9999
+  pub room : 8192 ≤ Q .room
 
--- what it reads of a query
-abbrev pub asked : List ℤ → ℤ → ℤ → ℕ → Query
-asked schema root n room = record { schema = schema; schemaRows = 0; root = root; least = pos 0; n = n; room = room }
+-- the answer to such a query, and the lent table
+abbrev pub searchAnswer : Query → ModelFound
+searchAnswer Q = foundBy (wiresRefusal Q) Q
+
+abbrev pub searchTable : Query → List ℤ
+searchTable Q = padded (pos 0) (Q .room) (table (givenBy (wiresRefusal Q) Q))
 
 -- the first model of row `root` at n
 unfoldable pub firstAt : List ℤ → ℕ → ℕ → Option (List Wire)

@@ -1,21 +1,24 @@
 // A failing width, shown: the first assignment that makes a schema true at n.
+use formula_pass::schema_formulas;
 use found::ModelFound;
 use stab::Finding;
 use stab::Place;
 use stab::Refusal;
+use stab::SchemaHeader;
 ghost use mathlib.Core.Path.{_≡_};
 ghost use Prim.Native.Nat.{_+_, _*_, _<_, _≤_};
 ghost use lib.IntN.{pos};
 ghost use lib.ListN.{length, take, getD};
 ghost use Rattle.stab.specs.Basic.{if_then_else_};
+ghost use Rattle.stab.specs.Lent.{lentSchema};
 ghost use Rattle.stab.specs.Occurs.{table as wireTable};
 ghost use Rattle.stab.specs.Text.{padded};
 ghost use Rattle.stab.specs.declared.Finding.the-variants.{Nothing, Found};
 ghost use Rattle.pairs.specs.Index.{unbiased};
-ghost use Rattle.found.specs.Find.{find, modelOr, foundBy, modelPairs, givenBy, foundTable};
+ghost use Rattle.found.specs.Find.{find, modelOr, modelPairs, foundTable};
 ghost use Rattle.found.specs.Number.{numbered};
 ghost use Rattle.assigned.specs.Assignments.{Searchable};
-ghost use Rattle.find.specs.Search.{tablesRefusal, queryRefusal, wiresRefusal, Ready, asked, firstAt, wireOf, wiresOf, pairPut, isTrue};
+ghost use Rattle.find.specs.Search.{tablesRefusal, queryRefusal, Ready, searchAnswer, searchTable, firstAt, wireOf, wiresOf, pairPut, isTrue};
 
 // ---- before the search
 
@@ -39,28 +42,20 @@ fn tables_pass(room: usize, schema: &[i32], schema_rows: usize) -> Finding
 }
 
 // What is found before the pairs are counted; the numbers of the schema's rows are kept.
-fn query_pass(
-    schema: &[i32],
-    schema_rows: usize,
-    root: i32,
-    least: i32,
-    n: i32,
-    room: usize,
-    facts: &mut [u32],
-) -> Finding
+fn query_pass(schema: &[i32], h: SchemaHeader, n: i32, room: usize, facts: &mut [u32]) -> Finding
     requires { ⌜ 4096 ≤ length (now facts) ⌝ }
-    ensures { λ r. ⌜ r ≡ queryRefusal (record { schema = now (schema .entry); schemaRows = «schema_rows»; root = root; least = least; n = n; room = room }) ⌝ }
-    ensures { λ r. ⌜ (queryRefusal (record { schema = now (schema .entry); schemaRows = «schema_rows»; root = root; least = least; n = n; room = room }) ≡ Nothing → Ready (now (schema .entry)) (now (facts .exit)) root n room) ⌝ }
+    ensures { λ r. ⌜ r ≡ queryRefusal (record { schema = lentSchema (now (schema .entry)) h; n = n; room = room }) ⌝ }
+    ensures { λ r. ⌜ (r ≡ Nothing → Ready (record { schema = lentSchema (now (schema .entry)) h; n = n; room = room }) (now (facts .exit))) ⌝ }
 {
-    let found = tables_pass(room, schema, schema_rows);
+    let found = tables_pass(room, schema, h.rows);
     let Finding::Nothing = found else {
         return found;
     };
-    let found = model::schema_pass(schema, schema_rows, root, least, facts);
+    let found = schema_formulas(schema, h, facts);
     let Finding::Nothing = found else {
         return found;
     };
-    if model::width_fits(least, n) {
+    if model::width_fits(h.least, n) {
         return Finding::Nothing;
     }
     model::whole(Refusal::Width)
@@ -151,12 +146,12 @@ fn shown(
 }
 
 // The answer for a query that has passed so far, and the lent table.
-fn searched(schema: &[i32], facts: &[u32], root: i32, n: i32, table: &mut [i32]) -> ModelFound
-    requires { ⌜ Ready (now schema) (now facts) root n (length (now table)) ⌝ }
-    ensures { λ r. ⌜ r ≡ foundBy (wiresRefusal (asked (now (schema .entry)) root n (length (now (table .entry))))) (asked (now (schema .entry)) root n (length (now (table .entry)))) ⌝ }
-    ensures { λ r. ⌜ now (table .exit) ≡ padded (pos 0) (length (now (table .entry))) (wireTable (givenBy (wiresRefusal (asked (now (schema .entry)) root n (length (now (table .entry))))) (asked (now (schema .entry)) root n (length (now (table .entry)))))) ⌝ }
+fn searched(schema: &[i32], h: SchemaHeader, n: i32, facts: &[u32], table: &mut [i32]) -> ModelFound
+    requires { ⌜ Ready (record { schema = lentSchema (now schema) h; n = n; room = length (now table) }) (now facts) ⌝ }
+    ensures { λ r. ⌜ r ≡ searchAnswer (record { schema = lentSchema (now (schema .entry)) h; n = n; room = length (now (table .entry)) }) ⌝ }
+    ensures { λ r. ⌜ now (table .exit) ≡ searchTable (record { schema = lentSchema (now (schema .entry)) h; n = n; room = length (now (table .entry)) }) ⌝ }
 {
-    let row = signed::natural(root);
+    let row = signed::natural(h.root);
     let width = signed::natural(n);
     let mut keys = [0u32; 17];
     let count = occurring::occurring(schema, facts, row, width, &mut keys);
@@ -171,24 +166,17 @@ fn searched(schema: &[i32], facts: &[u32], root: i32, n: i32, table: &mut [i32])
 }
 
 // The first model of a schema at n, its true pairs in the lent table.
-pub fn find_model(
-    schema: &[i32],
-    schema_rows: usize,
-    root: i32,
-    least: i32,
-    n: i32,
-    pairs: &mut [i32],
-) -> ModelFound
-    ensures { λ r. ⌜ r ≡ find (record { schema = now (schema .entry); schemaRows = «schema_rows»; root = root; least = least; n = n; room = length (now (pairs .entry)) }) ⌝ }
-    ensures { λ r. ⌜ now (pairs .exit) ≡ foundTable (record { schema = now (schema .entry); schemaRows = «schema_rows»; root = root; least = least; n = n; room = length (now (pairs .entry)) }) ⌝ }
+pub fn find_model(schema: &[i32], h: SchemaHeader, n: i32, pairs: &mut [i32]) -> ModelFound
+    ensures { λ r. ⌜ r ≡ find (record { schema = lentSchema (now (schema .entry)) h; n = n; room = length (now (pairs .entry)) }) ⌝ }
+    ensures { λ r. ⌜ now (pairs .exit) ≡ foundTable (record { schema = lentSchema (now (schema .entry)) h; n = n; room = length (now (pairs .entry)) }) ⌝ }
 {
     let mut facts = [0u32; 4096];
-    let found = query_pass(schema, schema_rows, root, least, n, pairs.len(), &mut facts);
+    let found = query_pass(schema, h, n, pairs.len(), &mut facts);
     match found {
         Finding::Found { why, place } => {
             signed::clear(pairs, 0);
             ModelFound::Refused { why, place }
         }
-        Finding::Nothing => searched(schema, &facts, root, n, pairs),
+        Finding::Nothing => searched(schema, h, n, &facts, pairs),
     }
 }

@@ -22,7 +22,7 @@ use Rattle.stab.specs.declared.Refusal.{Refusal}
 use Rattle.stab.specs.declared.Place.{Place}
 use Rattle.stab.proofs.Bools.{decide, and-both, and-left, and-right, and-first-false, if-true, if-false, not-of-false, not-of-true, false-of-not, true-of-not, otherwise-nothing, otherwise-found, otherwise-first, otherwise-second, nothing-unless, found-unless, unless-nothing, found≢nothing}
 use Rattle.stab.proofs.Whole.{num, of-eq, eqZ-of, eqZ-not, nat-pos, at-least-0, below-0}
-use Rattle.stab.proofs.Scans.{below-suc, scan-found}
+use Rattle.stab.proofs.Scans.{below-suc, scan-longer}
 use Rattle.stab.proofs.Decoded.{decoded, junction-tree, iteration-tree}
 use Rattle.stab.proofs.Trees.{below-nat}
 use Rattle.formula.specs.Facts.{bit, Known}
@@ -452,32 +452,29 @@ never e q = absurd (found≢nothing (e ∙ q))
 
 -- ---- the table of what is kept
 
-module _ (judge : ℕ → Finding) (want : ℕ → Facts) (facts : List ℕ) where
-  pub table-none : facts ≡ factsTableBy judge want facts 0
+module _ (passed judge : ℕ → Finding) (want : ℕ → Facts) (facts : List ℕ) where
+  pub table-none : facts ≡ factsTableBy passed judge want facts 0
   unfolding factsTableBy
   table-none = refl
 
   -- one row more
-  pub table-more : (r : ℕ) {u w : List ℕ} → scan judge (r + 1) ≡ Nothing → judge r ≡ Nothing → u ≡ factsTableBy judge want facts r
-      → w ≡ keptIf (judge r) u r (want r) → w ≡ factsTableBy judge want facts (r + 1)
+  pub table-more : (r : ℕ) {u w : List ℕ} → scan passed r ≡ Nothing → u ≡ factsTableBy passed judge want facts r
+      → w ≡ keptIf (judge r) u r (want r) → w ≡ factsTableBy passed judge want facts (r + 1)
   unfolding factsTableBy
-  table-more r {u} {w} s h e k =
-      subst (λ (m : ℕ). w ≡ factsTableBy judge want facts m) (sym (add-one r))
-      (k
-      ∙ ap (λ (o : Finding). keptIf o u r (want r)) (h ∙ sym (subst (λ (m : ℕ). scan judge m ≡ Nothing) (add-one r) s))
-      ∙ ap (λ (l : List ℕ). keptIf (scan judge (suc r)) l r (want r)) e)
+  table-more r {u} {w} s e k =
+      subst (λ (m : ℕ). w ≡ factsTableBy passed judge want facts m) (sym (add-one r))
+      (k ∙ ap₂ (λ (o : Finding) (l : List ℕ). keptIf o l r (want r)) (sym (otherwise-nothing (scan passed r) (judge r) s)) e)
 
-  table-next : (n : ℕ) {why : Refusal} {p : Place} → scan judge (suc n) ≡ Found why p → factsTableBy judge want facts (suc n) ≡ factsTableBy judge want facts n
+  -- after something is found nothing is kept
+  pub table-stays : (r n : ℕ) {why : Refusal} {p : Place} → scan passed r ≡ Found why p → r ≤ n → factsTableBy passed judge want facts n ≡ factsTableBy passed judge want facts r
   unfolding factsTableBy keptIf
-  table-next n e = ap (λ (o : Finding). keptIf o (factsTableBy judge want facts n) n (want n)) e
-
-  -- after a row that is refused nothing is kept
-  pub table-stays : (r n : ℕ) {why : Refusal} {p : Place} → scan judge r ≡ Nothing → judge r ≡ Found why p → r ≤ n → factsTableBy judge want facts n ≡ factsTableBy judge want facts r
-  table-stays r zero s h l = let e : zero ≡ r = omega arith in ap (factsTableBy judge want facts) e
-  table-stays r (suc n) s h l =
+  table-stays r zero h l = let e : zero ≡ r = omega arith in ap (factsTableBy passed judge want facts) e
+  table-stays r (suc n) h l =
       ⊎-elim
-      (λ p. table-next n (scan-found judge (suc n) r p s h) ∙ table-stays r n s h (omega arith))
-      (λ e. ap (factsTableBy judge want facts) (sym e))
+      (λ p.
+      ap (λ (o : Finding). keptIf o (factsTableBy passed judge want facts n) n (want n)) (otherwise-found _ _ (scan-longer passed r n (omega arith) h))
+      ∙ table-stays r n h (omega arith))
+      (λ e. ap (factsTableBy passed judge want facts) (sym e))
       (below-suc r (suc n) (omega arith))
 
 -- ---- the formulas together

@@ -1,13 +1,13 @@
 -- What the pass over formula rows works out for a row, and what holds of rows that passed.
 use Prim.Native.Nat.{ℕ, zero, suc, _+_, _-_, _*_, _<_, _≤_, max}
 use mathlib.Core.Path.{_≡_}
-use mathlib.Core.Bool.{true}
+use mathlib.Core.Bool.{Bool, true}
 use mathlib.Core.List.{List}
 use lib.Dec.{eqb, leb}
 use lib.IntN.{ℤ, pos}
 use lib.ListN.{length, getD}
-use Rattle.stab.specs.Basic.{if_then_else_, _and_, _or_, eqZ, nat, below, scan}
-use Rattle.stab.specs.Check.{atUnless, rowRefusal, rootFits}
+use Rattle.stab.specs.Basic.{if_then_else_, _and_, _or_, eqZ, nat, below, _otherwise_, scan}
+use Rattle.stab.specs.Check.{atUnless, rowRefusal, formulaRefusal, rootFits}
 use Rattle.stab.specs.declared.Place.the-variants.{At}
 use Rattle.stab.specs.declared.Refusal.the-variants.{IllFormed, TooLarge}
 use Rattle.stab.specs.Formula as F
@@ -51,18 +51,19 @@ unfoldable pub keptIf : Finding → List ℕ → ℕ → Facts → List ℕ
 keptIf Nothing facts r f = keptFacts facts r f
 keptIf (Found why p) facts r f = facts
 
--- the table after a pass over n rows: the numbers that `want` gives of each row, up to the first where `judge` finds something
-unfoldable pub factsTableBy : (ℕ → Finding) → (ℕ → Facts) → List ℕ → ℕ → List ℕ
-factsTableBy judge want facts zero = facts
-factsTableBy judge want facts (suc n) = keptIf (scan judge (suc n)) (factsTableBy judge want facts n) n (want n)
+-- the table after a pass over n rows: the numbers that `want` gives of each row, where `judge` finds nothing of it and `passed` nothing
+-- of the rows before it
+unfoldable pub factsTableBy : (ℕ → Finding) → (ℕ → Finding) → (ℕ → Facts) → List ℕ → ℕ → List ℕ
+factsTableBy passed judge want facts zero = facts
+factsTableBy passed judge want facts (suc n) = keptIf (scan passed n otherwise judge n) (factsTableBy passed judge want facts n) n (want n)
 
--- the table after the pass over n rows
-unfoldable pub factsTable : (ℕ → Row) → List ℕ → ℕ → List ℕ
-factsTable rows facts n = factsTableBy (rowRefusal rows) (λ r. factsOf (tree rows r)) facts n
+-- the table after the pass over n rows, of which s are schema rows
+unfoldable pub factsTable : Bool → (ℕ → Row) → ℕ → List ℕ → ℕ → List ℕ
+factsTable older rows s facts n = factsTableBy (formulaRefusal older rows s) (rowRefusal rows) (λ r. factsOf (tree rows r)) facts n
 
 -- the same where the root and the least value are looked at first
-unfoldable pub formulasTable : (ℕ → Row) → List ℕ → ℕ → ℕ → ℤ → ℤ → List ℕ
-formulasTable rows facts n s root least = if rootFits s root least then factsTable rows facts n else facts
+unfoldable pub formulasTable : Bool → (ℕ → Row) → List ℕ → ℕ → ℕ → ℤ → ℤ → List ℕ
+formulasTable older rows facts n s root least = if rootFits s root least then factsTable older rows s facts n else facts
 
 -- row r is ill-formed, or has these four numbers
 unfoldable pub judged : (ℕ → Row) → ℕ → Judged

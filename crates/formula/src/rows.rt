@@ -260,7 +260,7 @@ fn row(schema: &[i32], s: usize, proof: &[i32], r: usize, facts: &[u32]) -> Judg
     Judged::Ill
 }
 
-// ---- every row
+// ---- one row more
 
 // What is found of row r, which was judged so; its numbers are kept where that is nothing.
 pub fn sized(row: Judged, r: usize, facts: &mut [u32]) -> Finding
@@ -291,7 +291,7 @@ pub fn sized(row: Judged, r: usize, facts: &mut [u32]) -> Finding
 }
 
 // What is found at row r; its numbers are kept where that is nothing.
-fn step(schema: &[i32], s: usize, proof: &[i32], r: usize, facts: &mut [u32]) -> Finding
+pub fn step(schema: &[i32], s: usize, proof: &[i32], r: usize, facts: &mut [u32]) -> Finding
     requires { ⌜ (r < 1024) × (4 * r + 3 < length (now facts)) ⌝ }
     requires { ⌜ Passed (formulaRows (now schema) s (now proof)) (now facts) r ⌝ }
     ensures { λ v. ⌜ v ≡ rowRefusal (formulaRows (now (schema .entry)) s (now (proof .entry))) r ⌝ }
@@ -300,24 +300,6 @@ fn step(schema: &[i32], s: usize, proof: &[i32], r: usize, facts: &mut [u32]) ->
 {
     let found = row(schema, s, proof, r, facts);
     sized(found, r, facts)
-}
-
-// What is found first among n rows. The table holds the numbers of each before it.
-fn each(schema: &[i32], s: usize, proof: &[i32], n: usize, facts: &mut [u32]) -> Finding
-    requires { ⌜ (n ≤ 1024) × (4 * n ≤ length (now facts)) ⌝ }
-    ensures { λ v. ⌜ v ≡ scan (rowRefusal (formulaRows (now (schema .entry)) s (now (proof .entry)))) n ⌝ }
-    ensures { λ v. ⌜ (scan (rowRefusal (formulaRows (now (schema .entry)) s (now (proof .entry)))) n ≡ Nothing → Passed (formulaRows (now (schema .entry)) s (now (proof .entry))) (now (facts .exit)) n) ⌝ }
-    ensures { λ v. ⌜ now (facts .exit) ≡ factsTable (formulaRows (now (schema .entry)) s (now (proof .entry))) (now (facts .entry)) n ⌝ }
-{
-    let mut r = 0;
-    while r < n {
-        let found = step(schema, s, proof, r, facts);
-        let Finding::Nothing = found else {
-            return found;
-        };
-        r += 1;
-    }
-    Finding::Nothing
 }
 
 // ---- the root
@@ -330,40 +312,4 @@ pub fn root_fits(s: usize, root: i32, least: i32) -> bool
         return false;
     }
     below(10000, least)
-}
-
-// What is found of the formulas: the root and the least value, then every row, then that the root is outer.
-// The table holds the numbers of each row up to the first that is refused.
-pub fn formulas(
-    schema: &[i32],
-    s: usize,
-    proof: &[i32],
-    n: usize,
-    root: i32,
-    least: i32,
-    facts: &mut [u32],
-) -> Finding
-    requires { ⌜ (s ≤ n) × (n ≤ 1024) × (4 * n ≤ length (now facts)) ⌝ }
-    ensures { λ v. ⌜ v ≡ formulasRefusal (formulaRows (now (schema .entry)) s (now (proof .entry))) n s root least ⌝ }
-    ensures { λ v. ⌜ (formulasRefusal (formulaRows (now (schema .entry)) s (now (proof .entry))) n s root least ≡ Nothing → Passed (formulaRows (now (schema .entry)) s (now (proof .entry))) (now (facts .exit)) n) ⌝ }
-    ensures { λ v. ⌜ now (facts .exit) ≡ formulasTable (formulaRows (now (schema .entry)) s (now (proof .entry))) (now (facts .entry)) n s root least ⌝ }
-{
-    if !root_fits(s, root, least) {
-        return Finding::Found {
-            why: Refusal::Root,
-            place: Place::Whole,
-        };
-    }
-    let found = each(schema, s, proof, n, facts);
-    let Finding::Nothing = found else {
-        return found;
-    };
-    let f = known(facts, signed::natural(root));
-    if f.loose == 0 {
-        return Finding::Nothing;
-    }
-    Finding::Found {
-        why: Refusal::Root,
-        place: Place::Whole,
-    }
 }

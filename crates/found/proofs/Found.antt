@@ -116,11 +116,11 @@ table-room Q = go (findRefusal Q) refl
 -- ---- the model check
 
 -- the given pairs are some of those that occur, ascending
-given-wires : (Q : Query) (ws : List Wire) → firstModel Q ≡ some ws → Ascends ws × (length ws ≤ length (wires Q)) × ((w : Wire) → List·Memᴰ w ws → OccursIn (Q .schema) (Q .root) (nat (Q .n)) (w .symbol) (w .index))
+given-wires : (Q : Query) (ws : List Wire) → firstModel Q ≡ some ws → Ascends ws × (length ws ≤ length (wires Q)) × ((w : Wire) → List·Memᴰ w ws → OccursIn (Q .schema) (nat (Q .n)) (w .symbol) (w .index))
 unfolding wires formula
 given-wires Q ws h =
     let r = first-found Q ws h in
-    subst (λ (vs : List Wire). Ascends vs × (length vs ≤ length (wires Q)) × ((w : Wire) → List·Memᴰ w vs → OccursIn (Q .schema) (Q .root) (nat (Q .n)) (w .symbol) (w .index))) (r .2) (
+    subst (λ (vs : List Wire). Ascends vs × (length vs ≤ length (wires Q)) × ((w : Wire) → List·Memᴰ w vs → OccursIn (Q .schema) (nat (Q .n)) (w .symbol) (w .index))) (r .2) (
       numbered-ascends (wires Q) (r .0) (wires-ascend Q),
       numbered-length (wires Q) (r .0),
       λ w m. occurring-exactly (nat (Q .n)) (formula Q) w .0 (numbered-mem (wires Q) (r .0) w m),
@@ -132,15 +132,15 @@ listed-among ws w =
     same-test _ _ (λ h. among-tests ws w .1 (table-tests ws w .0 h)) (λ h. table-tests ws w .1 (among-tests ws w .0 h))
 
 -- "A given model passes the model check": at the n that was asked for, with the table lent and the number of pairs given
-pub model-passes : (Q : Query) (n : ℤ) (k : ℕ) → find Q ≡ Model n k → (n ≡ Q .n) × (checkModel (listing (Q .schema) (Q .schemaRows) (Q .root) (Q .least) (Q .n) (foundTable Q) k) ≡ Accepted 0 0)
+pub model-passes : (Q : Query) (n : ℤ) (k : ℕ) → find Q ≡ Model n k → (n ≡ Q .n) × (checkModel (listing (Q .schema) (Q .n) (foundTable Q) k) ≡ Accepted 0 0)
 unfolding foundTable padded formula
 model-passes Q n k h =
     let f = found-model Q n k h in
     let K = find-clears Q .0 (f .0) in
     let g = given-wires Q (given Q) (f .1) in
     let true-there : truth (listed (table (given Q)) (length (given Q))) (nat (Q .n)) (formula Q) ≡ true = same-listed (nat (Q .n)) (formula Q) _ _ (λ w m. listed-among (given Q) w) ∙ first-earliest Q (given Q) (f .1) .0 in
-    let accepted = wires-accepted (Q .schema) (Q .schemaRows) (Q .root) (Q .least) (Q .n) (K .schemaHeld) (K .rowLimit) (K .formulas) (K .inRange) (given Q) (omega (arith, g .1, K .wireLimit)) (g .0) (g .2) true-there in (
+    let accepted = wires-accepted (Q .schema) (Q .n) (K .schemaHeld) (K .rowLimit) (K .formulas) (K .inRange) (given Q) (omega (arith, g .1, K .wireLimit)) (g .0) (g .2) true-there in (
       f .2,
-      model-front (Q .schema) (Q .schemaRows) (Q .root) (Q .least) (Q .n) (table (given Q)) _ k
-          (subst (λ (j : ℕ). checkModel (listing (Q .schema) (Q .schemaRows) (Q .root) (Q .least) (Q .n) (table (given Q)) j) ≡ Accepted 0 0) (sym (f .3)) accepted),
+      model-front (Q .schema) (Q .n) (table (given Q)) _ k
+          (subst (λ (j : ℕ). checkModel (listing (Q .schema) (Q .n) (table (given Q)) j) ≡ Accepted 0 0) (sym (f .3)) accepted),
     )

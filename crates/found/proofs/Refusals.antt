@@ -3,13 +3,13 @@ use Prim.Native.Nat.{ℕ, _*_, _≤_}
 use native.Mathlib.Omega.{arith}
 use mathlib.Core.Path.{_≡_, refl, ap}
 use mathlib.Core.Logic.{_↔_, Iff·trans}
+use mathlib.Core.Bool.{true}
 use mathlib.Core.List.{List, []}
 use mathlib.Core.Option.{Option, none, some}
 use lib.IntN.{ℤ, pos}
 use lib.ListN.{length}
-use Rattle.stab.specs.Formula.{rowAt}
-use Rattle.stab.specs.Check.{holds}
-use Rattle.stab.specs.Keeps.{Within, KeepsFormulas}
+use Rattle.stab.specs.Check.{holds, schemaRefusal}
+use Rattle.stab.specs.Keeps.{Within, KeepsSchema}
 use Rattle.stab.specs.Occurs.{Wire}
 use Rattle.stab.specs.declared.Place.{Place}
 use Rattle.stab.specs.declared.Refusal.{Refusal}
@@ -26,21 +26,21 @@ use Rattle.found.proofs.Numbers.{first-found, numbered-length}
 -- the limits
 pub record Keeps (Q : Query) : Type 0 where
   pub tableHeld : 8192 ≤ Q .room
-  pub schemaHeld : 4 * Q .schemaRows ≤ length (Q .schema)
-  pub rowLimit : Q .schemaRows ≤ 1024
-  pub formulas : KeepsFormulas (rowAt (Q .schema)) (Q .schemaRows) (Q .schemaRows) (Q .root) (Q .least)
-  pub inRange : Within (Q .least) (pos 9999) (Q .n)
+  pub schemaHeld : 4 * Q .schema .rows ≤ length (Q .schema .table)
+  pub rowLimit : Q .schema .rows ≤ 1024
+  pub formulas : KeepsSchema (Q .schema)
+  pub inRange : Within (Q .schema .least) (pos 9999) (Q .n)
   pub wireLimit : length (wires Q) ≤ 16
 
 pub find-clears : (Q : Query) → findRefusal Q clears Keeps Q
-unfolding findRefusal holds
+unfolding findRefusal schemaRefusal holds
 find-clears Q =
     Iff·trans
     (at-clears TableTooShort 0 (le-tests 8192 (Q .room)) then
-    whole-clears TableTooShort (le-tests (4 * Q .schemaRows) (length (Q .schema))) then
-    whole-clears TooMany (le-tests (Q .schemaRows) 1024) then
-    formulas-clears (rowAt (Q .schema)) (Q .schemaRows) (Q .schemaRows) (Q .root) (Q .least) then
-    whole-clears Width (leZ-tests (Q .least) (Q .n) & leZ-tests (Q .n) (pos 9999)) then
+    whole-clears TableTooShort (le-tests (4 * Q .schema .rows) (length (Q .schema .table))) then
+    whole-clears TooMany (le-tests (Q .schema .rows) 1024) then
+    formulas-clears _ (Q .schema .rows) (Q .schema .rows) (Q .schema .root) (Q .schema .least) then
+    whole-clears Width (leZ-tests (Q .schema .least) (Q .n) & leZ-tests (Q .n) (pos 9999)) then
     whole-clears Wires (le-tests (length (wires Q)) 16)) (
       λ p. record {
         tableHeld = p .0;
@@ -55,14 +55,14 @@ find-clears Q =
 
 -- the place of a refusal is within the limits
 pub find-near : (Q : Query) → FindsNear (findRefusal Q)
-unfolding findRefusal
+unfolding findRefusal schemaRefusal
 find-near Q =
     of-at _ _ 0 (omega arith) or-else
     of-whole _ _ or-else
     once (of-whole _ TooMany)
     (λ h.
-    let few = whole-clears TooMany (le-tests (Q .schemaRows) 1024) .0 h in
-    of-formulas (rowAt (Q .schema)) (Q .schemaRows) (Q .schemaRows) (Q .root) (Q .least) (omega arith) or-else
+    let few = whole-clears TooMany (le-tests (Q .schema .rows) 1024) .0 h in
+    of-formulas true _ (Q .schema .rows) (Q .schema .rows) (Q .schema .root) (Q .schema .least) (omega arith) or-else
     of-whole _ _ or-else
     of-whole _ _)
 

@@ -6,9 +6,9 @@ use mathlib.Core.List.{List, _++_}
 use lib.IntN.{ℤ, pos, negℤ}
 use lib.ListN.{length, length-append, List·getD-append}
 use Rattle.stab.specs.Basic.{_and_, _or_, eqZ, nat}
-use Rattle.stab.specs.Formula.{rowAt, tree}
+use Rattle.stab.specs.Formula.{Schema, schemaFormula}
 use Rattle.stab.specs.Meaning.{Assignment, truth}
-use Rattle.stab.specs.Model.{pairSymbol, pairIndex, isPair, listed, assignment, schemaRow, satisfied, checkModel}
+use Rattle.stab.specs.Model.{pairSymbol, pairIndex, isPair, listed, assignment, satisfied, checkModel}
 use Rattle.stab.specs.Keeps.{Within, KeepsPair}
 use Rattle.stab.specs.Occurs.{listing}
 use Rattle.stab.specs.declared.Verdict.the-variants.{Accepted}
@@ -42,12 +42,12 @@ module _ (t more : List ℤ) where
   }
 
 -- an accepted model stays accepted
-pub model-front : (schema : List ℤ) (schemaRows : ℕ) (root least n : ℤ) (t more : List ℤ) (k : ℕ)
-    → checkModel (listing schema schemaRows root least n t k) ≡ Accepted 0 0 → checkModel (listing schema schemaRows root least n (t ++ more) k) ≡ Accepted 0 0
-unfolding schemaRow satisfied assignment
-model-front schema schemaRows root least n t more k h =
-    let K = model-accepts-exactly (listing schema schemaRows root least n t k) .0 h in
-    model-accepts-exactly (listing schema schemaRows root least n (t ++ more) k) .1 (record {
+pub model-front : (S : Schema) (n : ℤ) (t more : List ℤ) (k : ℕ)
+    → checkModel (listing S n t k) ≡ Accepted 0 0 → checkModel (listing S n (t ++ more) k) ≡ Accepted 0 0
+unfolding satisfied assignment
+model-front S n t more k h =
+    let K = model-accepts-exactly (listing S n t k) .0 h in
+    model-accepts-exactly (listing S n (t ++ more) k) .1 (record {
       schemaHeld = K .schemaHeld;
       pairsHeld = omega (arith, K .pairsHeld, length-append t more);
       rowLimit = K .rowLimit;
@@ -55,5 +55,5 @@ model-front schema schemaRows root least n t more k h =
       formulas = K .formulas;
       pairs = λ j l. keeps-front t more j (omega (arith, K .pairsHeld)) (K .pairs j l);
       inRange = K .inRange;
-      holds = ap (λ (σ : Assignment). truth σ (nat n) (tree (rowAt schema) (nat root))) (fun-ext (λ s. fun-ext (listed-front t more k (K .pairsHeld) s))) ∙ K .holds;
+      holds = ap (λ (σ : Assignment). truth σ (nat n) (schemaFormula S)) (fun-ext (λ s. fun-ext (listed-front t more k (K .pairsHeld) s))) ∙ K .holds;
     })

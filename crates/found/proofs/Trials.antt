@@ -21,8 +21,8 @@ use Rattle.found.specs.declared.ModelFound.the-variants.{Model, None, Re
 
 queryOf : Reading SchemaText → ℤ → ℕ → Query
 queryOf (read s) n room =
-    record { schema = s .table; schemaRows = length (s .table) / 4; root = s .root; least = s .least; n = n; room = room }
-queryOf (stopped why k) n room = record { schema = []; schemaRows = 0; root = pos 0; least = pos 0; n = n; room = room }
+    record { schema = record { table = s .table; rows = length (s .table) / 4; root = s .root; least = s .least }; n = n; room = room }
+queryOf (stopped why k) n room = record { schema = record { table = []; rows = 0; root = pos 0; least = pos 0 }; n = n; room = room }
 
 -- root and least, then the rows
 asked : String → String → ℤ → ℕ → Query
@@ -31,7 +31,7 @@ asked rootAndLeast rows n room =
 
 -- rows of true, whatever the table holds
 trueRows : List ℤ → ℕ → ℕ → Query
-trueRows schema schemaRows room = record { schema = schema; schemaRows = schemaRows; root = pos 0; least = pos 0; n = pos 0; room = room }
+trueRows table rows room = record { schema = record { table = table; rows = rows; root = pos 0; least = pos 0 }; n = pos 0; room = room }
 
 -- answer, place, whether a model is given; n and pairs; the first six numbers of the table
 shown : Query → List ℕ

@@ -10,13 +10,12 @@ use lib.IntN.{ℤ, pos}
 use lib.Signed.{leZ}
 use lib.ListN.{length}
 use Rattle.stab.specs.Basic.{if_then_else_, _and_, _or_, eqZ, nat, _otherwise_}
-use Rattle.stab.specs.Formula.{Formula, rowAt, tree}
+use Rattle.stab.specs.Formula.{Schema, Formula, schemaFormula}
 use Rattle.stab.specs.Meaning.{Assignment, truth}
-use Rattle.stab.specs.Check.{wholeUnless, atUnless, holds, formulasRefusal}
+use Rattle.stab.specs.Check.{wholeUnless, atUnless, holds, schemaRefusal}
 use Rattle.stab.specs.Occurs.{Wire, occurring, table}
 use Rattle.stab.specs.Text.{padded}
 use Rattle.stab.specs.Answer.{refusalNumber, placeNumber, oneNumber}
-use Rattle.stab.specs.declared.Place.the-variants.{Whole}
 use Rattle.stab.specs.declared.Refusal.the-variants.{TableTooShort, TooMany, Width, Wires}
 use Rattle.stab.specs.declared.Verdict.{Verdict}
 use Rattle.stab.specs.declared.Verdict.the-variants.{Accepted, Refused}
@@ -25,18 +24,15 @@ use Rattle.stab.specs.declared.Finding.the-variants.{Found, Nothing}
 use Rattle.found.specs.declared.ModelFound.{ModelFound}
 use Rattle.found.specs.declared.ModelFound.the-variants.{Model, None, Refused as FindRefused}
 
--- What the search is lent: a schema with how many rows it is said to hold, and n; how many numbers the result table has room for.
+-- What the search is lent: a schema and n; how many numbers the result table has room for.
 pub record Query : Type 0 where
-  pub schema : List ℤ
-  pub schemaRows : ℕ
-  pub root : ℤ
-  pub least : ℤ
+  pub schema : Schema
   pub n : ℤ
   pub room : ℕ
 
 -- the schema's formula
 unfoldable pub formula : Query → Formula
-formula Q = tree (rowAt (Q .schema)) (nat (Q .root))
+formula Q = schemaFormula (Q .schema)
 
 -- the pairs that "occur in the sense of No. 12", ascending
 unfoldable pub wires : Query → List Wire
@@ -70,10 +66,10 @@ firstModel Q = firstFrom (holdsWith Q) [] (wires Q)
 unfoldable pub findRefusal : Query → Finding
 findRefusal Q =
     atUnless (leb 8192 (Q .room)) TableTooShort 0 otherwise
-    wholeUnless (holds (Q .schema) 4 (Q .schemaRows)) TableTooShort otherwise
-    wholeUnless (leb (Q .schemaRows) 1024) TooMany otherwise
-    formulasRefusal (rowAt (Q .schema)) (Q .schemaRows) (Q .schemaRows) (Q .root) (Q .least) otherwise
-    wholeUnless (leZ (Q .least) (Q .n) and leZ (Q .n) (pos 9999)) Width otherwise
+    wholeUnless (holds (Q .schema .table) 4 (Q .schema .rows)) TableTooShort otherwise
+    wholeUnless (leb (Q .schema .rows) 1024) TooMany otherwise
+    schemaRefusal (Q .schema) otherwise
+    wholeUnless (leZ (Q .schema .least) (Q .n) and leZ (Q .n) (pos 9999)) Width otherwise
     wholeUnless (leb (length (wires Q)) 16) Wires
 
 -- a model, or "none"

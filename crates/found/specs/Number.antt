@@ -4,9 +4,8 @@ use mathlib.Core.Bool.{Bool}
 use mathlib.Core.List.{List, [], _∷_}
 use mathlib.Core.Option.{Option, none, some}
 use lib.Dec.{eqb}
-use lib.IntN.{ℤ, pos, _+ℤ_}
 use lib.ListN.{length}
-use Rattle.stab.specs.Basic.{if_then_else_, nat, first}
+use Rattle.stab.specs.Basic.{if_then_else_, first}
 use Rattle.stab.specs.Occurs.{Wire}
 
 -- the pairs that are true in assignment number m

@@ -1,19 +1,21 @@
 -- What a call answers and leaves, from what is found.
-use Prim.Native.Nat.{ℕ, zero, suc, _+_, _*_, _-_, _<_, _≤_}
+use Prim.Native.Nat.{ℕ, suc, _+_, _*_, _<_}
 use native.Mathlib.Omega.{arith}
 use native.Mathlib.Numerals.{add-one}
 use mathlib.Core.Path.{_≡_, refl, sym, _∙_, ap, ap₂, subst}
 use mathlib.Core.Bool.{Bool, true, false}
-use mathlib.Core.List.{List, [], _∷_, _++_}
+use mathlib.Core.List.{List}
 use lib.Dec.{ltb}
 use lib.IntN.{ℤ, pos}
-use lib.ListN.{length, take, length-append}
+use lib.ListN.{length, take}
 use lib.Seq.{sets, length-sets}
 use borrow.Author.Tests.{le-ltb, lt-ltb}
-use Rattle.stab.specs.Basic.{if_then_else_, count, nat, _otherwise_}
-use Rattle.stab.specs.Node.{Tableau, nodeAt, node}
-use Rattle.stab.specs.Check.{wholeUnless, isLink, parentRefusal, linkCount}
+use Rattle.stab.specs.Basic.{if_then_else_, count, _otherwise_}
+use Rattle.stab.specs.Node.{Tableau, node}
+use Rattle.stab.specs.Lent.{lent, header}
+use Rattle.stab.specs.Check.{wholeUnless, parentRefusal, linkCount, refusal, heldMode}
 use Rattle.stab.specs.Text.{padded}
+use Rattle.stab.specs.declared.Header.{Header}
 use Rattle.stab.specs.declared.Place.{Place}
 use Rattle.stab.specs.declared.Place.the-variants.{Whole}
 use Rattle.stab.specs.declared.Refusal.{Refusal}
@@ -25,53 +27,77 @@ use Rattle.stab.proofs.Scans.{scan-nothing}
 use Rattle.stab.proofs.Tests.{within-tests}
 use Rattle.stab.proofs.Exactness.Nodes.{parent-clears}
 use Rattle.branch.proofs.ParentLaws.{parents-known}
-use Rattle.branch.specs.Work.{tableau}
 use Rattle.fields.proofs.FieldParts.{fields-known}
 use Rattle.folds.proofs.Fronts.{sets-more}
 use Rattle.steps.proofs.StepLaws.{fields-passed}
-use Rattle.growing.specs.Growing.{heldRefusal, NodeRow, nodeNumbers, holding, added, roomFor, addRefusal, shortened, takeBackRefusal, begun, beginRefusal, beginAnswer, closed, growthBy, leftBy, Call, add, takeBack, callRefusal, changed, answered, after}
-use Rattle.growing.specs.Complete.{childrenAll, complete}
-use Rattle.growing.specs.declared.Growth.{Growth}
+use Rattle.growing.specs.Growing.{NodeRow, nodeNumbers, holding, added, roomFor, addRefusal, takeBackRefusal, begun, beginRefusal, beginAnswer, turnedAway, tried, growthBy, leftBy, Call, add, takeBack, callRefusal, changed, answered, after}
+use Rattle.growing.specs.Complete.{complete}
 use Rattle.growing.specs.declared.Growth.the-variants.{Held, Refused as GrowthRefused}
 use Rattle.growing.proofs.States.{Holds, held-clears}
 use Rattle.growing.proofs.Held.{fits, held-step}
 use Rattle.growing.proofs.Grown.{added-holds, add-holds, passed, refused-leaves, begun-open, closed-is, refused-open}
-use Rattle.grow.specs.State.{state, grown, nodesOnly, Countable}
-use Rattle.grow.proofs.Counted.{complete-alone, complete-same, links-same}
+use Rattle.growing.specs.Lent.{holdingIn}
+use Rattle.grow.specs.State.{grown, nodesOnly, shown, Countable}
+use Rattle.grow.proofs.Counted.{complete-alone, complete-same, links-same, shown-alone}
 use Rattle.grow.proofs.Laying.{agrees}
-
--- ---- a call whose rows are kept or not
-
-pub either : (keep : Bool) (S T : Tableau) → S ≡ T → T ≡ (if keep then S else T)
-unfolding if_then_else_
-either true S T e = sym e
-either false S T e = refl
 
 -- ---- refused calls
 
 -- the rows held are refused
-pub refused-growth : (T U : Tableau) (why : Refusal) (p : Place) → heldRefusal T ≡ Found why p → GrowthRefused why p false ≡ growthBy (Found why p) T U
+refused-growth : (T U : Tableau) (why : Refusal) (p : Place) → refusal heldMode T ≡ Found why p → GrowthRefused why p false ≡ growthBy (Found why p) T U
 unfolding growthBy
 refused-growth T U why p e = ap (GrowthRefused why p) (sym (refused-open T why p e))
 
--- they pass, and the call is refused
-pub passed-growth : (T U : Tableau) (why : Refusal) (p : Place) → heldRefusal T ≡ Nothing → GrowthRefused why p (complete (nodesOnly (T .nodes) (T .nodeRows))) ≡ growthBy (Found why p) T U
-unfolding growthBy
-passed-growth T U why p e = ap (GrowthRefused why p) (complete-alone T ∙ sym (closed-is T e))
-
-pub turned-away : (T : Tableau) (call : Call) (x : Finding) (why : Refusal) (p : Place) → callRefusal T call ≡ (x otherwise Found why p) → after T call ≡ T
-unfolding _otherwise_
-turned-away T call Nothing why p e = refused-leaves T call why p e
-turned-away T call (Found w q) why p e = refused-leaves T call w q e
-
-pub turned-answer : (T : Tableau) (call : Call) (x : Finding) → callRefusal T call ≡ x → (r : Growth) → ((U : Tableau) → r ≡ growthBy x T U) → r ≡ answered T call
+pub refused-answer : (T : Tableau) (call : Call) (why : Refusal) (p : Place) → refusal heldMode T ≡ Found why p → callRefusal T call ≡ Found why p → GrowthRefused why p false ≡ answered T call
 unfolding answered
-turned-answer T call x e r h = h (changed T call) ∙ ap (λ (y : Finding). growthBy y T (changed T call)) (sym e)
+refused-answer T call why p e f = refused-growth T (changed T call) why p e ∙ ap (λ (x : Finding). growthBy x T (changed T call)) (sym f)
+
+module _ (T : Tableau) (why : Refusal) (p : Place) where
+  pub refused-turned : (w : Refusal) (q : Place) → refusal heldMode T ≡ Found w q → GrowthRefused w q false ≡ turnedAway T why p
+  unfolding turnedAway
+  refused-turned w q e = refused-growth T T w q e ∙ ap (λ (x : Finding). growthBy x T T) (sym (otherwise-found _ _ e))
+
+  -- they pass, and the call is refused
+  pub passed-turned : refusal heldMode T ≡ Nothing → GrowthRefused why p (complete (nodesOnly (T .nodes) (T .nodeRows))) ≡ turnedAway T why p
+  unfolding turnedAway growthBy
+  passed-turned e =
+      ap (GrowthRefused why p) (complete-alone T ∙ sym (closed-is T e)) ∙ ap (λ (x : Finding). growthBy x T T) (sym (otherwise-nothing _ _ e))
+
+  pub turned-growth : (U : Tableau) → turnedAway T why p ≡ growthBy (refusal heldMode T otherwise Found why p) T U
+  unfolding turnedAway growthBy _otherwise_
+  turned-growth U = by (refusal heldMode T)
+    where
+      by : (x : Finding) → growthBy (x otherwise Found why p) T T ≡ growthBy (x otherwise Found why p) T U
+      by Nothing = refl
+      by (Found w q) = refl
+
+  module _ (call : Call) (e : callRefusal T call ≡ (refusal heldMode T otherwise Found why p)) where
+    pub turned-answer : turnedAway T why p ≡ answered T call
+    unfolding answered
+    turned-answer = turned-growth (changed T call) ∙ ap (λ (x : Finding). growthBy x T (changed T call)) (sym e)
+
+    pub turned-left : after T call ≡ T
+    unfolding _otherwise_
+    turned-left = by (refusal heldMode T) e
+      where
+        by : (x : Finding) → callRefusal T call ≡ (x otherwise Found why p) → after T call ≡ T
+        by Nothing f = refused-leaves T call why p f
+        by (Found w q) f = refused-leaves T call w q f
+
+-- a row that is refused is not there, kept or not
+pub turned-tried : (keep : Bool) (T : Tableau) (w : NodeRow) → after T (add w) ≡ T → T ≡ tried keep T w
+unfolding tried if_then_else_
+turned-tried true T w e = sym e
+turned-tried false T w e = refl
 
 -- ---- accepted calls
 
+-- the numbers that go with a state
+abbrev pub headerOf : Tableau → Header
+headerOf T = header (T .schemaRows) (T .proofRows) (T .root) (T .least) (T .nodeRows) (T .memberCount)
+
 -- what is known of rows that have passed when their children are counted
-pub countable : (T : Tableau) → Holds T → Countable (T .nodes) (T .nodeRows) (T .least)
+pub countable : (T : Tableau) → Holds T → Countable (T .nodes) (headerOf T)
 unfolding node
 countable T H = record {
   few = H .tables .nodeLimit;
@@ -80,12 +106,13 @@ countable T H = record {
   rules = λ j l. fields-known T j (fields-passed T j (held-step T j (H .steps j l))) .rule;
 }
 
-pub accepted-answer : (T : Tableau) (call : Call) → callRefusal T call ≡ Nothing → answered T call ≡ Held (changed T call .nodeRows) (count (isLink (changed T call .nodes)) (changed T call .nodeRows)) (complete (nodesOnly (changed T call .nodes) (changed T call .nodeRows)))
-unfolding answered growthBy linkCount
+pub accepted-answer : (T : Tableau) (call : Call) → callRefusal T call ≡ Nothing → shown (changed T call .nodes) (changed T call .nodeRows) ≡ answered T call
+unfolding answered growthBy
 accepted-answer T call e =
     let U = changed T call in
-    ap (λ (x : Finding). growthBy x T U) e
-    ∙ ap (Held (U .nodeRows) (linkCount U)) (closed-is U (held-clears U .1 (passed T call e)) ∙ sym (complete-alone U))
+    shown-alone U
+    ∙ ap (Held (U .nodeRows) (linkCount U)) (sym (closed-is U (held-clears U .1 (passed T call e))))
+    ∙ ap (λ (x : Finding). growthBy x T U) (sym e)
 
 pub accepted-left : (T : Tableau) (call : Call) → callRefusal T call ≡ Nothing → after T call ≡ changed T call
 unfolding after leftBy
@@ -103,21 +130,25 @@ begun-refused T why p e = ap (λ (x : Finding). growthBy x (begun T) (begun T)) 
 
 -- ---- the last row taken back
 
-pub no-row : (T : Tableau) → T .nodeRows ≡ 0 → callRefusal T takeBack ≡ (heldRefusal T otherwise Found NoRow Whole)
+pub no-row : (T : Tableau) → T .nodeRows ≡ 0 → callRefusal T takeBack ≡ (refusal heldMode T otherwise Found NoRow Whole)
 unfolding callRefusal takeBackRefusal wholeUnless
-no-row T e = otherwise-same (heldRefusal T) _ _ (λ h. found-unless (ltb 0 (T .nodeRows)) _ _ (le-ltb 0 (T .nodeRows) (omega arith)))
+no-row T e = otherwise-same (refusal heldMode T) _ _ (λ h. found-unless (ltb 0 (T .nodeRows)) _ _ (le-ltb 0 (T .nodeRows) (omega arith)))
 
-pub back-refused : (T : Tableau) (why : Refusal) (p : Place) → heldRefusal T ≡ Found why p → callRefusal T takeBack ≡ Found why p
+pub back-refused : (T : Tableau) (why : Refusal) (p : Place) → refusal heldMode T ≡ Found why p → callRefusal T takeBack ≡ Found why p
 unfolding callRefusal takeBackRefusal
-back-refused T why p e = otherwise-found (heldRefusal T) _ e
+back-refused T why p e = otherwise-found (refusal heldMode T) _ e
 
-pub back-accepted : (T : Tableau) → heldRefusal T ≡ Nothing → 0 < T .nodeRows → callRefusal T takeBack ≡ Nothing
+pub back-accepted : (T : Tableau) → refusal heldMode T ≡ Nothing → 0 < T .nodeRows → callRefusal T takeBack ≡ Nothing
 unfolding callRefusal takeBackRefusal wholeUnless
-back-accepted T e h = otherwise-nothing (heldRefusal T) _ e ∙ nothing-unless (ltb 0 (T .nodeRows)) _ _ (lt-ltb 0 (T .nodeRows) h)
+back-accepted T e h = otherwise-nothing (refusal heldMode T) _ e ∙ nothing-unless (ltb 0 (T .nodeRows)) _ _ (lt-ltb 0 (T .nodeRows) h)
 
 -- ---- a row laid behind the rows held, and the tables cleared past it
 
 module _ (T : Tableau) (w : NodeRow) (room : roomFor T w ≡ true) where
+  -- the numbers that go with it
+  abbrev more : Header
+  more = holdingIn (headerOf T) (T .nodeRows + 1) (T .memberCount + length (w .members))
+
   pub grown-nodes : padded (pos 0) (length (grown T w .nodes)) (take (9 * (T .nodeRows + 1)) (grown T w .nodes)) ≡ added T w .nodes
   unfolding grown added holding nodeNumbers
   grown-nodes =
@@ -134,39 +165,41 @@ module _ (T : Tableau) (w : NodeRow) (room : roomFor T w ≡ true) where
       ap (λ (k : ℕ). padded (pos 0) k (take (m + length (w .members)) (sets (T .members) m (w .members)))) (length-sets (T .members) m (w .members))
       ∙ ap (padded (pos 0) (length (T .members))) (sets-more (T .members) (w .members) m (fits T w room .3))
 
-  pub tried-countable : Holds (grown T w) → (ns : List ℤ) → ns ≡ grown T w .nodes → Countable ns (T .nodeRows + 1) (T .least)
+  -- what is known of nodes with one row more, by what is known of rows that have passed
+  counts-more : (ns : List ℤ) (U : Tableau) → Holds U → ns ≡ U .nodes → headerOf U ≡ holdingIn (headerOf T) (suc (T .nodeRows)) (T .memberCount + length (w .members)) → Countable ns more
+  counts-more ns U H e f =
+      subst (λ (k : List ℤ). Countable k more) (sym e)
+      (subst (Countable (U .nodes)) (f ∙ ap (λ (n : ℕ). holdingIn (headerOf T) n (T .memberCount + length (w .members))) (sym (add-one (T .nodeRows)))) (countable U H))
+
+  pub tried-countable : Holds (grown T w) → (ns : List ℤ) → ns ≡ grown T w .nodes → Countable ns more
   unfolding grown
-  tried-countable H ns e =
-      subst (λ (k : List ℤ). Countable k (T .nodeRows + 1) (T .least)) (sym e)
-      (subst (λ (k : ℕ). Countable (grown T w .nodes) k (T .least)) (sym (add-one (T .nodeRows))) (countable (grown T w) H))
+  tried-countable H ns e = counts-more ns (grown T w) H e refl
 
   -- the row is accepted
   module _ (ok : addRefusal T w ≡ Nothing) where
-    pub laid-countable : (ns : List ℤ) → ns ≡ grown T w .nodes → Countable (padded (pos 0) (length ns) (take (9 * (T .nodeRows + 1)) ns)) (T .nodeRows + 1) (T .least)
+    pub laid-countable : (ns : List ℤ) → ns ≡ grown T w .nodes → Countable (padded (pos 0) (length ns) (take (9 * (T .nodeRows + 1)) ns)) more
     unfolding added holding
     laid-countable ns e =
-        subst (λ (k : List ℤ). Countable (padded (pos 0) (length k) (take (9 * (T .nodeRows + 1)) k)) (T .nodeRows + 1) (T .least)) (sym e)
-        (subst (λ (k : List ℤ). Countable k (T .nodeRows + 1) (T .least)) (sym grown-nodes)
-        (subst (λ (k : ℕ). Countable (added T w .nodes) k (T .least)) (sym (add-one (T .nodeRows))) (countable (added T w) (add-holds T w ok))))
+        counts-more _ (added T w) (add-holds T w ok) (ap (λ (k : List ℤ). padded (pos 0) (length k) (take (9 * (T .nodeRows + 1)) k)) e ∙ grown-nodes) refl
 
-    pub laid-answer : (ns : List ℤ) → ns ≡ added T w .nodes → Held (T .nodeRows + 1) (count (isLink ns) (T .nodeRows + 1)) (complete (nodesOnly ns (T .nodeRows + 1))) ≡ answered T (add w)
+    pub laid-answer : (ns : List ℤ) → ns ≡ added T w .nodes → shown ns (T .nodeRows + 1) ≡ answered T (add w)
     unfolding callRefusal changed added holding
     laid-answer ns e =
-        (λ i. Held (add-one (T .nodeRows) i) (count (isLink (e i)) (add-one (T .nodeRows) i)) (complete (nodesOnly (e i) (add-one (T .nodeRows) i))))
-        ∙ sym (accepted-answer T (add w) ok)
+        (λ i. shown (e i) (add-one (T .nodeRows) i)) ∙ accepted-answer T (add w) ok
 
     -- the row is not kept: what is shown of the rows with it
-    pub tried-answer : (ns : List ℤ) → ns ≡ grown T w .nodes → Held (T .nodeRows + 1) (count (isLink ns) (T .nodeRows + 1)) (complete (nodesOnly ns (T .nodeRows + 1))) ≡ answered T (add w)
-    unfolding callRefusal changed added holding grown linkCount
+    pub tried-answer : (ns : List ℤ) → ns ≡ grown T w .nodes → shown ns (T .nodeRows + 1) ≡ answered T (add w)
+    unfolding callRefusal changed added holding grown
     tried-answer ns e =
         let G = agrees T w room (added-holds T w ok) in
-        let n = T .nodeRows in
-        (λ i. Held (add-one n i) (count (isLink (e i)) (add-one n i)) (complete (nodesOnly (e i) (add-one n i))))
-        ∙ ap₂ (Held (suc n)) (links-same G) (complete-alone (grown T w) ∙ complete-same G ∙ sym (complete-alone (added T w)))
-        ∙ sym (accepted-answer T (add w) ok)
+        (λ i. shown (e i) (add-one (T .nodeRows) i))
+        ∙ shown-alone (grown T w)
+        ∙ ap₂ (Held (suc (T .nodeRows))) (links-same G) (complete-same G)
+        ∙ sym (shown-alone (added T w))
+        ∙ accepted-answer T (add w) ok
 
-    pub laid-left : (ns ms : List ℤ) → ns ≡ added T w .nodes → ms ≡ added T w .members → tableau (T .schema) (T .schemaRows) (T .proof) (T .proofRows) (T .root) (T .least) ns (T .nodeRows + 1) ms (T .memberCount + length (w .members)) ≡ after T (add w)
-    unfolding callRefusal changed added holding tableau
+    pub laid-left : (ns ms : List ℤ) → ns ≡ added T w .nodes → ms ≡ added T w .members → lent (T .schema) (T .proof) ns ms more ≡ after T (add w)
+    unfolding callRefusal changed added holding
     laid-left ns ms e f =
-        (λ i. tableau (T .schema) (T .schemaRows) (T .proof) (T .proofRows) (T .root) (T .least) (e i) (add-one (T .nodeRows) i) (f i) (T .memberCount + length (w .members)))
+        (λ i. lent (T .schema) (T .proof) (e i) (f i) (holdingIn (headerOf T) (add-one (T .nodeRows) i) (T .memberCount + length (w .members))))
         ∙ sym (accepted-left T (add w) ok)

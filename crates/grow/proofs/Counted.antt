@@ -13,11 +13,11 @@ use Rattle.stab.specs.Check.{isLink, linkCount}
 use Rattle.stab.specs.declared.Rule.{Rule}
 use Rattle.stab.proofs.Bools.{and-both, and-first-false, and-second-false}
 use Rattle.stab.proofs.Scans.{below-suc}
-use Rattle.branch.specs.Work.{tableau}
 use Rattle.tidied.proofs.Agreeing.{count-same}
 use Rattle.growing.proofs.Held.{rule-same, counted-same}
 use Rattle.growing.specs.Complete.{childrenAll, complete}
-use Rattle.grow.specs.State.{nodesOnly}
+use Rattle.growing.specs.declared.Growth.the-variants.{Held}
+use Rattle.grow.specs.State.{nodesOnly, shown}
 use Rattle.grow.proofs.Same.{Agree}
 
 pub all-more : (T : Tableau) (j : ℕ) → childrenAll T j ≡ true → childrenFit T j ≡ true → childrenAll T (j + 1) ≡ true
@@ -57,10 +57,14 @@ module _ {S T : Tableau} (G : Agree S T) where
 
 -- the nodes tell it alone
 all-alone : (T : Tableau) (j : ℕ) → childrenAll (nodesOnly (T .nodes) (T .nodeRows)) j ≡ childrenAll T j
-unfolding childrenAll nodesOnly tableau childrenFit childCount rule node
+unfolding childrenAll childrenFit childCount rule node
 all-alone T zero = refl
 all-alone T (suc j) = ap (λ (b : Bool). b and childrenFit T j) (all-alone T j)
 
 pub complete-alone : (T : Tableau) → complete (nodesOnly (T .nodes) (T .nodeRows)) ≡ complete T
-unfolding complete nodesOnly tableau
+unfolding complete
 complete-alone T = ap (λ (b : Bool). ltb 0 (T .nodeRows) and b) (all-alone T (T .nodeRows))
+
+pub shown-alone : (T : Tableau) → shown (T .nodes) (T .nodeRows) ≡ Held (T .nodeRows) (linkCount T) (complete T)
+unfolding shown linkCount
+shown-alone T = ap (Held (T .nodeRows) (linkCount T)) (complete-alone T)

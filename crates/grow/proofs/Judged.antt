@@ -1,23 +1,21 @@
 -- The rows held with an accepted or refused row more: what the check of the rows held finds is what is found of the added row, but for the
 -- place of a child beyond.
-use Prim.Native.Nat.{ℕ, zero, suc, _+_, _*_, _<_, _≤_}
+use Prim.Native.Nat.{ℕ, zero, suc, _*_, _<_}
 use native.Mathlib.Omega.{arith}
 use mathlib.Core.Path.{_≡_, refl, sym, _∙_, ap, ap₂, subst}
 use mathlib.Core.Logic.{_⊎_, inl, inr, ⊎-elim}
 use mathlib.Core.Bool.{Bool, true, false}
-use lib.Dec.{eqb, leb}
-use lib.IntN.{ℤ, pos, pos-ne-negsuc}
-use lib.ListN.{length}
+use lib.IntN.{pos, pos-ne-negsuc}
 use borrow.Author.Tests.{le-leb}
-use Rattle.stab.specs.Basic.{if_then_else_, eqZ, _and_, nat, unless, _otherwise_, scan}
+use Rattle.stab.specs.Basic.{if_then_else_, _implies_, nat, unless, _otherwise_, scan}
 use Rattle.stab.specs.Node.{Tableau, rows, rowCount, nodeAt, node, names}
-use Rattle.stab.specs.Rule.{drawn, fieldsFit, targetFits, boundFits, partnersFit, loweredFits}
-use Rattle.stab.specs.Check.{wholeUnless, atUnless, holds, setRefusal, parentRefusal, stepRefusal, tablesHold, withinLimits, refusalBy, presentFormulas}
-use Rattle.stab.specs.Keeps.{Below, KeepsTables, KeepsParent}
+use Rattle.stab.specs.Rule.{drawn, fieldsFit, targetFits, boundFits, partnersFit, loweredFits, childrenHeld, childrenAs}
+use Rattle.stab.specs.Check.{wholeUnless, atUnless, holds, formulasRefusal, setRefusal, parentRefusal, stepRefusal, nodeRefusal, tablesHold, withinLimits, enoughNodes, refusal, heldMode}
+use Rattle.stab.specs.Keeps.{KeepsParent}
 use Rattle.stab.specs.declared.Place.{Place}
 use Rattle.stab.specs.declared.Place.the-variants.{At}
 use Rattle.stab.specs.declared.Refusal.{Refusal}
-use Rattle.stab.specs.declared.Refusal.the-variants.{TableTooShort, TooMany, Set, Parent, Drawn, Fields, Target, Bound, Partner, Lowered, Children}
+use Rattle.stab.specs.declared.Refusal.the-variants.{Set, Parent, Drawn, Fields, Target, Bound, Partner, Lowered, Children}
 use Rattle.stab.specs.declared.Finding.{Finding}
 use Rattle.stab.specs.declared.Finding.the-variants.{Nothing, Found}
 use Rattle.stab.proofs.Bools.{decide, and-both, nothing-unless, found-unless, otherwise-nothing, otherwise-found, otherwise-same}
@@ -27,7 +25,7 @@ use Rattle.stab.proofs.Trees.{below-nat, below-pos}
 use Rattle.stab.proofs.Tests.{below-tests}
 use Rattle.stab.proofs.Exactness.Formulas.{present-clears}
 use Rattle.stab.proofs.Exactness.Nodes.{set-clears, parent-clears}
-use Rattle.growing.specs.Growing.{childrenHeld, heldNodeRefusal, heldRefusal, NodeRow, holding, added, roomFor, beyondRefusal, addedRefusal}
+use Rattle.growing.specs.Growing.{NodeRow, holding, added, roomFor, beyondRefusal, addedRefusal}
 use Rattle.growing.proofs.States.{Holds}
 use Rattle.growing.proofs.Held.{old-set, old-parent, old-step, other-children, new-children, tables-added, held-node}
 use Rattle.grow.specs.Moved.{placed, moved}
@@ -122,20 +120,20 @@ module _ (T : Tableau) (H : Holds T) (w : NodeRow) (room : roomFor T w ≡ true)
   unfolding withinLimits
   limits-kept = let t = tables-added T H w room in and-both _ _ (le-leb _ _ (t .rowLimit)) (and-both _ _ (le-leb _ _ (t .nodeLimit)) (le-leb _ _ (t .memberLimit)))
 
-  formulas-kept : presentFormulas U ≡ Nothing
+  formulas-kept : formulasRefusal false (rows U) (rowCount U) (U .schemaRows) (U .root) (U .least) ≡ Nothing
   unfolding added holding rows rowCount
   formulas-kept = present-clears U .1 (H .formulas, H .fresh)
 
-  node-found : KeepsParent U n → moved n (scan (heldNodeRefusal U) (suc n)) ≡ (beyondRefusal U n otherwise stepRefusal U n)
-  unfolding heldNodeRefusal atUnless
+  node-found : KeepsParent U n → moved n (scan (nodeRefusal false U) (suc n)) ≡ (beyondRefusal U n otherwise stepRefusal U n)
+  unfolding nodeRefusal atUnless childrenAs
   node-found k = ⊎-elim within beyond (parent-of U n k)
     where
-      held : (j : ℕ) → j < n → childrenHeld U j ≡ true → heldNodeRefusal U j ≡ Nothing
+      held : (j : ℕ) → j < n → childrenHeld U j ≡ true → nodeRefusal false U j ≡ Nothing
       held j h c = held-node U j (old-step T H w room j h) c
 
-      within : Within U n → moved n (scan (heldNodeRefusal U) (suc n)) ≡ (beyondRefusal U n otherwise stepRefusal U n)
+      within : Within U n → moved n (scan (nodeRefusal false U) (suc n)) ≡ (beyondRefusal U n otherwise stepRefusal U n)
       within q =
-          ap (moved n) (scan-last (heldNodeRefusal U) n (λ j h. held j h (all j h (names (U .nodes) (pos j) n) refl)) ∙ last)
+          ap (moved n) (scan-last (nodeRefusal false U) n (λ j h. held j h (all j h (names (U .nodes) (pos j) n) refl)) ∙ last)
           ∙ moved-step U n n
           ∙ sym (otherwise-nothing (beyondRefusal U n) _ (q .passed))
         where
@@ -143,23 +141,23 @@ module _ (T : Tableau) (H : Holds T) (w : NodeRow) (room : roomFor T w ≡ true)
           all j h true e = q .parent j e
           all j h false e = other-children T H w room j h e
 
-          last : heldNodeRefusal U n ≡ stepRefusal U n
+          last : nodeRefusal false U n ≡ stepRefusal U n
           last = nothing-after _ _ (nothing-unless (childrenHeld U n) _ _ (new-children T H w room k))
 
-      beyond : Beyond U n → moved n (scan (heldNodeRefusal U) (suc n)) ≡ (beyondRefusal U n otherwise stepRefusal U n)
+      beyond : Beyond U n → moved n (scan (nodeRefusal false U) (suc n)) ≡ (beyondRefusal U n otherwise stepRefusal U n)
       beyond q =
           let r = q .p in
           let h : r < n = q .before in
           ap (moved n)
-          (scan-found (heldNodeRefusal U) (suc n) r (omega arith)
-          (scan-nothing (heldNodeRefusal U) r (λ j l. held j (omega arith) (other-children T H w room j (omega arith) (q .others j l))))
+          (scan-found (nodeRefusal false U) (suc n) r (omega arith)
+          (scan-nothing (nodeRefusal false U) r (λ j l. held j (omega arith) (other-children T H w room j (omega arith) (q .others j l))))
           (otherwise-nothing (stepRefusal U r) _ (old-step T H w room r h) ∙ found-unless (childrenHeld U r) _ _ (q .beyond)))
           ∙ moved-children n r
           ∙ sym (otherwise-found (beyondRefusal U n) _ (q .found))
 
   -- 9 and 10 of the last row, then 11 to 17
-  found-last : heldRefusal U ≡ (setRefusal U n otherwise (parentRefusal U n otherwise scan (heldNodeRefusal U) (suc n)))
-  unfolding heldRefusal refusalBy wholeUnless added holding
+  found-last : refusal heldMode U ≡ (setRefusal U n otherwise (parentRefusal U n otherwise scan (nodeRefusal false U) (suc n)))
+  unfolding refusal heldMode enoughNodes _implies_ wholeUnless unless added holding
   found-last =
       otherwise-nothing _ _ (nothing-unless _ _ _ tables-hold)
       ∙ otherwise-nothing _ _ (nothing-unless _ _ _ limits-kept)
@@ -167,15 +165,15 @@ module _ (T : Tableau) (H : Holds T) (w : NodeRow) (room : roomFor T w ≡ true)
       ∙ ap₂ (λ (x y : Finding). x otherwise y)
       (scan-last (setRefusal U) n (λ j h. set-clears U j .1 (old-set T H w room j h)))
       (otherwise-nothing Nothing _ refl
-      ∙ ap (λ (x : Finding). x otherwise scan (heldNodeRefusal U) (suc n)) (scan-last (parentRefusal U) n (λ j h. parent-clears U j .1 (old-parent T H w room j h))))
+      ∙ ap (λ (x : Finding). x otherwise scan (nodeRefusal false U) (suc n)) (scan-last (parentRefusal U) n (λ j h. parent-clears U j .1 (old-parent T H w room j h))))
 
   moved-both : (x : Finding) → moved n (setRefusal U n otherwise (parentRefusal U n otherwise x)) ≡ (setRefusal U n otherwise (parentRefusal U n otherwise moved n x))
   unfolding setRefusal parentRefusal placed if_then_else_
   moved-both x = moved-then n _ Set n _ _ refl (moved-then n _ Parent n _ _ refl refl)
 
-  pub judged-last : moved n (heldRefusal U) ≡ addedRefusal U n
+  pub judged-last : moved n (refusal heldMode U) ≡ addedRefusal U n
   unfolding addedRefusal
   judged-last =
       ap (moved n) found-last
-      ∙ moved-both (scan (heldNodeRefusal U) (suc n))
+      ∙ moved-both (scan (nodeRefusal false U) (suc n))
       ∙ otherwise-same (setRefusal U n) _ _ (λ a. otherwise-same (parentRefusal U n) _ _ (λ b. node-found (parent-clears U n .0 b)))

@@ -3,14 +3,14 @@ use Prim.Native.Nat.{ℕ, suc, _+_, _*_, _-_, _<_, _≤_}
 use native.Mathlib.Omega.{arith}
 use mathlib.Core.Path.{_≡_, refl, sym, _∙_, ap, ap₂}
 use mathlib.Core.Logic.{⊎-elim}
-use mathlib.Core.Bool.{Bool, true, false}
+use mathlib.Core.Bool.{true, false}
 use mathlib.Core.List.{List, _++_}
-use lib.IntN.{ℤ, pos}
+use lib.IntN.{ℤ}
 use lib.ListN.{length, take, drop, length-append}
 use lib.Seq.{sets, sets-eq, length-sets, length-take-le}
 use Rattle.stab.specs.Basic.{nat, _otherwise_}
 use Rattle.stab.specs.Node.{Tableau, Node, nodeAt, node, setOf, set}
-use Rattle.stab.specs.Check.{wholeUnless}
+use Rattle.stab.specs.Check.{wholeUnless, refusal, heldMode}
 use Rattle.stab.specs.Text.{padded}
 use Rattle.stab.specs.declared.Place.{Place}
 use Rattle.stab.specs.declared.Place.the-variants.{Whole}
@@ -20,8 +20,7 @@ use Rattle.stab.specs.declared.Finding.the-variants.{Nothing, Found}
 use Rattle.stab.proofs.Bools.{nothing-unless, found-unless, otherwise-nothing, otherwise-found, otherwise-same}
 use Rattle.stab.proofs.Scans.{below-suc}
 use Rattle.tidied.proofs.Tables.{numbersOf, nodeAt-front, nodeAt-next, slice-front, slice-take, set-within}
-use Rattle.growing.specs.Growing.{heldRefusal, NodeRow, nodeNumbers, holding, added, roomFor, addedRefusal, newRefusal, addRefusal, shortened}
-use Rattle.growing.proofs.Local.{Alike}
+use Rattle.growing.specs.Growing.{NodeRow, nodeNumbers, holding, added, roomFor, addedRefusal, newRefusal, addRefusal, shortened}
 use Rattle.growing.proofs.States.{Holds, held-clears, nodeAt-take, written, added-old, added-new}
 use Rattle.growing.proofs.Held.{padded-length, fits, ends-before, shortened-alike, holds-shortened}
 use Rattle.grow.specs.State.{grown}
@@ -110,7 +109,7 @@ module _ (T : Tableau) (w : NodeRow) (room : roomFor T w ≡ true) where
     agrees = agrees-added within-held
 
     -- what is found with the row is what is found of it
-    found-new : moved n (heldRefusal (grown T w)) ≡ addedRefusal (added T w) n
+    found-new : moved n (refusal heldMode (grown T w)) ≡ addedRefusal (added T w) n
     found-new = ap (moved n) (held-same agrees) ∙ judged-last T H w room
 
   -- ---- the rows that pass with the row
@@ -181,7 +180,7 @@ module _ (T : Tableau) (w : NodeRow) (room : roomFor T w ≡ true) where
           members = sym (padded-length (length members) (take (nat (nodeAt nodes (suc n - 1) .start)) members) (omega (arith, d, start, b, fits T w room .3)) ∙ b);
         }
 
-    held-without : heldRefusal T ≡ Nothing
+    held-without : refusal heldMode T ≡ Nothing
     held-without = held-same agrees-shortened ∙ held-clears (shortened (grown T w)) .1 (holds-shortened (grown T w) G some-row)
 
   -- ---- what adding says
@@ -190,17 +189,17 @@ module _ (T : Tableau) (w : NodeRow) (room : roomFor T w ≡ true) where
   unfolding newRefusal wholeUnless
   new-is = otherwise-nothing _ _ (nothing-unless (roomFor T w) _ _ room)
 
-  pub accepted : heldRefusal (grown T w) ≡ Nothing → addRefusal T w ≡ Nothing
+  pub accepted : refusal heldMode (grown T w) ≡ Nothing → addRefusal T w ≡ Nothing
   unfolding addRefusal moved
   accepted e =
       let h = held-without (held-clears (grown T w) .0 e) in
-      otherwise-nothing (heldRefusal T) _ h ∙ new-is ∙ sym (found-new (held-clears T .0 h)) ∙ ap (moved n) e
+      otherwise-nothing (refusal heldMode T) _ h ∙ new-is ∙ sym (found-new (held-clears T .0 h)) ∙ ap (moved n) e
 
-  pub refused : (why : Refusal) (p : Place) → heldRefusal (grown T w) ≡ Found why p → addRefusal T w ≡ (heldRefusal T otherwise Found why (placed n why p))
+  pub refused : (why : Refusal) (p : Place) → refusal heldMode (grown T w) ≡ Found why p → addRefusal T w ≡ (refusal heldMode T otherwise Found why (placed n why p))
   unfolding addRefusal moved
   refused why p e =
-      otherwise-same (heldRefusal T) _ _ (λ h. new-is ∙ sym (found-new (held-clears T .0 h)) ∙ ap (moved n) e)
+      otherwise-same (refusal heldMode T) _ _ (λ h. new-is ∙ sym (found-new (held-clears T .0 h)) ∙ ap (moved n) e)
 
-pub no-room : (T : Tableau) (w : NodeRow) → roomFor T w ≡ false → addRefusal T w ≡ (heldRefusal T otherwise Found Room Whole)
+pub no-room : (T : Tableau) (w : NodeRow) → roomFor T w ≡ false → addRefusal T w ≡ (refusal heldMode T otherwise Found Room Whole)
 unfolding addRefusal newRefusal wholeUnless
-no-room T w h = otherwise-same (heldRefusal T) _ _ (λ e. otherwise-found _ _ (found-unless (roomFor T w) _ _ h))
+no-room T w h = otherwise-same (refusal heldMode T) _ _ (λ e. otherwise-found _ _ (found-unless (roomFor T w) _ _ h))

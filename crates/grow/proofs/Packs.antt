@@ -1,20 +1,18 @@
 -- The answer as the one number: its parts do not run into one another and are read back.
 use Prim.Native.Nat.{ℕ, zero, suc, _<_, _≤_}
 use native.Mathlib.Omega.{arith}
-use mathlib.Core.Path.{_≡_, refl, sym, _∙_, ap, subst}
-use lib.Dec.{leb}
-use Rattle.stab.specs.Node.{Tableau, rows, rowCount}
-use Rattle.stab.specs.Check.{rowRefusal, repeatRefusal, freshRowRefusal, formulasBy, setRefusal, parentRefusal, stepRefusal, withinLimits, refusalBy, presentFormulas, wholeUnless, isLink, linkCount}
-use Rattle.stab.specs.Answer.{Numbers, refusedNumbers, verdictNumbers, oneNumber, packed, numbersIn, Packs}
-use Rattle.stab.specs.declared.Refusal.the-variants.{TooMany, Room}
+use mathlib.Core.Path.{_≡_, refl, sym, _∙_, ap}
+use Rattle.stab.specs.Node.{Tableau}
+use Rattle.stab.specs.Check.{setRefusal, parentRefusal, stepRefusal, refusal, heldMode, wholeUnless, isLink, linkCount}
+use Rattle.stab.specs.Answer.{refusedNumbers, verdictNumbers, oneNumber, packed, numbersIn, Packs}
+use Rattle.stab.specs.declared.Refusal.the-variants.{Room}
 use Rattle.stab.specs.declared.Finding.{Finding}
 use Rattle.stab.specs.declared.Finding.the-variants.{Nothing, Found}
 use Rattle.stab.proofs.Bools.{unless-nothing, nothing≢found}
 use Rattle.stab.proofs.Scans.{count-le}
-use Rattle.stab.proofs.Tests.{_&_, le-tests, whole-clears}
 use Rattle.stab.proofs.Packed.{near-packs, read-back}
-use Rattle.stab.proofs.Exactness.Refusals.{FindsNear, of-whole, of-at, _or-else_, once, of-scan}
-use Rattle.growing.specs.Growing.{heldNodeRefusal, heldRefusal, NodeRow, roomFor, added, beyondRefusal, addedRefusal, newRefusal, addRefusal, takeBackRefusal, begun, beginRefusal, beginAnswer, growthBy, Call, add, takeBack, callRefusal, changed, answered, growthNumbers, growthPacked}
+use Rattle.stab.proofs.Exactness.Refusals.{FindsNear, of-whole, of-at, _or-else_, once, of-refusal}
+use Rattle.growing.specs.Growing.{NodeRow, roomFor, added, beyondRefusal, addedRefusal, newRefusal, addRefusal, takeBackRefusal, begun, beginRefusal, beginAnswer, growthBy, Call, add, takeBack, callRefusal, changed, answered, growthNumbers, growthPacked}
 use Rattle.growing.specs.declared.Growth.{Growth}
 use Rattle.growing.specs.declared.Growth.the-variants.{Held, Refused as GrowthRefused}
 use Rattle.growing.proofs.States.{held-clears}
@@ -38,30 +36,9 @@ packed-is r = ap oneNumber (sym (numbers-are r))
 of-nothing : FindsNear Nothing
 of-nothing why p e = absurd (nothing≢found e)
 
-of-present : (T : Tableau) → rowCount T ≤ 4096 → FindsNear (presentFormulas T)
-unfolding presentFormulas formulasBy freshRowRefusal rowRefusal repeatRefusal
-of-present T l =
-    of-whole _ _ or-else
-    of-scan (freshRowRefusal (rows T) (T .schemaRows)) (rowCount T) l (λ r k. (of-at _ _ r k or-else of-at _ _ r k) or-else of-at _ _ r k) or-else
-    of-whole _ _
-
 of-step : (T : Tableau) (j : ℕ) → j < 4096 → FindsNear (stepRefusal T j)
 unfolding stepRefusal
 of-step T j l = of-at _ _ j l or-else of-at _ _ j l or-else of-at _ _ j l or-else of-at _ _ j l or-else of-at _ _ j l or-else of-at _ _ j l
-
-pub of-held : (T : Tableau) → FindsNear (heldRefusal T)
-unfolding heldRefusal refusalBy setRefusal parentRefusal heldNodeRefusal withinLimits
-of-held T =
-    of-whole _ _ or-else
-    once (of-whole _ TooMany)
-    (λ h.
-    let limits = whole-clears TooMany (le-tests (rowCount T) 1024 & le-tests (T .nodeRows) 1024 & le-tests (T .memberCount) 8192) .0 h in
-    let nodes : T .nodeRows ≤ 4096 = omega (arith, limits .1 .0) in
-    of-present T (omega (arith, limits .0)) or-else
-    of-scan (setRefusal T) (T .nodeRows) nodes (λ j l. of-at _ _ j l) or-else
-    of-nothing or-else
-    of-scan (parentRefusal T) (T .nodeRows) nodes (λ j l. of-at _ _ j l) or-else
-    of-scan (heldNodeRefusal T) (T .nodeRows) nodes (λ j l. of-step T j l or-else of-at _ _ j l))
 
 of-beyond : (T : Tableau) (j : ℕ) → j < 4096 → FindsNear (beyondRefusal T j)
 unfolding beyondRefusal
@@ -79,8 +56,8 @@ of-new T w =
 
 of-call : (T : Tableau) (call : Call) → FindsNear (callRefusal T call)
 unfolding callRefusal addRefusal takeBackRefusal
-of-call T (add w) = of-held T or-else of-new T w
-of-call T takeBack = of-held T or-else of-whole _ _
+of-call T (add w) = of-refusal heldMode T or-else of-new T w
+of-call T takeBack = of-refusal heldMode T or-else of-whole _ _
 
 -- ---- the answers pack
 
@@ -91,7 +68,7 @@ growth-packs (Found why p) S T f few = near-packs why p (f why p refl)
 
 pub begin-packs : (T : Tableau) → Packs (asVerdict (beginAnswer T))
 unfolding beginAnswer beginRefusal
-begin-packs T = growth-packs (heldRefusal (begun T)) (begun T) (begun T) (of-held (begun T)) (λ e. held-clears (begun T) .0 e .tables .nodeLimit)
+begin-packs T = growth-packs (refusal heldMode (begun T)) (begun T) (begun T) (of-refusal heldMode (begun T)) (λ e. held-clears (begun T) .0 e .tables .nodeLimit)
 
 pub call-packs : (T : Tableau) (call : Call) → Packs (asVerdict (answered T call))
 unfolding answered

@@ -1,16 +1,16 @@
 -- What is found of the rows held rests on these rows alone: two states that agree in them find the same.
-use Prim.Native.Nat.{ℕ, suc, _*_, _<_, _≤_}
+use Prim.Native.Nat.{ℕ, suc, _<_}
 use native.Mathlib.Omega.{arith}
 use mathlib.Core.Path.{_≡_, refl, sym, _∙_, ap, ap₂, subst}
-use mathlib.Core.Bool.{Bool, true}
+use mathlib.Core.Bool.{Bool, true, false}
 use lib.Dec.{leb}
-use lib.IntN.{ℤ, pos}
+use lib.IntN.{pos}
 use lib.ListN.{length}
 use lib.Signed.{leZ}
-use Rattle.stab.specs.Basic.{_and_, _otherwise_, scan}
+use Rattle.stab.specs.Basic.{_implies_, _otherwise_, scan}
 use Rattle.stab.specs.Node.{Tableau, rows, rowCount, setEnd, childCount, childCountOf}
-use Rattle.stab.specs.Rule.{rule}
-use Rattle.stab.specs.Check.{wholeUnless, atUnless, holds, setRefusal, parentRefusal, stepRefusal, tablesHold, withinLimits, refusalBy, presentFormulas}
+use Rattle.stab.specs.Rule.{childrenHeld, childrenAs}
+use Rattle.stab.specs.Check.{wholeUnless, atUnless, holds, formulasRefusal, setRefusal, parentRefusal, nodeRefusal, tablesHold, withinLimits, enoughNodes, refusal, heldMode}
 use Rattle.stab.specs.Keeps.{KeepsSet, KeepsParent}
 use Rattle.stab.specs.declared.Refusal.{Refusal}
 use Rattle.stab.specs.declared.Refusal.the-variants.{TableTooShort, TooMany, Children}
@@ -21,7 +21,6 @@ use Rattle.stab.proofs.Bools.{same-test, unless-nothing, nothing-unless, otherw
 use Rattle.stab.proofs.Scans.{scan-same, nothing-scan}
 use Rattle.stab.proofs.Whole.{leZ-of}
 use Rattle.stab.proofs.Exactness.Nodes.{set-clears, parent-clears}
-use Rattle.growing.specs.Growing.{childrenHeld, heldNodeRefusal, heldRefusal}
 use Rattle.growing.proofs.Local.{Alike, step-same}
 use Rattle.growing.proofs.Held.{set-kept, parent-kept, rule-same, counted-same}
 
@@ -93,8 +92,8 @@ module _ {S T : Tableau} (G : Agree S T) where
       (λ e. parent-clears S j .1 (parent-kept (B .alike) j (below j h) (parent-clears T j .0 e)))
       (λ e. parent-clears T j .1 (parent-kept (G .alike) j h (parent-clears S j .0 e)))
 
-  node-same : (j : ℕ) → j < S .nodeRows → KeepsParent S j → heldNodeRefusal T j ≡ heldNodeRefusal S j
-  unfolding heldNodeRefusal childrenHeld childCount
+  node-same : (j : ℕ) → j < S .nodeRows → KeepsParent S j → nodeRefusal false T j ≡ nodeRefusal false S j
+  unfolding nodeRefusal childrenAs childrenHeld childCount
   node-same j h p =
       ap₂ (λ (x : Finding) (b : Bool). x otherwise atUnless b Children j) (step-same (G .alike) j h p)
       (ap₂ leb (ap (λ (n : ℕ). childCountOf (T .nodes) n j) (G .nodeRows) ∙ counted-same (G .alike) j (S .nodeRows) (omega arith)) (ap (λ (r : Rule). r .children) (rule-same (G .alike) j h)))
@@ -107,15 +106,15 @@ module _ {S T : Tableau} (G : Agree S T) where
   unfolding withinLimits rowCount
   limits-same = rw (G .alike .schemaRows, G .alike .proofRows, G .nodeRows, G .memberCount)
 
-  formulas-same : presentFormulas T ≡ presentFormulas S
-  unfolding presentFormulas rows rowCount
+  formulas-same : formulasRefusal false (rows T) (rowCount T) (T .schemaRows) (T .root) (T .least) ≡ formulasRefusal false (rows S) (rowCount S) (S .schemaRows) (S .root) (S .least)
+  unfolding rows rowCount
   formulas-same = rw (G .alike .schema, G .alike .schemaRows, G .alike .proof, G .alike .proofRows, G .alike .root, G .alike .least)
 
   scanned : (f g : ℕ → Finding) → ((j : ℕ) → j < S .nodeRows → f j ≡ g j) → scan f (T .nodeRows) ≡ scan g (S .nodeRows)
   scanned f g h = ap (scan f) (G .nodeRows) ∙ scan-same f g (S .nodeRows) (λ j l e. h j l)
 
-  pub held-same : heldRefusal T ≡ heldRefusal S
-  unfolding heldRefusal refusalBy
+  pub held-same : refusal heldMode T ≡ refusal heldMode S
+  unfolding refusal heldMode enoughNodes _implies_
   held-same =
       otherwise-both (ap (λ (b : Bool). wholeUnless b TableTooShort) tables-same)
       (λ a. otherwise-both (ap (λ (b : Bool). wholeUnless b TooMany) limits-same)

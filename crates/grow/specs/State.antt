@@ -1,4 +1,4 @@
--- The lent memory as a state of specs/Growing: the tables, with the numbers of rows and members that are held.
+-- A row as it is lent and laid behind the rows held, and the nodes alone.
 use Prim.Native.Nat.{ℕ, suc, _+_, _*_, _<_, _≤_}
 use mathlib.Core.Path.{_≡_}
 use mathlib.Core.Bool.{true}
@@ -8,13 +8,14 @@ use lib.ListN.{length, getD}
 use lib.Seq.{sets}
 use Rattle.stab.specs.Basic.{within, below}
 use Rattle.stab.specs.Node.{Tableau, nodeAt}
-use Rattle.branch.specs.Work.{tableau}
+use Rattle.stab.specs.Lent.{lent, header}
+use Rattle.stab.specs.Check.{linkCount}
+use Rattle.stab.specs.declared.Header.{Header}
 use Rattle.branch.specs.Parents.{AllUpFit}
 use Rattle.growing.specs.Growing.{NodeRow, nodeNumbers}
-
-unfoldable pub state : List ℤ → ℕ → List ℤ → ℕ → ℤ → ℤ → List ℤ → List ℤ → List ℕ → Tableau
-state schema s proof p root least nodes members held =
-    tableau schema s proof p root least nodes (getD held 0 0) members (getD held 1 0)
+use Rattle.growing.specs.Complete.{complete}
+use Rattle.growing.specs.declared.Growth.{Growth}
+use Rattle.growing.specs.declared.Growth.the-variants.{Held}
 
 -- a node row, from its seven numbers and its set
 unfoldable pub rowFrom : List ℤ → List ℤ → NodeRow
@@ -45,12 +46,16 @@ grown T w = record {
 }
 
 -- nodes alone
-unfoldable pub nodesOnly : List ℤ → ℕ → Tableau
-nodesOnly nodes k = tableau [] 0 [] 0 (pos 0) (pos 0) nodes k [] 0
+abbrev pub nodesOnly : List ℤ → ℕ → Tableau
+nodesOnly nodes k = lent [] [] nodes [] (header 0 0 (pos 0) (pos 0) k 0)
 
--- what is known of k nodes when their children are counted
-pub record Countable (nodes : List ℤ) (k : ℕ) (least : ℤ) : Type 0 where
-  pub few : k ≤ 1024
-  pub leastFits : within (pos 0) (pos 9999) least ≡ true
-  pub parents : AllUpFit nodes k
-  pub rules : (j : ℕ) → j < k → below 9 (nodeAt nodes j .rule) ≡ true
+-- what is shown of them
+unfoldable pub shown : List ℤ → ℕ → Growth
+shown nodes k = Held k (linkCount (nodesOnly nodes k)) (complete (nodesOnly nodes k))
+
+-- what is known of them when their children are counted
+pub record Countable (nodes : List ℤ) (h : Header) : Type 0 where
+  pub few : h .«node_rows» ≤ 1024
+  pub leastFits : within (pos 0) (pos 9999) (h .least) ≡ true
+  pub parents : AllUpFit nodes (h .«node_rows»)
+  pub rules : (j : ℕ) → j < h .«node_rows» → below 9 (nodeAt nodes j .rule) ≡ true

@@ -5,28 +5,24 @@ mod row;
 use branch::links::links;
 use branch::node;
 use growing::Growth;
+use growing::Reply;
 use stab::Finding;
+use stab::Header;
 use stab::Place;
 use stab::Refusal;
 use tableau::check;
 ghost use mathlib.Core.Path.{_≡_};
-ghost use mathlib.Core.List.{[], _∷_};
-ghost use Prim.Native.Nat.{_+_, _*_, _<_, _≤_, suc};
+ghost use Prim.Native.Nat.{_+_, _*_, _≤_, suc};
 ghost use lib.Dec.{leb, ltb};
 ghost use lib.IntN.{pos};
 ghost use lib.ListN.{length, take};
-ghost use Rattle.stab.specs.Basic.{if_then_else_, _and_, count, _otherwise_};
-ghost use Rattle.stab.specs.Node.{Tableau};
-ghost use Rattle.stab.specs.Check.{isLink};
+ghost use Rattle.stab.specs.Basic.{_and_};
+ghost use Rattle.stab.specs.Lent.{lent};
 ghost use Rattle.stab.specs.Text.{padded};
-ghost use Rattle.stab.specs.declared.Verdict.the-variants.{Refused};
-ghost use Rattle.stab.specs.declared.Finding.the-variants.{Nothing, Found};
-ghost use Rattle.branch.specs.Work.{tableau};
-ghost use Rattle.growing.specs.Complete.{complete};
-ghost use Rattle.growing.specs.Growing.{heldRefusal, growthBy, begun, beginAnswer, answered, after, takeBack};
+ghost use Rattle.growing.specs.Growing.{turnedAway, tried, begun, beginAnswer, answered, after, takeBack};
 ghost use Rattle.growing.specs.Growing.{add as addRow};
-ghost use Rattle.growing.specs.declared.Growth.the-variants.{Held};
-ghost use Rattle.grow.specs.State.{state, rowFrom, nodesOnly, Countable};
+ghost use Rattle.growing.specs.Lent.{holdingIn, headerAfter, replyOf};
+ghost use Rattle.grow.specs.State.{rowFrom, shown, Countable};
 ghost use Rattle.grow.specs.Moved.{placed};
 
 // 24: there is room for one more row, with a set of `size`, in tables of these lengths.
@@ -59,116 +55,107 @@ fn place_of(why: Refusal, place: Place, n: usize) -> Place
     }
 }
 
-// The rows held are refused, or else the call. Rows that are refused are not closed.
+// The same formula rows, with n rows and m members held.
+fn holding(mut h: Header, n: usize, m: usize) -> Header
+    ensures { λ r. ⌜ r ≡ holdingIn h n m ⌝ }
+{
+    h.node_rows = n;
+    h.member_count = m;
+    h
+}
+
+// An answer, with what is held.
+fn reply(h: Header, answer: Growth) -> Reply
+    ensures { λ r. ⌜ r ≡ replyOf h answer ⌝ }
+{
+    Reply {
+        answer,
+        node_rows: h.node_rows,
+        member_count: h.member_count,
+    }
+}
+
+// The rows held are refused, or else the call; they stay as they stood. Rows that are refused are not closed.
 pub fn turn_away(
     schema: &[i32],
-    schema_rows: usize,
     proof: &[i32],
-    proof_rows: usize,
-    root: i32,
-    least: i32,
     nodes: &[i32],
-    n: usize,
     members: &[i32],
-    m: usize,
+    h: Header,
     why: Refusal,
     place: Place,
-) -> Growth
-    ensures { λ r. ⌜ ((U : Tableau) → r ≡ growthBy (heldRefusal (tableau (now (schema .entry)) «schema_rows» (now (proof .entry)) «proof_rows» root least (now (nodes .entry)) n (now (members .entry)) m) otherwise Found why place) (tableau (now (schema .entry)) «schema_rows» (now (proof .entry)) «proof_rows» root least (now (nodes .entry)) n (now (members .entry)) m) U) ⌝ }
+) -> Reply
+    ensures { λ r. ⌜ r ≡ replyOf h (turnedAway (lent (now (schema .entry)) (now (proof .entry)) (now (nodes .entry)) (now (members .entry)) h) why place) ⌝ }
 {
-    match check::held(
-        schema,
-        schema_rows,
-        proof,
-        proof_rows,
-        root,
-        least,
-        nodes,
-        n,
-        members,
-        m,
-    ) {
-        Finding::Found { why: w, place: p } => Growth::Refused {
-            why: w,
-            place: p,
-            closed: false,
-        },
+    match check::held(schema, proof, nodes, members, h) {
+        Finding::Found { why: w, place: p } => reply(
+            h,
+            Growth::Refused {
+                why: w,
+                place: p,
+                closed: false,
+            },
+        ),
         Finding::Nothing => {
-            let closed = children::complete(nodes, n, least);
-            Growth::Refused { why, place, closed }
+            let closed = children::complete(nodes, h);
+            reply(h, Growth::Refused { why, place, closed })
         }
     }
 }
 
-// What is shown of k rows that have passed.
-fn show(nodes: &[i32], k: usize, least: i32) -> Growth
-    requires { ⌜ Countable (now nodes) k least ⌝ }
-    ensures { λ r. ⌜ r ≡ Held k (count (isLink (now (nodes .entry))) k) (complete (nodesOnly (now (nodes .entry)) k)) ⌝ }
+// What is shown of rows that have passed.
+fn show(nodes: &[i32], h: Header) -> Growth
+    requires { ⌜ Countable (now nodes) h ⌝ }
+    ensures { λ r. ⌜ r ≡ shown (now (nodes .entry)) (h .«node_rows») ⌝ }
 {
     Growth::Held {
-        nodes: k,
-        links: links(nodes, k),
-        closed: children::complete(nodes, k, least),
+        nodes: h.node_rows,
+        links: links(nodes, h.node_rows),
+        closed: children::complete(nodes, h),
     }
 }
 
-// k rows and m members are held, and shown.
-fn settle(
-    nodes: &mut [i32],
-    k: usize,
-    members: &mut [i32],
-    m: usize,
-    held: &mut [usize; 2],
-    least: i32,
-) -> Growth
-    requires { ⌜ (9 * k ≤ length (now nodes)) × (m ≤ length (now members)) × Countable (padded (pos 0) (length (now nodes)) (take (9 * k) (now nodes))) k least ⌝ }
-    ensures { λ r. ⌜ r ≡ Held k (count (isLink (now (nodes .exit))) k) (complete (nodesOnly (now (nodes .exit)) k)) ⌝ }
-    ensures { λ r. ⌜ now (nodes .exit) ≡ padded (pos 0) (length (now (nodes .entry))) (take (9 * k) (now (nodes .entry))) ⌝ }
-    ensures { λ r. ⌜ now (members .exit) ≡ padded (pos 0) (length (now (members .entry))) (take m (now (members .entry))) ⌝ }
-    ensures { λ r. ⌜ now (held .exit) ≡ k ∷ m ∷ [] ⌝ }
+// The rows and members that h counts are held, and shown.
+fn settle(nodes: &mut [i32], members: &mut [i32], h: Header) -> Reply
+    requires { ⌜ (9 * h .«node_rows» ≤ length (now nodes)) × (h .«member_count» ≤ length (now members)) × Countable (padded (pos 0) (length (now nodes)) (take (9 * h .«node_rows») (now nodes))) h ⌝ }
+    ensures { λ r. ⌜ r ≡ replyOf h (shown (now (nodes .exit)) (h .«node_rows»)) ⌝ }
+    ensures { λ r. ⌜ now (nodes .exit) ≡ padded (pos 0) (length (now (nodes .entry))) (take (9 * h .«node_rows») (now (nodes .entry))) ⌝ }
+    ensures { λ r. ⌜ now (members .exit) ≡ padded (pos 0) (length (now (members .entry))) (take (h .«member_count») (now (members .entry))) ⌝ }
 {
-    row::hold(nodes, k, members, m, held);
-    show(nodes, k, least)
+    row::hold(nodes, h.node_rows, members, h.member_count);
+    reply(h, show(nodes, h))
 }
 
 // Formula rows are given: no node is held then, and the tables are 0.
 pub fn begin(
     schema: &[i32],
-    schema_rows: usize,
     proof: &[i32],
-    proof_rows: usize,
-    root: i32,
-    least: i32,
     nodes: &mut [i32],
     members: &mut [i32],
-    held: &mut [usize; 2],
-) -> Growth
-    ensures answer { λ r. ⌜ r ≡ beginAnswer (state (now (schema .entry)) «schema_rows» (now (proof .entry)) «proof_rows» root least (now (nodes .entry)) (now (members .entry)) (now (held .entry))) ⌝ }
-    ensures left { λ r. ⌜ state (now (schema .entry)) «schema_rows» (now (proof .entry)) «proof_rows» root least (now (nodes .exit)) (now (members .exit)) (now (held .exit)) ≡ begun (state (now (schema .entry)) «schema_rows» (now (proof .entry)) «proof_rows» root least (now (nodes .entry)) (now (members .entry)) (now (held .entry))) ⌝ }
+    h: Header,
+) -> Reply
+    ensures answer { λ r. ⌜ r .answer ≡ beginAnswer (lent (now (schema .entry)) (now (proof .entry)) (now (nodes .entry)) (now (members .entry)) h) ⌝ }
+    ensures left { λ r. ⌜ lent (now (schema .entry)) (now (proof .entry)) (now (nodes .exit)) (now (members .exit)) (headerAfter h r) ≡ begun (lent (now (schema .entry)) (now (proof .entry)) (now (nodes .entry)) (now (members .entry)) h) ⌝ }
 {
-    row::hold(nodes, 0, members, 0, held);
-    match check::held(
-        schema,
-        schema_rows,
-        proof,
-        proof_rows,
-        root,
-        least,
-        nodes,
-        0,
-        members,
-        0,
-    ) {
-        Finding::Found { why, place } => Growth::Refused {
-            why,
-            place,
-            closed: false,
-        },
-        Finding::Nothing => Growth::Held {
-            nodes: 0,
-            links: 0,
-            closed: false,
-        },
+    row::hold(nodes, 0, members, 0);
+    let none = holding(h, 0, 0);
+    match check::held(schema, proof, nodes, members, none) {
+        Finding::Found { why, place } => reply(
+            none,
+            Growth::Refused {
+                why,
+                place,
+                closed: false,
+            },
+        ),
+        Finding::Nothing => reply(
+            none,
+            Growth::Held {
+                nodes: 0,
+                links: 0,
+                closed: false,
+            },
+        ),
     }
 }
 
@@ -177,34 +164,25 @@ pub fn begin(
 pub fn try_row(
     keep: bool,
     schema: &[i32],
-    schema_rows: usize,
     proof: &[i32],
-    proof_rows: usize,
-    root: i32,
-    least: i32,
     nodes: &mut [i32],
     members: &mut [i32],
-    held: &mut [usize; 2],
+    h: Header,
     row: &[i32],
     set: &[i32],
-) -> Growth
-    ensures answer { λ r. ⌜ r ≡ answered (state (now (schema .entry)) «schema_rows» (now (proof .entry)) «proof_rows» root least (now (nodes .entry)) (now (members .entry)) (now (held .entry))) (addRow (rowFrom (now (row .entry)) (now (set .entry)))) ⌝ }
-    ensures left { λ r. ⌜ state (now (schema .entry)) «schema_rows» (now (proof .entry)) «proof_rows» root least (now (nodes .exit)) (now (members .exit)) (now (held .exit)) ≡ (if keep then after (state (now (schema .entry)) «schema_rows» (now (proof .entry)) «proof_rows» root least (now (nodes .entry)) (now (members .entry)) (now (held .entry))) (addRow (rowFrom (now (row .entry)) (now (set .entry)))) else state (now (schema .entry)) «schema_rows» (now (proof .entry)) «proof_rows» root least (now (nodes .entry)) (now (members .entry)) (now (held .entry))) ⌝ }
+) -> Reply
+    ensures answer { λ r. ⌜ r .answer ≡ answered (lent (now (schema .entry)) (now (proof .entry)) (now (nodes .entry)) (now (members .entry)) h) (addRow (rowFrom (now (row .entry)) (now (set .entry)))) ⌝ }
+    ensures left { λ r. ⌜ lent (now (schema .entry)) (now (proof .entry)) (now (nodes .exit)) (now (members .exit)) (headerAfter h r) ≡ tried keep (lent (now (schema .entry)) (now (proof .entry)) (now (nodes .entry)) (now (members .entry)) h) (rowFrom (now (row .entry)) (now (set .entry))) ⌝ }
 {
-    let n = held[0];
-    let m = held[1];
+    let n = h.node_rows;
+    let m = h.member_count;
     if !room(nodes.len(), n, members.len(), m, set.len()) {
         return turn_away(
             schema,
-            schema_rows,
             proof,
-            proof_rows,
-            root,
-            least,
             nodes,
-            n,
             members,
-            m,
+            h,
             Refusal::Room,
             Place::Whole,
         );
@@ -221,40 +199,25 @@ pub fn try_row(
         &mut saved_node,
         &mut saved_set,
     );
-    match check::held(
-        schema,
-        schema_rows,
-        proof,
-        proof_rows,
-        root,
-        least,
-        nodes,
-        n + 1,
-        members,
-        m + set.len(),
-    ) {
+    let more = holding(h, n + 1, m + set.len());
+    match check::held(schema, proof, nodes, members, more) {
         Finding::Nothing => {
             if keep {
-                return settle(nodes, n + 1, members, m + set.len(), held, least);
+                return settle(nodes, members, more);
             }
-            let r = show(nodes, n + 1, least);
+            let answer = show(nodes, more);
             let size = set.len();
             row::put_back(nodes, n, members, m, size, &saved_node, &saved_set);
-            r
+            reply(h, answer)
         }
         Finding::Found { why, place } => {
             row::put_back(nodes, n, members, m, set.len(), &saved_node, &saved_set);
             turn_away(
                 schema,
-                schema_rows,
                 proof,
-                proof_rows,
-                root,
-                least,
                 nodes,
-                n,
                 members,
-                m,
+                h,
                 why,
                 place_of(why, place, n),
             )
@@ -265,89 +228,54 @@ pub fn try_row(
 // A node row is added at the end.
 pub fn add(
     schema: &[i32],
-    schema_rows: usize,
     proof: &[i32],
-    proof_rows: usize,
-    root: i32,
-    least: i32,
     nodes: &mut [i32],
     members: &mut [i32],
-    held: &mut [usize; 2],
+    h: Header,
     row: &[i32],
     set: &[i32],
-) -> Growth
-    ensures answer { λ r. ⌜ r ≡ answered (state (now (schema .entry)) «schema_rows» (now (proof .entry)) «proof_rows» root least (now (nodes .entry)) (now (members .entry)) (now (held .entry))) (addRow (rowFrom (now (row .entry)) (now (set .entry)))) ⌝ }
-    ensures left { λ r. ⌜ state (now (schema .entry)) «schema_rows» (now (proof .entry)) «proof_rows» root least (now (nodes .exit)) (now (members .exit)) (now (held .exit)) ≡ after (state (now (schema .entry)) «schema_rows» (now (proof .entry)) «proof_rows» root least (now (nodes .entry)) (now (members .entry)) (now (held .entry))) (addRow (rowFrom (now (row .entry)) (now (set .entry)))) ⌝ }
+) -> Reply
+    ensures answer { λ r. ⌜ r .answer ≡ answered (lent (now (schema .entry)) (now (proof .entry)) (now (nodes .entry)) (now (members .entry)) h) (addRow (rowFrom (now (row .entry)) (now (set .entry)))) ⌝ }
+    ensures left { λ r. ⌜ lent (now (schema .entry)) (now (proof .entry)) (now (nodes .exit)) (now (members .exit)) (headerAfter h r) ≡ after (lent (now (schema .entry)) (now (proof .entry)) (now (nodes .entry)) (now (members .entry)) h) (addRow (rowFrom (now (row .entry)) (now (set .entry)))) ⌝ }
 {
-    try_row(
-        true,
-        schema,
-        schema_rows,
-        proof,
-        proof_rows,
-        root,
-        least,
-        nodes,
-        members,
-        held,
-        row,
-        set,
-    )
+    try_row(true, schema, proof, nodes, members, h, row, set)
 }
 
 // The last row is taken back. Its set stands at the end of the members.
 pub fn take_back(
     schema: &[i32],
-    schema_rows: usize,
     proof: &[i32],
-    proof_rows: usize,
-    root: i32,
-    least: i32,
     nodes: &mut [i32],
     members: &mut [i32],
-    held: &mut [usize; 2],
-) -> Growth
-    ensures answer { λ r. ⌜ r ≡ answered (state (now (schema .entry)) «schema_rows» (now (proof .entry)) «proof_rows» root least (now (nodes .entry)) (now (members .entry)) (now (held .entry))) takeBack ⌝ }
-    ensures left { λ r. ⌜ state (now (schema .entry)) «schema_rows» (now (proof .entry)) «proof_rows» root least (now (nodes .exit)) (now (members .exit)) (now (held .exit)) ≡ after (state (now (schema .entry)) «schema_rows» (now (proof .entry)) «proof_rows» root least (now (nodes .entry)) (now (members .entry)) (now (held .entry))) takeBack ⌝ }
+    h: Header,
+) -> Reply
+    ensures answer { λ r. ⌜ r .answer ≡ answered (lent (now (schema .entry)) (now (proof .entry)) (now (nodes .entry)) (now (members .entry)) h) takeBack ⌝ }
+    ensures left { λ r. ⌜ lent (now (schema .entry)) (now (proof .entry)) (now (nodes .exit)) (now (members .exit)) (headerAfter h r) ≡ after (lent (now (schema .entry)) (now (proof .entry)) (now (nodes .entry)) (now (members .entry)) h) takeBack ⌝ }
 {
-    let n = held[0];
-    let m = held[1];
+    let n = h.node_rows;
     if n == 0 {
         return turn_away(
             schema,
-            schema_rows,
             proof,
-            proof_rows,
-            root,
-            least,
             nodes,
-            n,
             members,
-            m,
+            h,
             Refusal::NoRow,
             Place::Whole,
         );
     }
-    match check::held(
-        schema,
-        schema_rows,
-        proof,
-        proof_rows,
-        root,
-        least,
-        nodes,
-        n,
-        members,
-        m,
-    ) {
-        Finding::Found { why, place } => Growth::Refused {
-            why,
-            place,
-            closed: false,
-        },
+    match check::held(schema, proof, nodes, members, h) {
+        Finding::Found { why, place } => reply(
+            h,
+            Growth::Refused {
+                why,
+                place,
+                closed: false,
+            },
+        ),
         Finding::Nothing => {
             let start = node::natural_of(nodes, n - 1, node::START);
-            settle(nodes, n - 1, members, start, held, least)
+            settle(nodes, members, holding(h, n - 1, start))
         }
     }
 }

@@ -1,7 +1,6 @@
 // A node row behind the rows held: laid there, taken out again, and the tables cleared past the rows held.
 use tidy::node::copy;
 ghost use mathlib.Core.Path.{_≡_};
-ghost use mathlib.Core.List.{[], _∷_};
 ghost use Prim.Native.Nat.{_+_, _*_, _<_, _≤_};
 ghost use lib.IntN.{pos};
 ghost use lib.ListN.{length, take, drop};
@@ -80,13 +79,11 @@ pub fn put_back(
 }
 
 // k rows and m members are held, and the tables are 0 past them.
-pub fn hold(nodes: &mut [i32], k: usize, members: &mut [i32], m: usize, held: &mut [usize; 2])
+pub fn hold(nodes: &mut [i32], k: usize, members: &mut [i32], m: usize)
     requires { ⌜ (k ≤ 1024) × (9 * k ≤ length (now nodes)) × (m ≤ length (now members)) ⌝ }
     ensures { λ _. ⌜ now (nodes .exit) ≡ padded (pos 0) (length (now (nodes .entry))) (take (9 * k) (now (nodes .entry))) ⌝ }
     ensures { λ _. ⌜ now (members .exit) ≡ padded (pos 0) (length (now (members .entry))) (take m (now (members .entry))) ⌝ }
-    ensures { λ _. ⌜ now (held .exit) ≡ k ∷ m ∷ [] ⌝ }
 {
     signed::clear(nodes, 9 * k);
     signed::clear(members, m);
-    *held = [k, m];
 }

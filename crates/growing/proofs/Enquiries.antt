@@ -12,7 +12,7 @@ use lib.ListN.{length, replicate}
 use lib.Seq.{take-append-seam}
 use Rattle.stab.specs.Basic.{_and_, eqZ, within, nat, _otherwise_}
 use Rattle.stab.specs.Node.{Tableau, rowCount, set}
-use Rattle.stab.specs.Check.{wholeUnless, linkCount, check}
+use Rattle.stab.specs.Check.{wholeUnless, refusal, heldMode, linkCount, check}
 use Rattle.stab.specs.Text.{padded}
 use Rattle.stab.specs.declared.Place.the-variants.{Whole}
 use Rattle.stab.specs.declared.Refusal.the-variants.{Waiting}
@@ -22,7 +22,7 @@ use Rattle.stab.specs.declared.Finding.the-variants.{Found, Nothing}
 use Rattle.stab.proofs.Bools.{and-both, unless-nothing, nothing-unless, found-unless, otherwise-first, otherwise-second, otherwise-nothing, otherwise-found}
 use Rattle.stab.proofs.Whole.{num, le-of}
 use Rattle.tidied.proofs.Sets.{few}
-use Rattle.growing.specs.Growing.{heldRefusal, NodeRow, holding, added, newRefusal, addRefusal, shortened, takeBackRefusal, growthBy, leftBy, begun, beginRefusal, rowsHeld, firstRows, done, add, takeBack, shownNumber}
+use Rattle.growing.specs.Growing.{NodeRow, holding, added, newRefusal, addRefusal, shortened, takeBackRefusal, growthBy, leftBy, begun, beginRefusal, rowsHeld, firstRows, done, add, takeBack, shownNumber}
 use Rattle.growing.specs.Enquiry.{stored, nothingWaits, waits, waitingRow, Editor, EditorCall, enquire, commit, grow, commitRefusal, editorRefusal, spokenOf, editorAnswer, heldAfter, waitingAfter, waitingRefused, waitingBy, edited, shownOf, editedAll, opened, pendingAfter, pendingRefused, pendingBy, committed, doneEditing, doneEditingIf, pending, leaveEditing}
 use Rattle.growing.specs.declared.Growth.the-variants.{Held}
 use Rattle.growing.proofs.States.{Holds, held-clears, added-last}
@@ -75,14 +75,14 @@ Waits E (some w) = (E .waiting ≡ stored w) × (addRefusal (E .held) w ≡ Noth
 no-commit : (E : Editor) → E .waiting ≡ nothingWaits → commitRefusal E ≡ Nothing → ⊥
 unfolding commitRefusal wholeUnless
 no-commit E e ok =
-    true≢false (sym (unless-nothing (waits (E .waiting)) _ _ (otherwise-first _ _ (otherwise-second (heldRefusal (E .held)) _ ok))) ∙ ap waits e ∙ nothing-waits)
+    true≢false (sym (unless-nothing (waits (E .waiting)) _ _ (otherwise-first _ _ (otherwise-second (refusal heldMode (E .held)) _ ok))) ∙ ap waits e ∙ nothing-waits)
 
 -- the row that waits is committed as it was enquired about
 commits : (E : Editor) (w : NodeRow) → Waits E (some w) → commitRefusal E ≡ addRefusal (E .held) w
 unfolding commitRefusal wholeUnless addRefusal
 commits E w (e, ok) =
     let f : waits (E .waiting) ≡ true = ap waits e ∙ stored-waits w (accepted-few (E .held) w ok) in
-    ap (λ (x : Finding). heldRefusal (E .held) otherwise x) (otherwise-nothing _ _ (nothing-unless (waits (E .waiting)) _ _ f) ∙ ap (newRefusal (E .held)) (ap waitingRow e ∙ stored-row w))
+    ap (λ (x : Finding). refusal heldMode (E .held) otherwise x) (otherwise-nothing _ _ (nothing-unless (waits (E .waiting)) _ _ f) ∙ ap (newRefusal (E .held)) (ap waitingRow e ∙ stored-row w))
 
 committed-row : (E : Editor) (w : NodeRow) → Waits E (some w) → waitingRow (E .waiting) ≡ w
 committed-row E w (e, ok) = ap waitingRow e ∙ stored-row w
@@ -171,7 +171,7 @@ unfolding opened begun holding rowsHeld firstRows
 rows-edited T calls = all-left (opened T) none refl calls [] refl
 
 -- they pass the check, no node and missing children aside
-pub always-edited : (T : Tableau) → beginRefusal T ≡ Nothing → (calls : List EditorCall) → heldRefusal (editedAll (opened T) calls .held) ≡ Nothing
+pub always-edited : (T : Tableau) → beginRefusal T ≡ Nothing → (calls : List EditorCall) → refusal heldMode (editedAll (opened T) calls .held) ≡ Nothing
 unfolding opened beginRefusal
 always-edited T ok calls =
     held-clears (editedAll (opened T) calls .held) .1 (all-held (opened T) none (held-clears (begun T) .0 ok) refl calls .0)
@@ -232,11 +232,11 @@ commit-26 T ok calls e =
     let E = editedAll (opened T) calls in
     let h = all-held (opened T) none (held-clears (begun T) .0 ok) refl calls in
     let g : Waits E none = subst (Waits E) e (h .1) in
-    otherwise-nothing (heldRefusal (E .held)) _ (held-clears (E .held) .1 (h .0))
+    otherwise-nothing (refusal heldMode (E .held)) _ (held-clears (E .held) .1 (h .0))
     ∙ otherwise-found _ _ (found-unless (waits (E .waiting)) _ _ (ap waits g ∙ nothing-waits))
 
 -- "After 26 a waiting row is judged as by an enquiry, so one altered between calls gets its refusal."
 pub commit-judged : (E : Editor) → waits (E .waiting) ≡ true → commitRefusal E ≡ addRefusal (E .held) (waitingRow (E .waiting))
 unfolding commitRefusal wholeUnless addRefusal
 commit-judged E f =
-    ap (λ (x : Finding). heldRefusal (E .held) otherwise x) (otherwise-nothing _ _ (nothing-unless (waits (E .waiting)) _ _ f))
+    ap (λ (x : Finding). refusal heldMode (E .held) otherwise x) (otherwise-nothing _ _ (nothing-unless (waits (E .waiting)) _ _ f))

@@ -1,19 +1,19 @@
 -- 02, No. 7: the rows held are those that the accepted calls leave, and "closed" is shown exactly when the whole check accepts them.
-use Prim.Native.Nat.{ℕ, zero, suc, _+_, _-_, _<_, _≤_}
+use Prim.Native.Nat.{ℕ, zero, suc, _-_, _<_, _≤_}
 use native.Mathlib.Omega.{arith}
 use mathlib.Core.Path.{_≡_, refl, sym, _∙_, ap, ap₂, subst}
 use mathlib.Core.Logic.{_↔_, ⊎-elim, Iff·trans}
 use mathlib.Core.Bool.{Bool, true, false, false≢true}
 use mathlib.Core.List.{List, [], _∷_, _++_}
-use lib.Dec.{leb, ltb}
-use lib.IntN.{ℤ, pos}
+use lib.Dec.{ltb}
+use lib.IntN.{ℤ}
 use lib.ListN.{length, take, length-append}
-use lib.Seq.{take-append-le, take-all, take-length, take-append-seam}
+use lib.Seq.{take-append-seam}
 use borrow.Author.Tests.{le-leb, ltb-true, lt-ltb, eq-eqb}
-use Rattle.stab.specs.Basic.{if_then_else_, _and_}
+use Rattle.stab.specs.Basic.{if_then_else_}
 use Rattle.stab.specs.Node.{Tableau, Node, node, set, childCount}
-use Rattle.stab.specs.Rule.{rule, childrenFit}
-use Rattle.stab.specs.Check.{wholeUnless, atUnless, stepRefusal, nodeRefusal, linkCount, check}
+use Rattle.stab.specs.Rule.{rule, childrenFit, childrenHeld, childrenAs}
+use Rattle.stab.specs.Check.{wholeUnless, atUnless, stepRefusal, nodeRefusal, refusal, heldMode, linkCount, check}
 use Rattle.stab.specs.Keeps.{KeepsNode}
 use Rattle.stab.specs.declared.Verdict.{Verdict}
 use Rattle.stab.specs.declared.Verdict.the-variants.{Accepted, Refused}
@@ -25,12 +25,11 @@ use Rattle.stab.proofs.Bools.{same-test, and-left, and-right, and-both, otherwi
 use Rattle.stab.proofs.Scans.{below-suc}
 use Rattle.stab.proofs.Exactness.Steps.{step-clears}
 use Rattle.stab.proofs.Exactness.{accepts-exactly}
-use Rattle.growing.specs.Growing.{childrenHeld, heldNodeRefusal, heldRefusal, NodeRow, holding, added, newRefusal, roomFor, addRefusal, shortened, takeBackRefusal, begun, beginRefusal, isAccepted, closed, growthBy, leftBy, Call, add, takeBack, callRefusal, changed, answered, after, afterAll, beginAnswer, shownNumber, rowOf, firstRows, rowsHeld, withoutLast, done, doneIf, leave}
+use Rattle.growing.specs.Growing.{NodeRow, holding, added, newRefusal, addRefusal, shortened, takeBackRefusal, begun, beginRefusal, isAccepted, closed, growthBy, leftBy, Call, add, takeBack, callRefusal, changed, answered, after, afterAll, beginAnswer, shownNumber, rowOf, firstRows, rowsHeld, withoutLast, done, doneIf, leave}
 use Rattle.growing.specs.Complete.{childrenAll, complete}
-use Rattle.growing.specs.declared.Growth.{Growth}
-use Rattle.growing.specs.declared.Growth.the-variants.{Held, Refused as GrowthRefused}
+use Rattle.growing.specs.declared.Growth.the-variants.{Held}
 use Rattle.growing.proofs.Local.{Alike}
-use Rattle.growing.proofs.States.{Holds, held-clears, written, added-old, added-new, added-set, added-last, added-alike}
+use Rattle.growing.proofs.States.{Holds, held-clears, written, added-new, added-last, added-alike}
 use Rattle.growing.proofs.Held.{held-node, room, holds-added, shortened-alike, holds-shortened}
 
 -- ---- the rows of a state
@@ -57,7 +56,7 @@ module _ (T : Tableau) (w : NodeRow) (ok : addRefusal T w ≡ Nothing) where
 
   pub added-ok : newRefusal T w ≡ Nothing
   unfolding addRefusal
-  added-ok = otherwise-second (heldRefusal T) _ ok
+  added-ok = otherwise-second (refusal heldMode T) _ ok
 
   pub add-holds : Holds (added T w)
   add-holds = holds-added T added-holds w added-ok
@@ -81,7 +80,7 @@ module _ (T : Tableau) (ok : takeBackRefusal T ≡ Nothing) where
 
   pub some-row : 0 < T .nodeRows
   unfolding takeBackRefusal wholeUnless
-  some-row = ltb-true 0 (T .nodeRows) (unless-nothing (ltb 0 (T .nodeRows)) _ _ (otherwise-second (heldRefusal T) _ ok))
+  some-row = ltb-true 0 (T .nodeRows) (unless-nothing (ltb 0 (T .nodeRows)) _ _ (otherwise-second (refusal heldMode T) _ ok))
 
   -- the last one gone
   pub back-rows : rowsHeld (shortened T) ≡ withoutLast (rowsHeld T)
@@ -134,7 +133,7 @@ all-rows T [] ws e = e
 all-rows T (call ∷ calls) ws e = all-rows (after T call) calls _ (after-rows T call ∙ ap (doneIf (callRefusal T call) call) e)
 
 -- the rows held always pass the check, no node and missing children aside
-pub always-held : (T : Tableau) → beginRefusal T ≡ Nothing → (calls : List Call) → heldRefusal (afterAll (begun T) calls) ≡ Nothing
+pub always-held : (T : Tableau) → beginRefusal T ≡ Nothing → (calls : List Call) → refusal heldMode (afterAll (begun T) calls) ≡ Nothing
 unfolding beginRefusal
 always-held T ok calls = held-clears (afterAll (begun T) calls) .1 (all-hold (begun T) (held-clears (begun T) .0 ok) calls)
 
@@ -238,8 +237,8 @@ unfolding childrenAll
 fit-all T zero h = refl
 fit-all T (suc n) h = and-both _ _ (fit-all T n (λ j l. h j (omega arith))) (h n (omega arith))
 
-pub closed-is : (T : Tableau) → heldRefusal T ≡ Nothing → closed T ≡ complete T
-unfolding complete heldNodeRefusal nodeRefusal atUnless childrenFit
+pub closed-is : (T : Tableau) → refusal heldMode T ≡ Nothing → closed T ≡ complete T
+unfolding complete nodeRefusal atUnless childrenFit childrenAs
 closed-is T h = same-test _ _ (λ c. to (closed-counts T .0 c)) (λ c. closed-counts T .1 (from c))
   where
     H : Holds T
@@ -262,7 +261,7 @@ closed-is T h = same-test _ _ (λ c. to (closed-counts T .0 c)) (λ c. closed-co
         (record { older = record { tables = H .tables; formulas = H .formulas; hasNode = ltb-true 0 (T .nodeRows) (and-left _ _ c); nodes = node-kept c }; fresh = H .fresh }, refl, refl)
 
 -- rows that are refused are not closed
-closed-held : (T : Tableau) → closed T ≡ true → heldRefusal T ≡ Nothing
+closed-held : (T : Tableau) → closed T ≡ true → refusal heldMode T ≡ Nothing
 unfolding nodeRefusal childrenHeld
 closed-held T c =
     let k = accepts-exactly T (T .nodeRows) (linkCount T) .0 (closed-counts T .0 c) .0 in
@@ -278,7 +277,7 @@ closed-held T c =
           held-node T j (otherwise-first _ _ (step-clears T j .1 (v .drawn, v .step))) (le-leb (childCount T j) (rule T j .children) (omega (arith, v .step .children)));
     })
 
-pub refused-open : (T : Tableau) (why : Refusal) (p : Place) → heldRefusal T ≡ Found why p → closed T ≡ false
+pub refused-open : (T : Tableau) (why : Refusal) (p : Place) → refusal heldMode T ≡ Found why p → closed T ≡ false
 refused-open T why p e = by (closed T) refl
   where
     by : (b : Bool) → closed T ≡ b → closed T ≡ false

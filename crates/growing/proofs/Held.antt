@@ -2,34 +2,34 @@
 use Prim.Native.Nat.{ℕ, zero, suc, _+_, _*_, _-_, _<_, _≤_}
 use native.Mathlib.Omega.{arith}
 use mathlib.Core.Path.{_≡_, refl, sym, _∙_, ap, ap₂, subst}
-use mathlib.Core.Logic.{_⊎_, inl, inr, ⊎-elim}
+use mathlib.Core.Logic.{⊎-elim}
 use mathlib.Core.Bool.{Bool, true, false}
-use mathlib.Core.List.{List, [], _∷_, _++_, List·Memᴰ}
+use mathlib.Core.List.{List, [], _∷_, _++_}
 use lib.Dec.{leb, ltb}
-use lib.IntN.{ℤ, pos, negℤ, _+ℤ_, pos-ne-negsuc}
+use lib.IntN.{ℤ, pos, _+ℤ_, pos-ne-negsuc}
 use lib.Signed.{leZ}
 use lib.ListN.{length, take, drop, replicate, length-append, length-replicate}
 use lib.Seq.{length-take-le}
 use borrow.Author.Tests.{leb-true, le-leb, ltb-true}
-use Rattle.stab.specs.Basic.{if_then_else_, eqZ, _and_, nat, count}
+use Rattle.stab.specs.Basic.{if_then_else_, eqZ, nat, count}
 use Rattle.stab.specs.Node.{Tableau, Node, rows, rowCount, formula, nodeAt, node, setOf, set, setStart, setEnd, names, childCountOf, childCount}
-use Rattle.stab.specs.Rule.{rule, ruleOf}
-use Rattle.stab.specs.Check.{wholeUnless, atUnless, setRefusal, parentRefusal, stepRefusal}
-use Rattle.stab.specs.Keeps.{Below, OuterRow, KeepsSet, KeepsParent, KeepsTables}
+use Rattle.stab.specs.Rule.{rule, ruleOf, childrenHeld, childrenAs}
+use Rattle.stab.specs.Check.{wholeUnless, atUnless, setRefusal, parentRefusal, stepRefusal, nodeRefusal}
+use Rattle.stab.specs.Keeps.{OuterRow, KeepsSet, KeepsParent, KeepsTables}
 use Rattle.stab.specs.Text.{padded}
 use Rattle.stab.specs.declared.Rule.{Rule}
 use Rattle.stab.specs.declared.Finding.the-variants.{Nothing}
-use Rattle.stab.proofs.Bools.{decide, and-left, and-right, if-true, if-false, unless-nothing, nothing-unless, otherwise-first, otherwise-second, otherwise-nothing}
-use Rattle.stab.proofs.Whole.{atom, num, of-le, le-of, leZ-of, of-leZ, eqZ-true, eqZ-not, nat-pos, pos-injective}
+use Rattle.stab.proofs.Bools.{and-left, and-right, if-false, unless-nothing, nothing-unless, otherwise-first, otherwise-second, otherwise-nothing}
+use Rattle.stab.proofs.Whole.{atom, num, of-le, le-of, leZ-of, of-leZ, eqZ-true, eqZ-not, pos-injective}
 use Rattle.stab.proofs.Trees.{below-nat, below-pos}
 use Rattle.stab.proofs.Tests.{below-tests}
-use Rattle.stab.proofs.Scans.{below-suc, count-le}
+use Rattle.stab.proofs.Scans.{below-suc}
 use Rattle.stab.proofs.Exactness.Nodes.{set-clears, parent-clears}
 use Rattle.tidied.proofs.Agreeing.{count-same, count-none}
 use Rattle.tidied.proofs.Tables.{nodeAt-front, slice-front, slice-take, start-pos, size-pos, set-within}
-use Rattle.growing.specs.Growing.{childrenHeld, heldNodeRefusal, NodeRow, nodeNumbers, holding, added, roomFor, beyondRefusal, addedRefusal, newRefusal, shortened}
+use Rattle.growing.specs.Growing.{NodeRow, nodeNumbers, holding, added, roomFor, beyondRefusal, addedRefusal, newRefusal, shortened}
 use Rattle.growing.proofs.Local.{Alike, count-same as rows-counted, step-same}
-use Rattle.growing.proofs.States.{Holds, nodeAt-take, written, added-old, added-new, added-set, added-last, added-alike}
+use Rattle.growing.proofs.States.{Holds, nodeAt-take, added-alike}
 
 -- ---- lengths
 
@@ -92,16 +92,16 @@ count-more p n = go (p n)
     go false = omega arith
 
 -- nothing is found of a node, missing children aside
-pub held-node : (T : Tableau) (j : ℕ) → stepRefusal T j ≡ Nothing → childrenHeld T j ≡ true → heldNodeRefusal T j ≡ Nothing
-unfolding heldNodeRefusal atUnless
+pub held-node : (T : Tableau) (j : ℕ) → stepRefusal T j ≡ Nothing → childrenHeld T j ≡ true → nodeRefusal false T j ≡ Nothing
+unfolding nodeRefusal atUnless childrenAs
 held-node T j s c = otherwise-nothing (stepRefusal T j) _ s ∙ nothing-unless (childrenHeld T j) _ _ c
 
-pub held-step : (T : Tableau) (j : ℕ) → heldNodeRefusal T j ≡ Nothing → stepRefusal T j ≡ Nothing
-unfolding heldNodeRefusal
+pub held-step : (T : Tableau) (j : ℕ) → nodeRefusal false T j ≡ Nothing → stepRefusal T j ≡ Nothing
+unfolding nodeRefusal
 held-step T j h = otherwise-first _ _ h
 
-pub held-children : (T : Tableau) (j : ℕ) → heldNodeRefusal T j ≡ Nothing → childrenHeld T j ≡ true
-unfolding heldNodeRefusal atUnless
+pub held-children : (T : Tableau) (j : ℕ) → nodeRefusal false T j ≡ Nothing → childrenHeld T j ≡ true
+unfolding nodeRefusal atUnless childrenAs
 held-children T j h = unless-nothing (childrenHeld T j) _ _ (otherwise-second (stepRefusal T j) _ h)
 
 -- a node's parent is not a later node
@@ -229,7 +229,7 @@ module _ (T : Tableau) (H : Holds T) where
       fresh = H .fresh;
       sets = λ j h. at-last j h (KeepsSet (added T w)) (old-set w room) new-set;
       parents = λ j h. at-last j h (KeepsParent (added T w)) (old-parent w room) new-parent;
-      steps = λ j h. at-last j h (λ i. heldNodeRefusal (added T w) i ≡ Nothing) (λ i l. held-node (added T w) i (old-step w room i l) (old-children i l)) (held-node (added T w) (T .nodeRows) new-step (new-children w room new-parent));
+      steps = λ j h. at-last j h (λ i. nodeRefusal false (added T w) i ≡ Nothing) (λ i l. held-node (added T w) i (old-step w room i l) (old-children i l)) (held-node (added T w) (T .nodeRows) new-step (new-children w room new-parent));
     }
       where
         at-last : (j : ℕ) → j < suc (T .nodeRows) → (P : ℕ → Type 0) → ((i : ℕ) → i < T .nodeRows → P i) → P (T .nodeRows) → P j

@@ -1,18 +1,16 @@
 -- What the check finds of a node rests on the nodes up to it and their sets: two states that agree in these find the same.
-use Prim.Native.Nat.{ℕ, zero, suc, _<_, _≤_}
+use Prim.Native.Nat.{ℕ, zero, suc, _<_}
 use native.Mathlib.Omega.{arith}
-use mathlib.Core.Path.{_≡_, refl, sym, _∙_, ap, ap₂, subst}
+use mathlib.Core.Path.{_≡_, refl, _∙_, ap, ap₂}
 use mathlib.Core.Bool.{Bool, true, false}
 use mathlib.Core.List.{List, [], _∷_}
-use lib.Dec.{eqb, leb}
-use lib.IntN.{ℤ, pos}
-use Rattle.stab.specs.Basic.{if_then_else_, _and_, _or_, _implies_, eqZ, nat, below, has, allOf}
-use Rattle.stab.specs.Formula.{Row, tree}
+use lib.IntN.{ℤ}
+use Rattle.stab.specs.Basic.{_and_, _or_, _implies_, nat, below, has, allOf}
+use Rattle.stab.specs.Formula.{tree}
 use Rattle.stab.specs.Node.{Tableau, Node, Bound, rows, rowCount, isRow, row, formula, nodeAt, node, set, splitAt, boundOf, bound, rank, isExact}
-use Rattle.stab.specs.Rule.{rule, ruleOf, ofRule, given, oneOf, drawnFrom, drawn, kindFits, onStands, otherFits, linkFits, symbolFits, fieldsFit, targetFits, splitFits, unfoldFits, clashFits, voidFits, loopFits, boundFits, shortened, isInstance, partnersFit, isLowered, hasLowered, loweredFits}
+use Rattle.stab.specs.Rule.{rule, ofRule, given, drawnFrom, drawn, kindFits, onStands, otherFits, linkFits, symbolFits, fieldsFit, targetFits, splitFits, unfoldFits, clashFits, voidFits, loopFits, boundFits, isInstance, partnersFit, isLowered, hasLowered, loweredFits}
 use Rattle.stab.specs.Check.{atUnless, stepRefusal}
-use Rattle.stab.specs.Keeps.{Below, KeepsParent}
-use Rattle.stab.specs.declared.Refusal.the-variants.{Drawn, Fields, Target, Bound as BoundWrong, Partner, Lowered}
+use Rattle.stab.specs.Keeps.{KeepsParent}
 use Rattle.stab.proofs.Bools.{implies-use, otherwise-same, unless-nothing}
 use Rattle.stab.proofs.Trees.{below-nat}
 use Rattle.stab.proofs.Tests.{below-tests}

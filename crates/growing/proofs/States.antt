@@ -1,28 +1,25 @@
 -- What holds of rows that have passed, and the states that an accepted call leaves: their nodes and sets.
-use Prim.Native.Nat.{ℕ, zero, suc, _+_, _*_, _-_, _<_, _≤_, min}
+use Prim.Native.Nat.{ℕ, _+_, _*_, _<_, _≤_}
 use native.Mathlib.Omega.{arith}
-use mathlib.Core.Path.{_≡_, refl, sym, _∙_, ap, ap₂, subst}
-use mathlib.Core.Logic.{_⊎_, inl, inr, ⊎-elim, Iff·trans}
-use mathlib.Core.Bool.{Bool, true, false}
-use mathlib.Core.List.{List, [], _∷_, _++_}
-use lib.Dec.{leb, ltb}
-use lib.IntN.{ℤ, pos, _+ℤ_}
-use lib.ListN.{length, getD, take, drop, replicate, length-append, length-take, List·getD-append}
-use lib.Seq.{getD-take, length-take-le, drop-at, take-at, take-append-le, take-all}
-use borrow.Author.Tests.{leb-true, ltb-true}
-use Rattle.stab.specs.Basic.{_and_, nat}
-use Rattle.stab.specs.Node.{Tableau, Node, rows, rowCount, nodeAt, node, setOf, set, setStart, setEnd}
-use Rattle.stab.specs.Check.{holds, setRefusal, parentRefusal, tablesHold, withinLimits, refusalBy, presentFormulas}
+use mathlib.Core.Path.{_≡_, refl, _∙_, ap}
+use mathlib.Core.Logic.{Iff·trans}
+use mathlib.Core.Bool.{true, false}
+use mathlib.Core.List.{List, _++_}
+use lib.IntN.{ℤ, pos}
+use lib.ListN.{length, take, drop, length-append}
+use lib.Seq.{getD-take, length-take-le, drop-at, take-all}
+use Rattle.stab.specs.Basic.{_implies_, nat, unless}
+use Rattle.stab.specs.Node.{Tableau, Node, rows, rowCount, nodeAt, node, setOf, set}
+use Rattle.stab.specs.Check.{wholeUnless, holds, setRefusal, parentRefusal, nodeRefusal, tablesHold, withinLimits, enoughNodes, refusal, heldMode}
 use Rattle.stab.specs.Keeps.{KeepsFormulas, KeepsSet, KeepsParent, KeepsTables, Fresh}
 use Rattle.stab.specs.Text.{padded}
 use Rattle.stab.specs.declared.Refusal.the-variants.{TableTooShort, TooMany}
 use Rattle.stab.specs.declared.Finding.the-variants.{Nothing}
-use Rattle.stab.proofs.Bools.{and-left, and-right}
-use Rattle.stab.proofs.Tests.{_&_, le-tests, _clears_, whole-clears, _then_, scan-clears, itself}
+use Rattle.stab.proofs.Tests.{_&_, le-tests, _clears_, whole-clears, _then_, scan-clears}
 use Rattle.stab.proofs.Exactness.Formulas.{present-clears}
 use Rattle.stab.proofs.Exactness.Nodes.{set-clears, parent-clears}
-use Rattle.tidied.proofs.Tables.{numbersOf, nodeAt-front, nodeAt-next, slice-front, slice-take, start-pos, size-pos, set-within}
-use Rattle.growing.specs.Growing.{heldNodeRefusal, heldRefusal, NodeRow, nodeNumbers, holding, added, roomFor, shortened, begun, rowOf, firstRows, rowsHeld}
+use Rattle.tidied.proofs.Tables.{numbersOf, nodeAt-front, nodeAt-next, slice-front, slice-take, set-within}
+use Rattle.growing.specs.Growing.{NodeRow, nodeNumbers, holding, added, roomFor}
 use Rattle.growing.proofs.Local.{Alike}
 
 -- ---- rows that have passed
@@ -33,10 +30,10 @@ pub record Holds (T : Tableau) : Type 0 where
   pub fresh : Fresh T
   pub sets : (j : ℕ) → j < T .nodeRows → KeepsSet T j
   pub parents : (j : ℕ) → j < T .nodeRows → KeepsParent T j
-  pub steps : (j : ℕ) → j < T .nodeRows → heldNodeRefusal T j ≡ Nothing
+  pub steps : (j : ℕ) → j < T .nodeRows → nodeRefusal false T j ≡ Nothing
 
-pub held-clears : (T : Tableau) → heldRefusal T clears Holds T
-unfolding heldRefusal refusalBy tablesHold holds withinLimits
+pub held-clears : (T : Tableau) → refusal heldMode T clears Holds T
+unfolding refusal heldMode tablesHold holds withinLimits enoughNodes _implies_ wholeUnless unless
 held-clears T =
     Iff·trans
     (whole-clears TableTooShort
@@ -49,7 +46,7 @@ held-clears T =
     scan-clears (setRefusal T) (T .nodeRows) (λ j l. set-clears T j) then
     nothing then
     scan-clears (parentRefusal T) (T .nodeRows) (λ j l. parent-clears T j) then
-    scan-clears (heldNodeRefusal T) (T .nodeRows) (λ j l. (λ e. e, λ e. e))) (
+    scan-clears (nodeRefusal false T) (T .nodeRows) (λ j l. (λ e. e, λ e. e))) (
       λ p. record {
         tables = record {
           schemaHeld = p .0 .0;

@@ -1,5 +1,4 @@
 -- 02, No. 8: enquiry and commit.
-use Prim.Native.Nat.{ℕ}
 use mathlib.Core.Bool.{Bool}
 use mathlib.Core.List.{List, [], _∷_, _++_}
 use mathlib.Core.Option.{Option, none, some}
@@ -7,12 +6,12 @@ use lib.IntN.{ℤ, pos}
 use lib.ListN.{length, getD, take, drop}
 use Rattle.stab.specs.Basic.{_and_, eqZ, within, nat, _otherwise_}
 use Rattle.stab.specs.Node.{Tableau}
-use Rattle.stab.specs.Check.{wholeUnless}
+use Rattle.stab.specs.Check.{wholeUnless, refusal, heldMode}
 use Rattle.stab.specs.Text.{padded}
 use Rattle.stab.specs.declared.Refusal.the-variants.{Waiting}
 use Rattle.stab.specs.declared.Finding.{Finding}
 use Rattle.stab.specs.declared.Finding.the-variants.{Nothing, Found}
-use Rattle.growing.specs.Growing.{heldRefusal, NodeRow, added, newRefusal, addRefusal, shortened, takeBackRefusal, growthBy, leftBy, begun, done, Call, add, takeBack}
+use Rattle.growing.specs.Growing.{NodeRow, added, newRefusal, addRefusal, shortened, takeBackRefusal, growthBy, leftBy, begun, done, Call, add, takeBack}
 use Rattle.growing.specs.declared.Growth.{Growth}
 
 -- ---- the waiting row: 1,033 numbers, all 0 at first and whenever nothing waits
@@ -49,6 +48,9 @@ pub record Editor : Type 0 where
   pub held : Tableau
   pub waiting : List ℤ
 
+abbrev pub editor : Tableau → List ℤ → Editor
+editor T W = record { held = T; waiting = W }
+
 -- enquiry, commit, and No. 7's calls
 pub data EditorCall : Type 0 where
   enquire : NodeRow → EditorCall
@@ -58,7 +60,7 @@ pub data EditorCall : Type 0 where
 -- "26, by commit, when no such row waits. After 26 a waiting row is judged as by an enquiry"
 unfoldable pub commitRefusal : Editor → Finding
 commitRefusal E =
-    heldRefusal (E .held) otherwise
+    refusal heldMode (E .held) otherwise
     wholeUnless (waits (E .waiting)) Waiting otherwise
     newRefusal (E .held) (waitingRow (E .waiting))
 

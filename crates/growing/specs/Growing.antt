@@ -6,12 +6,13 @@ use lib.Dec.{leb, ltb}
 use lib.IntN.{ℤ, pos}
 use lib.ListN.{length, take}
 use Rattle.stab.specs.Basic.{if_then_else_, _and_, nat, _otherwise_}
-use Rattle.stab.specs.Node.{Tableau, Node, nodeAt, node, set, childCount}
-use Rattle.stab.specs.Rule.{rule}
-use Rattle.stab.specs.Check.{wholeUnless, atUnless, setRefusal, parentRefusal, stepRefusal, refusalBy, presentFormulas, linkCount, check}
+use Rattle.stab.specs.Node.{Tableau, nodeAt, node, set}
+use Rattle.stab.specs.Rule.{childrenHeld}
+use Rattle.stab.specs.Check.{wholeUnless, atUnless, setRefusal, parentRefusal, stepRefusal, refusal, heldMode, linkCount, check}
 use Rattle.stab.specs.Text.{padded}
 use Rattle.stab.specs.Answer.{Numbers, refusalNumber, placeNumber, oneNumber}
-use Rattle.stab.specs.declared.Place.the-variants.{Whole}
+use Rattle.stab.specs.declared.Place.{Place}
+use Rattle.stab.specs.declared.Refusal.{Refusal}
 use Rattle.stab.specs.declared.Refusal.the-variants.{Children, Room, NoRow}
 use Rattle.stab.specs.declared.Verdict.{Verdict}
 use Rattle.stab.specs.declared.Verdict.the-variants.{Accepted, Refused}
@@ -22,18 +23,7 @@ use Rattle.growing.specs.declared.Growth.the-variants.{Held, Refused as 
 
 -- The state is a Tableau: the formula rows, and the lent tables of nodes and members with how many rows and members are held.
 
--- ---- "Every later call first puts all rows held under the check, no node and missing children aside"
-
--- no child beyond the number that the rule of node j has
-unfoldable pub childrenHeld : Tableau → ℕ → Bool
-childrenHeld T j = leb (childCount T j) (rule T j .children)
-
--- what the check finds of a node, missing children aside
-unfoldable pub heldNodeRefusal : Tableau → ℕ → Finding
-heldNodeRefusal T j = stepRefusal T j otherwise atUnless (childrenHeld T j) Children j
-
-unfoldable pub heldRefusal : Tableau → Finding
-heldRefusal T = refusalBy presentFormulas (λ U. Nothing) heldNodeRefusal T
+-- "Every later call first puts all rows held under the check, no node and missing children aside": refusal heldMode.
 
 -- ---- "A node row is then added at the end"
 
@@ -98,7 +88,7 @@ unfoldable pub newRefusal : Tableau → NodeRow → Finding
 newRefusal T w = wholeUnless (roomFor T w) Room otherwise addedRefusal (added T w) (T .nodeRows)
 
 unfoldable pub addRefusal : Tableau → NodeRow → Finding
-addRefusal T w = heldRefusal T otherwise newRefusal T w
+addRefusal T w = refusal heldMode T otherwise newRefusal T w
 
 -- ---- "or the last one is taken back"
 
@@ -111,7 +101,7 @@ shortened T =
 
 -- "25 when there is no row to take back"
 unfoldable pub takeBackRefusal : Tableau → Finding
-takeBackRefusal T = heldRefusal T otherwise wholeUnless (ltb 0 (T .nodeRows)) NoRow
+takeBackRefusal T = refusal heldMode T otherwise wholeUnless (ltb 0 (T .nodeRows)) NoRow
 
 -- ---- "Formula rows are given first": no node is held then, and the tables are 0
 
@@ -120,7 +110,7 @@ begun T = holding T [] 0 [] 0
 
 -- "under 2, 5, 6, 7 and 8", and No. 9's 27
 unfoldable pub beginRefusal : Tableau → Finding
-beginRefusal T = heldRefusal (begun T)
+beginRefusal T = refusal heldMode (begun T)
 
 -- ---- what a call answers, and the state that it leaves
 
@@ -162,6 +152,14 @@ answered T call = growthBy (callRefusal T call) T (changed T call)
 
 unfoldable pub after : Tableau → Call → Tableau
 after T call = leftBy (callRefusal T call) T (changed T call)
+
+-- a call that is refused for this, once the rows held have passed
+unfoldable pub turnedAway : Tableau → Refusal → Place → Growth
+turnedAway T why p = growthBy (refusal heldMode T otherwise Found why p) T T
+
+-- the state after a row was tried at the end, and kept there or not
+unfoldable pub tried : Bool → Tableau → NodeRow → Tableau
+tried keep T w = if keep then after T (add w) else T
 
 -- "For every list of these calls": the state after them
 unfoldable pub afterAll : Tableau → List Call → Tableau

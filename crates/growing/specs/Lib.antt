@@ -1,3 +1,4 @@
 pub mod Growing
 pub mod Complete
 pub mod Enquiry
+pub mod Lent

@@ -16,3 +16,10 @@ pub enum Growth {
         closed: bool,
     },
 }
+
+// What a call gives: its answer, and how many rows and members are held after it.
+pub struct Reply {
+    pub answer: Growth,
+    pub node_rows: usize,
+    pub member_count: usize,
+}

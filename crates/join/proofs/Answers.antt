@@ -1,7 +1,7 @@
 -- What joining answers and leaves, by what is found.
 use Prim.Native.Nat.{suc, _+_, _<_, _≤_}
 use native.Mathlib.Omega.{arith}
-use mathlib.Core.Path.{_≡_, sym, _∙_, ap, subst}
+use mathlib.Core.Path.{_≡_, sym, _∙_, ap}
 use mathlib.Core.Logic.{⊎-elim}
 use mathlib.Core.Bool.{true, false}
 use mathlib.Core.List.{List, []}
@@ -12,7 +12,7 @@ use borrow.Author.Tests.{leb-true, le-leb, lt-leb, ltb-false}
 use Rattle.stab.specs.Basic.{nat, eqZ, _otherwise_}
 use Rattle.stab.specs.Formula.{smallEnough}
 use Rattle.stab.specs.Node.{Tableau, rows, rowCount}
-use Rattle.stab.specs.Check.{wholeUnless, atUnless, refusal}
+use Rattle.stab.specs.Check.{wholeUnless, atUnless, refusal, presentMode}
 use Rattle.stab.specs.Keeps.{KeepsOlder}
 use Rattle.stab.specs.Text.{padded}
 use Rattle.stab.specs.declared.Place.{Place}
@@ -33,11 +33,6 @@ use Rattle.jointrows.proofs.Rows.{few-stay}
 use Rattle.jointrefusal.specs.Before.{fitsBefore, foundBefore}
 use Rattle.jointrefusal.proofs.Before.{few-rows, first-passes, second-passes, leasts-pass}
 use Rattle.join.specs.Kept.{roomy, Answers}
-
--- what holds of four numbers holds of their equals
-pub four : (P : ℤ → ℤ → ℤ → ℤ → Type 0) {a b c d a′ b′ c′ d′ : ℤ} → a ≡ a′ → b ≡ b′ → c ≡ c′ → d ≡ d′ → P a b c d → P a′ b′ c′ d′
-four P {a} {b} {c} {d} {a′} {b′} {c′} {d′} p q r s x =
-    subst (λ (z : ℤ). P a′ b′ c′ z) s (subst (λ (z : ℤ). P a′ b′ z d) r (subst (λ (z : ℤ). P a′ z c d) q (subst (λ (z : ℤ). P z b c d) p x)))
 
 -- the result tables have room
 pub full-room : (R : Rooms) → roomy R ≡ true → (4096 ≤ R .schema) × (4096 ≤ R .proof) × (9216 ≤ R .nodes) × (8192 ≤ R .members)
@@ -127,8 +122,8 @@ module _ (R : Rooms) (A B : Tableau) where
   unfolding joinRefusal atUnless foundBefore
   found-before f why p h =
       otherwise-nothing _ _ (nothing-unless _ _ _ f)
-      ∙ otherwise-carries (refusal A) _ _ why p
-      (otherwise-carries (refusal B) _ _ why p (otherwise-carries (wholeUnless (eqZ (A .least) (B .least)) Leasts) _ _ why p (limit-carries A B why p))) h
+      ∙ otherwise-carries (refusal presentMode A) _ _ why p
+      (otherwise-carries (refusal presentMode B) _ _ why p (otherwise-carries (wholeUnless (eqZ (A .least) (B .least)) Leasts) _ _ why p (limit-carries A B why p))) h
 
   limit-left : roomy R ≡ true → foundBefore A B ≡ Nothing → joinRefusal R A B ≡ wholeUnless (jointFits (joint A B)) Joint
   unfolding joinRefusal atUnless

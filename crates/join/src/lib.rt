@@ -1,16 +1,17 @@
 // One record for either fault: two accepted records joined into one, under the or of their roots.
-ghost use Rattle.stab.specs.declared.Finding.the-variants.{Nothing, Found};
 use joint::Joined;
 use jointnodes::fill_nodes;
 use jointrefusal::refusal;
 use jointrefusal::refuse;
 use jointrows::fill_rows;
 use stab::Finding;
+use stab::Header;
 use stab::Place;
 use stab::Refusal;
 ghost use mathlib.Core.Path.{_≡_};
 ghost use mathlib.Core.Bool.{true};
-ghost use Rattle.branch.specs.Work.{tableau};
+ghost use Rattle.stab.specs.Lent.{lent};
+ghost use Rattle.stab.specs.declared.Finding.the-variants.{Nothing};
 ghost use Rattle.joint.specs.Joint.{joinedSchema, joinedProof, joinedNodes, joinedMembers};
 ghost use Rattle.joint.specs.Joint.{join as joinOf};
 ghost use Rattle.jointrefusal.specs.Before.{foundBefore};
@@ -19,48 +20,38 @@ ghost use Rattle.join.specs.Kept.{rooms, roomy, Answers};
 // Two records in which nothing was found before: 29, or the joined record.
 fn filled(
     first_schema: &[i32],
-    first_schema_rows: usize,
     first_proof: &[i32],
-    first_proof_rows: usize,
-    first_root: i32,
-    first_least: i32,
     first_nodes: &[i32],
-    first_node_rows: usize,
     first_members: &[i32],
-    first_member_count: usize,
+    first: Header,
     second_schema: &[i32],
-    second_schema_rows: usize,
     second_proof: &[i32],
-    second_proof_rows: usize,
-    second_root: i32,
-    second_least: i32,
     second_nodes: &[i32],
-    second_node_rows: usize,
     second_members: &[i32],
-    second_member_count: usize,
+    second: Header,
     out_schema: &mut [i32],
     out_proof: &mut [i32],
     out_nodes: &mut [i32],
     out_members: &mut [i32],
 ) -> Joined
     requires { ⌜ roomy (rooms (now «out_schema») (now «out_proof») (now «out_nodes») (now «out_members»)) ≡ true ⌝ }
-    requires { ⌜ foundBefore (tableau (now «first_schema») «first_schema_rows» (now «first_proof») «first_proof_rows» «first_root» «first_least» (now «first_nodes») «first_node_rows» (now «first_members») «first_member_count») (tableau (now «second_schema») «second_schema_rows» (now «second_proof») «second_proof_rows» «second_root» «second_least» (now «second_nodes») «second_node_rows» (now «second_members») «second_member_count») ≡ Nothing ⌝ }
-    ensures { λ r. ⌜ Answers (rooms (now («out_schema» .entry)) (now («out_proof» .entry)) (now («out_nodes» .entry)) (now («out_members» .entry))) (tableau (now («first_schema» .entry)) «first_schema_rows» (now («first_proof» .entry)) «first_proof_rows» «first_root» «first_least» (now («first_nodes» .entry)) «first_node_rows» (now («first_members» .entry)) «first_member_count») (tableau (now («second_schema» .entry)) «second_schema_rows» (now («second_proof» .entry)) «second_proof_rows» «second_root» «second_least» (now («second_nodes» .entry)) «second_node_rows» (now («second_members» .entry)) «second_member_count») r (now («out_schema» .exit)) (now («out_proof» .exit)) (now («out_nodes» .exit)) (now («out_members» .exit)) ⌝ }
+    requires { ⌜ foundBefore (lent (now «first_schema») (now «first_proof») (now «first_nodes») (now «first_members») first) (lent (now «second_schema») (now «second_proof») (now «second_nodes») (now «second_members») second) ≡ Nothing ⌝ }
+    ensures { λ r. ⌜ Answers (rooms (now («out_schema» .entry)) (now («out_proof» .entry)) (now («out_nodes» .entry)) (now («out_members» .entry))) (lent (now («first_schema» .entry)) (now («first_proof» .entry)) (now («first_nodes» .entry)) (now («first_members» .entry)) first) (lent (now («second_schema» .entry)) (now («second_proof» .entry)) (now («second_nodes» .entry)) (now («second_members» .entry)) second) r (now («out_schema» .exit)) (now («out_proof» .exit)) (now («out_nodes» .exit)) (now («out_members» .exit)) ⌝ }
 {
-    let or_row = first_schema_rows + second_schema_rows;
+    let or_row = first.schema_rows + second.schema_rows;
     let mut first_numbers = [0u32; 1024];
     let mut second_numbers = [0u32; 1024];
     let rows = fill_rows(
         first_schema,
-        first_schema_rows,
+        first.schema_rows,
         first_proof,
-        first_proof_rows,
-        first_root,
+        first.proof_rows,
+        first.root,
         second_schema,
-        second_schema_rows,
+        second.schema_rows,
         second_proof,
-        second_proof_rows,
-        second_root,
+        second.proof_rows,
+        second.root,
         &mut first_numbers,
         &mut second_numbers,
         out_schema,
@@ -79,11 +70,11 @@ fn filled(
     let members = fill_nodes(
         or_row,
         first_nodes,
-        first_node_rows,
+        first.node_rows,
         first_members,
         &first_numbers,
         second_nodes,
-        second_node_rows,
+        second.node_rows,
         second_members,
         &second_numbers,
         out_nodes,
@@ -101,10 +92,10 @@ fn filled(
     }
     Joined::Record {
         root: signed::of(or_row),
-        least: first_least,
+        least: first.least,
         schema: or_row + 1,
         proof: rows,
-        nodes: 1 + first_node_rows + second_node_rows,
+        nodes: 1 + first.node_rows + second.node_rows,
         members,
     }
 }
@@ -124,35 +115,25 @@ fn full(schema: &[i32], proof: &[i32], nodes: &[i32], members: &[i32]) -> bool
 // for each member, one step for each larger one before it.
 pub fn join(
     first_schema: &[i32],
-    first_schema_rows: usize,
     first_proof: &[i32],
-    first_proof_rows: usize,
-    first_root: i32,
-    first_least: i32,
     first_nodes: &[i32],
-    first_node_rows: usize,
     first_members: &[i32],
-    first_member_count: usize,
+    first: Header,
     second_schema: &[i32],
-    second_schema_rows: usize,
     second_proof: &[i32],
-    second_proof_rows: usize,
-    second_root: i32,
-    second_least: i32,
     second_nodes: &[i32],
-    second_node_rows: usize,
     second_members: &[i32],
-    second_member_count: usize,
+    second: Header,
     out_schema: &mut [i32],
     out_proof: &mut [i32],
     out_nodes: &mut [i32],
     out_members: &mut [i32],
 ) -> Joined
-    ensures answer { λ r. ⌜ r ≡ joinOf (rooms (now («out_schema» .entry)) (now («out_proof» .entry)) (now («out_nodes» .entry)) (now («out_members» .entry))) (tableau (now («first_schema» .entry)) «first_schema_rows» (now («first_proof» .entry)) «first_proof_rows» «first_root» «first_least» (now («first_nodes» .entry)) «first_node_rows» (now («first_members» .entry)) «first_member_count») (tableau (now («second_schema» .entry)) «second_schema_rows» (now («second_proof» .entry)) «second_proof_rows» «second_root» «second_least» (now («second_nodes» .entry)) «second_node_rows» (now («second_members» .entry)) «second_member_count») ⌝ }
-    ensures schema { λ r. ⌜ now («out_schema» .exit) ≡ joinedSchema (rooms (now («out_schema» .entry)) (now («out_proof» .entry)) (now («out_nodes» .entry)) (now («out_members» .entry))) (tableau (now («first_schema» .entry)) «first_schema_rows» (now («first_proof» .entry)) «first_proof_rows» «first_root» «first_least» (now («first_nodes» .entry)) «first_node_rows» (now («first_members» .entry)) «first_member_count») (tableau (now («second_schema» .entry)) «second_schema_rows» (now («second_proof» .entry)) «second_proof_rows» «second_root» «second_least» (now («second_nodes» .entry)) «second_node_rows» (now («second_members» .entry)) «second_member_count») ⌝ }
-    ensures rows { λ r. ⌜ now («out_proof» .exit) ≡ joinedProof (rooms (now («out_schema» .entry)) (now («out_proof» .entry)) (now («out_nodes» .entry)) (now («out_members» .entry))) (tableau (now («first_schema» .entry)) «first_schema_rows» (now («first_proof» .entry)) «first_proof_rows» «first_root» «first_least» (now («first_nodes» .entry)) «first_node_rows» (now («first_members» .entry)) «first_member_count») (tableau (now («second_schema» .entry)) «second_schema_rows» (now («second_proof» .entry)) «second_proof_rows» «second_root» «second_least» (now («second_nodes» .entry)) «second_node_rows» (now («second_members» .entry)) «second_member_count») ⌝ }
-    ensures nodes { λ r. ⌜ now («out_nodes» .exit) ≡ joinedNodes (rooms (now («out_schema» .entry)) (now («out_proof» .entry)) (now («out_nodes» .entry)) (now («out_members» .entry))) (tableau (now («first_schema» .entry)) «first_schema_rows» (now («first_proof» .entry)) «first_proof_rows» «first_root» «first_least» (now («first_nodes» .entry)) «first_node_rows» (now («first_members» .entry)) «first_member_count») (tableau (now («second_schema» .entry)) «second_schema_rows» (now («second_proof» .entry)) «second_proof_rows» «second_root» «second_least» (now («second_nodes» .entry)) «second_node_rows» (now («second_members» .entry)) «second_member_count») ⌝ }
-    ensures members { λ r. ⌜ now («out_members» .exit) ≡ joinedMembers (rooms (now («out_schema» .entry)) (now («out_proof» .entry)) (now («out_nodes» .entry)) (now («out_members» .entry))) (tableau (now («first_schema» .entry)) «first_schema_rows» (now («first_proof» .entry)) «first_proof_rows» «first_root» «first_least» (now («first_nodes» .entry)) «first_node_rows» (now («first_members» .entry)) «first_member_count») (tableau (now («second_schema» .entry)) «second_schema_rows» (now («second_proof» .entry)) «second_proof_rows» «second_root» «second_least» (now («second_nodes» .entry)) «second_node_rows» (now («second_members» .entry)) «second_member_count») ⌝ }
+    ensures answer { λ r. ⌜ r ≡ joinOf (rooms (now («out_schema» .entry)) (now («out_proof» .entry)) (now («out_nodes» .entry)) (now («out_members» .entry))) (lent (now («first_schema» .entry)) (now («first_proof» .entry)) (now («first_nodes» .entry)) (now («first_members» .entry)) first) (lent (now («second_schema» .entry)) (now («second_proof» .entry)) (now («second_nodes» .entry)) (now («second_members» .entry)) second) ⌝ }
+    ensures schema { λ r. ⌜ now («out_schema» .exit) ≡ joinedSchema (rooms (now («out_schema» .entry)) (now («out_proof» .entry)) (now («out_nodes» .entry)) (now («out_members» .entry))) (lent (now («first_schema» .entry)) (now («first_proof» .entry)) (now («first_nodes» .entry)) (now («first_members» .entry)) first) (lent (now («second_schema» .entry)) (now («second_proof» .entry)) (now («second_nodes» .entry)) (now («second_members» .entry)) second) ⌝ }
+    ensures rows { λ r. ⌜ now («out_proof» .exit) ≡ joinedProof (rooms (now («out_schema» .entry)) (now («out_proof» .entry)) (now («out_nodes» .entry)) (now («out_members» .entry))) (lent (now («first_schema» .entry)) (now («first_proof» .entry)) (now («first_nodes» .entry)) (now («first_members» .entry)) first) (lent (now («second_schema» .entry)) (now («second_proof» .entry)) (now («second_nodes» .entry)) (now («second_members» .entry)) second) ⌝ }
+    ensures nodes { λ r. ⌜ now («out_nodes» .exit) ≡ joinedNodes (rooms (now («out_schema» .entry)) (now («out_proof» .entry)) (now («out_nodes» .entry)) (now («out_members» .entry))) (lent (now («first_schema» .entry)) (now («first_proof» .entry)) (now («first_nodes» .entry)) (now («first_members» .entry)) first) (lent (now («second_schema» .entry)) (now («second_proof» .entry)) (now («second_nodes» .entry)) (now («second_members» .entry)) second) ⌝ }
+    ensures members { λ r. ⌜ now («out_members» .exit) ≡ joinedMembers (rooms (now («out_schema» .entry)) (now («out_proof» .entry)) (now («out_nodes» .entry)) (now («out_members» .entry))) (lent (now («first_schema» .entry)) (now («first_proof» .entry)) (now («first_nodes» .entry)) (now («first_members» .entry)) first) (lent (now («second_schema» .entry)) (now («second_proof» .entry)) (now («second_nodes» .entry)) (now («second_members» .entry)) second) ⌝ }
 {
     if !full(out_schema, out_proof, out_nodes, out_members) {
         return refuse(
@@ -166,25 +147,15 @@ pub fn join(
     }
     match refusal(
         first_schema,
-        first_schema_rows,
         first_proof,
-        first_proof_rows,
-        first_root,
-        first_least,
         first_nodes,
-        first_node_rows,
         first_members,
-        first_member_count,
+        first,
         second_schema,
-        second_schema_rows,
         second_proof,
-        second_proof_rows,
-        second_root,
-        second_least,
         second_nodes,
-        second_node_rows,
         second_members,
-        second_member_count,
+        second,
     ) {
         Finding::Found { why, place } => {
             refuse(why, place, out_schema, out_proof, out_nodes, out_members)
@@ -192,25 +163,15 @@ pub fn join(
         Finding::Nothing => {
             filled(
                 first_schema,
-                first_schema_rows,
                 first_proof,
-                first_proof_rows,
-                first_root,
-                first_least,
                 first_nodes,
-                first_node_rows,
                 first_members,
-                first_member_count,
+                first,
                 second_schema,
-                second_schema_rows,
                 second_proof,
-                second_proof_rows,
-                second_root,
-                second_least,
                 second_nodes,
-                second_node_rows,
                 second_members,
-                second_member_count,
+                second,
                 out_schema,
                 out_proof,
                 out_nodes,

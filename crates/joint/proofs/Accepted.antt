@@ -14,7 +14,7 @@ use Rattle.stab.specs.Meaning.{Assignment, op, value, truth}
 use Rattle.stab.specs.Node.{Tableau, Node, rows, rowCount, formula, nodeAt, node}
 use Rattle.stab.specs.Rule.{ofRule}
 use Rattle.stab.specs.Text.{padded}
-use Rattle.stab.specs.Check.{wholeUnless, atUnless, check, isLink, linkCount, refusal}
+use Rattle.stab.specs.Check.{wholeUnless, atUnless, check, isLink, linkCount, refusal, presentMode}
 use Rattle.stab.specs.Keeps.{KeepsTables, KeepsOlder, Keeps}
 use Rattle.stab.specs.declared.Verdict.the-variants.{Accepted}
 use Rattle.stab.specs.declared.Finding.the-variants.{Nothing}
@@ -164,13 +164,13 @@ module _ (R : Rooms) (A B : Tableau) (nA lA nB lB : ℕ) (first : check A ≡ Ac
   same-least =
       eqZ-true _ _
       (unless-nothing (eqZ (A .least) (B .least)) _ _
-      (otherwise-first _ _ (otherwise-second (refusal B) _ (otherwise-second (refusal A) _ (otherwise-second _ _ join-made)))))
+      (otherwise-first _ _ (otherwise-second (refusal presentMode B) _ (otherwise-second (refusal presentMode A) _ (otherwise-second _ _ join-made)))))
 
   made-fits : jointFits (joint A B) ≡ true
   unfolding joinRefusal wholeUnless
   made-fits =
       unless-nothing (jointFits (joint A B)) _ _
-      (otherwise-second _ _ (otherwise-second (refusal B) _ (otherwise-second (refusal A) _ (otherwise-second _ _ join-made))))
+      (otherwise-second _ _ (otherwise-second (refusal presentMode B) _ (otherwise-second (refusal presentMode A) _ (otherwise-second _ _ join-made))))
 
   keepsA : Keeps A
   keepsA = accepts-exactly A nA lA .0 first .0

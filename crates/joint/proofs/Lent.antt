@@ -7,7 +7,7 @@ use lib.Dec.{leb}
 use borrow.Author.Tests.{leb-true}
 use Rattle.stab.specs.Basic.{_and_, eqZ}
 use Rattle.stab.specs.Node.{Tableau, rowCount}
-use Rattle.stab.specs.Check.{wholeUnless, atUnless, refusal}
+use Rattle.stab.specs.Check.{wholeUnless, atUnless, refusal, presentMode}
 use Rattle.stab.specs.Answer.{Numbers, refusedNumbers, verdictNumbers, packed, answerIn, placeIn, numbersIn, Packs}
 use Rattle.stab.specs.declared.Place.the-variants.{Whole, At}
 use Rattle.stab.specs.declared.Refusal.the-variants.{TableTooShort, Leasts, Joint}
@@ -27,7 +27,7 @@ use Rattle.joint.specs.declared.Joined.the-variants.{Record, Refused as 
 module _ (R : Rooms) (A B : Tableau) where
   found-near : FindsNear (joinRefusal R A B)
   unfolding joinRefusal
-  found-near = of-at _ _ 0 (omega arith) or-else of-refusal A or-else of-refusal B or-else of-whole _ _ or-else of-whole _ _
+  found-near = of-at _ _ 0 (omega arith) or-else of-refusal presentMode A or-else of-refusal presentMode B or-else of-whole _ _ or-else of-whole _ _
 
   -- ---- the counts of the joined record
 
@@ -35,7 +35,7 @@ module _ (R : Rooms) (A B : Tableau) where
   unfolding joinRefusal wholeUnless
   fits e =
       unless-nothing (jointFits (joint A B)) _ _
-      (otherwise-second _ _ (otherwise-second (refusal B) _ (otherwise-second (refusal A) _ (otherwise-second _ _ e))))
+      (otherwise-second _ _ (otherwise-second (refusal presentMode B) _ (otherwise-second (refusal presentMode A) _ (otherwise-second _ _ e))))
 
   counts : jointFits (joint A B) ≡ true → JoinedFits (joinedBy Nothing (joint A B))
   unfolding jointFits joinedBy rowCount

@@ -7,7 +7,7 @@ use lib.Dec.{leb}
 use lib.IntN.{ℤ, pos}
 use Rattle.stab.specs.Basic.{_and_, eqZ, _otherwise_}
 use Rattle.stab.specs.Node.{Tableau}
-use Rattle.stab.specs.Check.{wholeUnless, atUnless, check, refusal}
+use Rattle.stab.specs.Check.{wholeUnless, atUnless, check, refusal, presentMode}
 use Rattle.stab.specs.Text.{padded}
 use Rattle.stab.specs.declared.Place.{Place}
 use Rattle.stab.specs.declared.Place.the-variants.{Whole, At}
@@ -34,28 +34,28 @@ module _ (R : Rooms) (A B : Tableau) where
     pub first-refused : (why : Refusal) (p : Place) → check A ≡ Refused why p → join R A B ≡ JoinRefused why p
     unfolding join joinedBy joinRefusal atUnless
     first-refused why p e =
-        ap (λ x. joinedBy x (joint A B)) (otherwise-nothing _ _ (nothing-unless (full R) _ _ roomy) ∙ otherwise-found (refusal A) _ (refused-finds A why p e))
+        ap (λ x. joinedBy x (joint A B)) (otherwise-nothing _ _ (nothing-unless (full R) _ _ roomy) ∙ otherwise-found (refusal presentMode A) _ (refused-finds A why p e))
 
     module _ (n l : ℕ) (first : check A ≡ Accepted n l) where
-      after-first : joinRefusal R A B ≡ (refusal B otherwise (wholeUnless (eqZ (A .least) (B .least)) Leasts otherwise wholeUnless (jointFits (joint A B)) Joint))
+      after-first : joinRefusal R A B ≡ (refusal presentMode B otherwise (wholeUnless (eqZ (A .least) (B .least)) Leasts otherwise wholeUnless (jointFits (joint A B)) Joint))
       unfolding joinRefusal atUnless
-      after-first = otherwise-nothing _ _ (nothing-unless (full R) _ _ roomy) ∙ otherwise-nothing (refusal A) _ (accepted-finds A n l first)
+      after-first = otherwise-nothing _ _ (nothing-unless (full R) _ _ roomy) ∙ otherwise-nothing (refusal presentMode A) _ (accepted-finds A n l first)
 
       pub second-refused : (why : Refusal) (p : Place) → check B ≡ Refused why p → join R A B ≡ JoinRefused why p
       unfolding join joinedBy
-      second-refused why p e = ap (λ x. joinedBy x (joint A B)) (after-first ∙ otherwise-found (refusal B) _ (refused-finds B why p e))
+      second-refused why p e = ap (λ x. joinedBy x (joint A B)) (after-first ∙ otherwise-found (refusal presentMode B) _ (refused-finds B why p e))
 
       -- "28 if the least values differ"
       pub leasts-differ : (m k : ℕ) → check B ≡ Accepted m k → eqZ (A .least) (B .least) ≡ false → join R A B ≡ JoinRefused Leasts Whole
       unfolding join joinedBy wholeUnless
       leasts-differ m k e d =
-          ap (λ x. joinedBy x (joint A B)) (after-first ∙ otherwise-nothing (refusal B) _ (accepted-finds B m k e) ∙ otherwise-found _ _ (found-unless (eqZ (A .least) (B .least)) _ _ d))
+          ap (λ x. joinedBy x (joint A B)) (after-first ∙ otherwise-nothing (refusal presentMode B) _ (accepted-finds B m k e) ∙ otherwise-found _ _ (found-unless (eqZ (A .least) (B .least)) _ _ d))
 
       -- "29 if the tidied join's rows, nodes, members, size or depth pass 01's limits"
       pub too-large : (m k : ℕ) → check B ≡ Accepted m k → eqZ (A .least) (B .least) ≡ true → jointFits (joint A B) ≡ false → join R A B ≡ JoinRefused Joint Whole
       unfolding join joinedBy wholeUnless
       too-large m k e s d =
-          ap (λ x. joinedBy x (joint A B)) (after-first ∙ otherwise-nothing (refusal B) _ (accepted-finds B m k e) ∙ otherwise-nothing _ _ (nothing-unless (eqZ (A .least) (B .least)) _ _ s) ∙ found-unless (jointFits (joint A B)) _ _ d)
+          ap (λ x. joinedBy x (joint A B)) (after-first ∙ otherwise-nothing (refusal presentMode B) _ (accepted-finds B m k e) ∙ otherwise-nothing _ _ (nothing-unless (eqZ (A .least) (B .least)) _ _ s) ∙ found-unless (jointFits (joint A B)) _ _ d)
 
 -- after a refusal all that was lent is 0
 pub refused-zeros : (R : Rooms) (A B : Tableau) (why : Refusal) (p : Place) → joinRefusal R A B ≡ Found why p → (joinedSchema R A B ≡ padded (pos 0) (R .schema) []) × (joinedProof R A B ≡ padded (pos 0) (R .proof) []) × (joinedNodes R A B ≡ padded (pos 0) (R .nodes) []) × (joinedMembers R A B ≡ padded (pos 0) (R .members) [])

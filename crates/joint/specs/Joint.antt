@@ -9,7 +9,7 @@ use lib.ListN.{length, take}
 use Rattle.stab.specs.Basic.{if_then_else_, _and_, eqZ, nat, _otherwise_}
 use Rattle.stab.specs.Formula.{Row, rowAt, smallEnough}
 use Rattle.stab.specs.Node.{Tableau, Node, rows, rowCount, node}
-use Rattle.stab.specs.Check.{wholeUnless, atUnless, refusal}
+use Rattle.stab.specs.Check.{wholeUnless, atUnless, refusal, presentMode}
 use Rattle.stab.specs.Text.{padded}
 use Rattle.stab.specs.Answer.{refusalNumber, placeNumber, oneNumber, Packs}
 use Rattle.stab.specs.declared.Refusal.the-variants.{TableTooShort, Leasts, Joint}
@@ -134,8 +134,8 @@ pub record Rooms : Type 0 where
 unfoldable pub joinRefusal : Rooms → Tableau → Tableau → Finding
 joinRefusal R A B =
     atUnless (leb 4096 (R .schema) and leb 4096 (R .proof) and leb 9216 (R .nodes) and leb 8192 (R .members)) TableTooShort 0 otherwise
-    refusal A otherwise
-    refusal B otherwise
+    refusal presentMode A otherwise
+    refusal presentMode B otherwise
     wholeUnless (eqZ (A .least) (B .least)) Leasts otherwise
     wholeUnless (jointFits (joint A B)) Joint
 

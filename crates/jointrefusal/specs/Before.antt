@@ -3,9 +3,9 @@ use Prim.Native.Nat.{_+_}
 use mathlib.Core.Bool.{Bool}
 use lib.Dec.{leb, ltb}
 use Rattle.stab.specs.Basic.{_and_, eqZ, _otherwise_}
-use Rattle.stab.specs.Formula.{Formula, size, depth, join, disj, smallEnough}
-use Rattle.stab.specs.Node.{Tableau, rows}
-use Rattle.stab.specs.Check.{wholeUnless, refusal}
+use Rattle.stab.specs.Formula.{Formula, size, depth, join, disj, smallEnough, schemaFormula}
+use Rattle.stab.specs.Node.{Tableau, rows, schemaOf}
+use Rattle.stab.specs.Check.{wholeUnless, refusal, presentMode}
 use Rattle.stab.specs.declared.Refusal.the-variants.{Leasts, Joint}
 use Rattle.stab.specs.declared.Finding.{Finding}
 use Rattle.joint.specs.Joint.{orRow, joint}
@@ -14,6 +14,11 @@ use Rattle.joint.specs.Joint.{orRow, joint}
 unfoldable pub orSmall : Formula → Formula → Bool
 orSmall f g = leb (size (join disj f g)) 4096 and leb (depth (join disj f g)) 64
 
+-- two records have few enough schema rows and nodes, and the or of their schemata is within the limits
+unfoldable pub sizesFit : Tableau → Tableau → Bool
+sizesFit A B =
+    ltb (A .schemaRows + B .schemaRows) 1024 and ltb (A .nodeRows + B .nodeRows) 1024 and orSmall (schemaFormula (schemaOf A)) (schemaFormula (schemaOf B))
+
 -- two records are within the limits, but for their tidied rows and sets
 unfoldable pub fitsBefore : Tableau → Tableau → Bool
 fitsBefore A B =
@@ -21,7 +26,7 @@ fitsBefore A B =
 
 unfoldable pub foundBefore : Tableau → Tableau → Finding
 foundBefore A B =
-    refusal A otherwise
-    refusal B otherwise
+    refusal presentMode A otherwise
+    refusal presentMode B otherwise
     wholeUnless (eqZ (A .least) (B .least)) Leasts otherwise
     wholeUnless (fitsBefore A B) Joint

@@ -3,6 +3,7 @@ mod measure;
 
 use joint::Joined;
 use stab::Finding;
+use stab::Header;
 use stab::Place;
 use stab::Refusal;
 use stab::Verdict;
@@ -11,39 +12,18 @@ ghost use mathlib.Core.Path.{_≡_};
 ghost use mathlib.Core.List.{[]};
 ghost use lib.IntN.{pos};
 ghost use lib.ListN.{length};
+ghost use Rattle.stab.specs.Check.{presentMode};
 ghost use Rattle.stab.specs.Check.{refusal as refusalIn};
+ghost use Rattle.stab.specs.Lent.{lent};
 ghost use Rattle.stab.specs.Text.{padded};
-ghost use Rattle.branch.specs.Work.{tableau};
 ghost use Rattle.joint.specs.declared.Joined.the-variants.{Refused as JoinRefused};
 ghost use Rattle.jointrefusal.specs.Before.{foundBefore};
 
 // Why the check refuses a record.
-fn fault(
-    schema: &[i32],
-    schema_rows: usize,
-    proof: &[i32],
-    proof_rows: usize,
-    root: i32,
-    least: i32,
-    nodes: &[i32],
-    node_rows: usize,
-    members: &[i32],
-    member_count: usize,
-) -> Finding
-    ensures { λ r. ⌜ r ≡ refusalIn (tableau (now (schema .entry)) «schema_rows» (now (proof .entry)) «proof_rows» root least (now (nodes .entry)) «node_rows» (now (members .entry)) «member_count») ⌝ }
+fn fault(schema: &[i32], proof: &[i32], nodes: &[i32], members: &[i32], h: Header) -> Finding
+    ensures { λ r. ⌜ r ≡ refusalIn presentMode (lent (now (schema .entry)) (now (proof .entry)) (now (nodes .entry)) (now (members .entry)) h) ⌝ }
 {
-    match check(
-        schema,
-        schema_rows,
-        proof,
-        proof_rows,
-        root,
-        least,
-        nodes,
-        node_rows,
-        members,
-        member_count,
-    ) {
+    match check(schema, proof, nodes, members, h) {
         Verdict::Refused { why, place } => Finding::Found { why, place },
         Verdict::Accepted { nodes: _, links: _ } => Finding::Nothing,
     }
@@ -53,78 +33,39 @@ fn fault(
 // row and no node, so these are counted here.
 pub fn refusal(
     first_schema: &[i32],
-    first_schema_rows: usize,
     first_proof: &[i32],
-    first_proof_rows: usize,
-    first_root: i32,
-    first_least: i32,
     first_nodes: &[i32],
-    first_node_rows: usize,
     first_members: &[i32],
-    first_member_count: usize,
+    first: Header,
     second_schema: &[i32],
-    second_schema_rows: usize,
     second_proof: &[i32],
-    second_proof_rows: usize,
-    second_root: i32,
-    second_least: i32,
     second_nodes: &[i32],
-    second_node_rows: usize,
     second_members: &[i32],
-    second_member_count: usize,
+    second: Header,
 ) -> Finding
-    ensures { λ r. ⌜ r ≡ foundBefore (tableau (now («first_schema» .entry)) «first_schema_rows» (now («first_proof» .entry)) «first_proof_rows» «first_root» «first_least» (now («first_nodes» .entry)) «first_node_rows» (now («first_members» .entry)) «first_member_count») (tableau (now («second_schema» .entry)) «second_schema_rows» (now («second_proof» .entry)) «second_proof_rows» «second_root» «second_least» (now («second_nodes» .entry)) «second_node_rows» (now («second_members» .entry)) «second_member_count») ⌝ }
+    ensures { λ r. ⌜ r ≡ foundBefore (lent (now («first_schema» .entry)) (now («first_proof» .entry)) (now («first_nodes» .entry)) (now («first_members» .entry)) first) (lent (now («second_schema» .entry)) (now («second_proof» .entry)) (now («second_nodes» .entry)) (now («second_members» .entry)) second) ⌝ }
 {
-    let found = fault(
-        first_schema,
-        first_schema_rows,
-        first_proof,
-        first_proof_rows,
-        first_root,
-        first_least,
-        first_nodes,
-        first_node_rows,
-        first_members,
-        first_member_count,
-    );
+    let found = fault(first_schema, first_proof, first_nodes, first_members, first);
     let Finding::Nothing = found else {
         return found;
     };
     let found = fault(
         second_schema,
-        second_schema_rows,
         second_proof,
-        second_proof_rows,
-        second_root,
-        second_least,
         second_nodes,
-        second_node_rows,
         second_members,
-        second_member_count,
+        second,
     );
     let Finding::Nothing = found else {
         return found;
     };
-    if !signed::equal(first_least, second_least) {
+    if !signed::equal(first.least, second.least) {
         return Finding::Found {
             why: Refusal::Leasts,
             place: Place::Whole,
         };
     }
-    if !measure::both_fit(
-        first_schema,
-        first_schema_rows,
-        first_proof,
-        first_root,
-        first_least,
-        first_node_rows,
-        second_schema,
-        second_schema_rows,
-        second_proof,
-        second_root,
-        second_least,
-        second_node_rows,
-    ) {
+    if !measure::both_fit(first_schema, first, second_schema, second) {
         return Finding::Found {
             why: Refusal::Joint,
             place: Place::Whole,

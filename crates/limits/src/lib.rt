@@ -1,10 +1,10 @@
 // A node's bound against its rule, and the index of a clash: refusal 14.
 // A sum of table numbers is compared by natural parts: what lies below 0 goes to the other side.
-use branch::header::Header;
 use branch::node;
 use branch::split;
 use branch::worked;
 use formula::kept;
+use stab::Header;
 ghost use mathlib.Core.Path.{_≡_};
 ghost use mathlib.Core.Bool.{true};
 ghost use mathlib.Core.List.{[]};
@@ -18,7 +18,8 @@ ghost use Rattle.stab.specs.Node.{nodeAt, isExact, splitAt};
 ghost use Rattle.stab.specs.Rule.{ofRule, splitFits, indexAt, clashFits, voidFits, upperFits, loopFits, boundFits};
 ghost use Rattle.formula.specs.Facts.{AllFormed};
 ghost use Rattle.branch.specs.Work.{AllWorked};
-ghost use Rattle.branch.specs.Lent.{lent, upper, bounded, boundBy, FieldsKnown};
+ghost use Rattle.stab.specs.Lent.{lent};
+ghost use Rattle.branch.specs.Lent.{upper, bounded, boundBy, FieldsKnown};
 
 // Rule 2: K is at least L, and below H, or at most 9998 where there is none.
 fn split_fits(nodes: &[i32], j: usize, l: usize, h: usize) -> bool

@@ -10,9 +10,9 @@ use lib.ListN.{length}
 use lib.Signed.{leZ}
 use borrow.Author.Tests.{leb-true, le-leb}
 use Rattle.stab.specs.Basic.{_and_, nat, below, _otherwise_, scan}
-use Rattle.stab.specs.Formula.{Row, rowAt}
-use Rattle.stab.specs.Model.{Model, pairRefusal, modelRefusal, satisfied, assignment, schemaRow}
-use Rattle.stab.specs.Check.{wholeUnless, holds, rootFits, formulasBy, formulasRefusal, verdict}
+use Rattle.stab.specs.Formula.{Schema}
+use Rattle.stab.specs.Model.{Model, pairRefusal, modelRefusal, satisfied, assignment}
+use Rattle.stab.specs.Check.{wholeUnless, holds, rootFits, formulasRefusal, schemaRefusal, verdict}
 use Rattle.stab.specs.declared.Place.{Place}
 use Rattle.stab.specs.declared.Place.the-variants.{Whole}
 use Rattle.stab.specs.declared.Refusal.{Refusal}
@@ -24,7 +24,6 @@ use Rattle.stab.proofs.Bools.{and-left, and-right, same-test, nothing-unless, u
 use Rattle.stab.proofs.Findings.{otherwise-assoc}
 use Rattle.stab.proofs.Trees.{below-nat}
 use Rattle.stab.proofs.Whole.{atom, le-of, of-le, plus-nat, minus-nat}
-pub use Rattle.formula.proofs.Columns.{formula-rows-part}
 use Rattle.model.specs.Passes.{tablesRefusal, truthRefusal}
 use Rattle.pairs.proofs.Parts.{high-is}
 
@@ -63,21 +62,17 @@ module _ (ok : Bool) (why : Refusal) where
   pub found-later : (rest x : Finding) → ok ≡ true → x ≡ rest → x ≡ (wholeUnless ok why otherwise rest)
   found-later rest x h e = e ∙ sym (otherwise-nothing (wholeUnless ok why) rest (whole-none h))
 
--- three numbers at once
-pub same₃ : {B : Type 0} (f : ℤ → ℤ → ℤ → B) {x x′ y y′ z z′ : ℤ} → x ≡ x′ → y ≡ y′ → z ≡ z′ → f x y z ≡ f x′ y′ z′
-same₃ f p q r = λ i. f (p i) (q i) (r i)
-
 -- ---- what passed
 
-module _ (rows : ℕ → Row) (s : ℕ) (root least : ℤ) (h : formulasRefusal rows s s root least ≡ Nothing) where
-  pub passed-root : nat root < s
-  unfolding formulasRefusal formulasBy wholeUnless rootFits
-  passed-root = below-nat s root (and-left (below s root) _ (unless-nothing (rootFits s root least) _ _ (otherwise-first _ _ h)))
+pub passed-root : (S : Schema) → schemaRefusal S ≡ Nothing → nat (S .root) < S .rows
+unfolding schemaRefusal formulasRefusal wholeUnless rootFits
+passed-root S h =
+    below-nat (S .rows) (S .root) (and-left (below (S .rows) (S .root)) _ (unless-nothing (rootFits (S .rows) (S .root) (S .least)) _ _ (otherwise-first _ _ h)))
 
 -- ---- the whole check
 
-pub model-is : (M : Model) → modelRefusal M ≡ (tablesRefusal (M .schema) (M .schemaRows) (M .pairs) (M .pairRows) otherwise (formulasRefusal (rowAt (M .schema)) (M .schemaRows) (M .schemaRows) (M .root) (M .least) otherwise (scan (pairRefusal (M .pairs)) (M .pairRows) otherwise truthRefusal (M .schema) (M .root) (M .least) (M .n) (M .pairs) (M .pairRows))))
-unfolding modelRefusal tablesRefusal truthRefusal satisfied assignment schemaRow
+pub model-is : (M : Model) → modelRefusal M ≡ (tablesRefusal (M .schema .table) (M .schema .rows) (M .pairs) (M .pairRows) otherwise (schemaRefusal (M .schema) otherwise (scan (pairRefusal (M .pairs)) (M .pairRows) otherwise truthRefusal (M .schema) (M .n) (M .pairs) (M .pairRows))))
+unfolding modelRefusal tablesRefusal truthRefusal satisfied assignment
 model-is M = sym (otherwise-assoc _ _ _)
 
 module _ (s k : ℕ) (schema pairs : List ℤ) (h : tablesRefusal schema s pairs k ≡ Nothing) where

@@ -5,7 +5,7 @@ use lib.Dec.{leb}
 use lib.IntN.{ℤ, pos}
 use lib.Signed.{leZ}
 use Rattle.stab.specs.Basic.{_and_, nat, _otherwise_}
-use Rattle.stab.specs.Formula.{rowAt, tree}
+use Rattle.stab.specs.Formula.{Schema, rowAt, schemaFormula}
 use Rattle.stab.specs.Meaning.{truth}
 use Rattle.stab.specs.Model.{listed}
 use Rattle.stab.specs.Check.{wholeUnless, holds}
@@ -21,14 +21,14 @@ tablesRefusal schema s pairs k =
     wholeUnless (leb s 1024 and leb k 4096) TooMany
 
 -- 19 and 20
-unfoldable pub truthRefusal : List ℤ → ℤ → ℤ → ℤ → List ℤ → ℕ → Finding
-truthRefusal schema root least n pairs k =
-    wholeUnless (leZ least n and leZ n (pos 9999)) Width otherwise
-    wholeUnless (truth (listed pairs k) (nat n) (tree (rowAt schema) (nat root))) False
+unfoldable pub truthRefusal : Schema → ℤ → List ℤ → ℕ → Finding
+truthRefusal S n pairs k =
+    wholeUnless (leZ (S .least) n and leZ n (pos 9999)) Width otherwise
+    wholeUnless (truth (listed pairs k) (nat n) (schemaFormula S)) False
 
 -- what holds of a record that has passed up to the pairs
-pub record RootReadable (schema : List ℤ) (root : ℤ) (pairs : List ℤ) (k : ℕ) : Type 0 where
-  pub row : nat root < 1024
-  pub formed : AllFormed (rowAt schema) (nat root + 1)
+pub record RootReadable (S : Schema) (pairs : List ℤ) (k : ℕ) : Type 0 where
+  pub row : nat (S .root) < 1024
+  pub formed : AllFormed (rowAt (S .table)) (nat (S .root) + 1)
   pub few : k ≤ 4096
   pub sorted : Sorted pairs k

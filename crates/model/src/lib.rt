@@ -1,8 +1,10 @@
 // The model check.
+use formula_pass::schema_formulas;
 use pairs::pairs_pass;
 use stab::Finding;
 use stab::Place;
 use stab::Refusal;
+use stab::SchemaHeader;
 use stab::Verdict;
 use value::formula_value;
 ghost use mathlib.Core.Path.{_≡_};
@@ -12,14 +14,14 @@ ghost use lib.Signed.{leZ};
 ghost use lib.ListN.{length};
 ghost use Rattle.stab.specs.Basic.{_and_};
 ghost use Rattle.stab.specs.Formula.{rowAt};
-ghost use Rattle.stab.specs.Check.{formulasRefusal};
+ghost use Rattle.stab.specs.Lent.{lentSchema};
+ghost use Rattle.stab.specs.Check.{schemaRefusal};
 ghost use Rattle.stab.specs.declared.Finding.the-variants.{Nothing, Found};
 ghost use Rattle.stab.specs.declared.Place.the-variants.{Whole};
 ghost use Rattle.stab.specs.declared.Verdict.the-variants.{Accepted};
 ghost use Rattle.stab.specs.Model.{modelRefusal, checkModel};
 ghost use Rattle.stab.specs.Refuted.{Irrefutable};
 ghost use Rattle.formula.specs.Facts.{AllFormed};
-ghost use Rattle.formula.specs.Rows.{formulasTable, Passed};
 ghost use Rattle.model.specs.Passes.{tablesRefusal, truthRefusal, RootReadable};
 
 // A refusal of the whole record.
@@ -51,40 +53,14 @@ fn tables_pass(schema: &[i32], schema_rows: usize, pairs: &[i32], pair_rows: usi
     Finding::Nothing
 }
 
-// Refusals 6, 7, 8 and 6 again, over the schema rows, whose numbers are kept. The rest of the table stands where a proof's rows
-// would.
-pub fn schema_pass(
-    schema: &[i32],
-    schema_rows: usize,
-    root: i32,
-    least: i32,
-    facts: &mut [u32],
-) -> Finding
-    requires { ⌜ («schema_rows» ≤ 1024) × (4 * «schema_rows» ≤ length (now schema)) × (4 * «schema_rows» ≤ length (now facts)) ⌝ }
-    ensures { λ r. ⌜ r ≡ formulasRefusal (rowAt (now (schema .entry))) «schema_rows» «schema_rows» root least ⌝ }
-    ensures { λ r. ⌜ (formulasRefusal (rowAt (now (schema .entry))) «schema_rows» «schema_rows» root least ≡ Nothing → Passed (rowAt (now (schema .entry))) (now (facts .exit)) «schema_rows») ⌝ }
-    ensures { λ r. ⌜ now (facts .exit) ≡ formulasTable (rowAt (now (schema .entry))) (now (facts .entry)) «schema_rows» «schema_rows» root least ⌝ }
-{
-    let end = 4 * schema_rows;
-    formula::rows::formulas(
-        schema,
-        schema_rows,
-        &schema[end..],
-        schema_rows,
-        root,
-        least,
-        facts,
-    )
-}
-
-// The same where their numbers are not asked for.
-fn formulas_pass(schema: &[i32], schema_rows: usize, root: i32, least: i32) -> Finding
-    requires { ⌜ («schema_rows» ≤ 1024) × (4 * «schema_rows» ≤ length (now schema)) ⌝ }
-    ensures { λ r. ⌜ r ≡ formulasRefusal (rowAt (now (schema .entry))) «schema_rows» «schema_rows» root least ⌝ }
-    ensures { λ r. ⌜ (formulasRefusal (rowAt (now (schema .entry))) «schema_rows» «schema_rows» root least ≡ Nothing → AllFormed (rowAt (now (schema .entry))) «schema_rows») ⌝ }
+// Refusals 6, 7, 8 and 6 again, over the schema rows.
+fn formulas_pass(schema: &[i32], h: SchemaHeader) -> Finding
+    requires { ⌜ (h .rows ≤ 1024) × (4 * h .rows ≤ length (now schema)) ⌝ }
+    ensures { λ r. ⌜ r ≡ schemaRefusal (lentSchema (now (schema .entry)) h) ⌝ }
+    ensures { λ r. ⌜ (r ≡ Nothing → AllFormed (rowAt (now (schema .entry))) (h .rows)) ⌝ }
 {
     let mut facts = [0u32; 4096];
-    schema_pass(schema, schema_rows, root, least, &mut facts)
+    schema_formulas(schema, h, &mut facts)
 }
 
 // n is not below the least value, nor over 9999.
@@ -98,21 +74,14 @@ pub fn width_fits(least: i32, n: i32) -> bool
 }
 
 // Refusals 19 and 20, for a record that has passed so far.
-fn truth_pass(
-    schema: &[i32],
-    root: i32,
-    least: i32,
-    n: i32,
-    pairs: &[i32],
-    pair_rows: usize,
-) -> Finding
-    requires { ⌜ RootReadable (now schema) root (now pairs) «pair_rows» ⌝ }
-    ensures { λ r. ⌜ r ≡ truthRefusal (now (schema .entry)) root least n (now (pairs .entry)) «pair_rows» ⌝ }
+fn truth_pass(schema: &[i32], h: SchemaHeader, n: i32, pairs: &[i32], pair_rows: usize) -> Finding
+    requires { ⌜ RootReadable (lentSchema (now schema) h) (now pairs) «pair_rows» ⌝ }
+    ensures { λ r. ⌜ r ≡ truthRefusal (lentSchema (now (schema .entry)) h) n (now (pairs .entry)) «pair_rows» ⌝ }
 {
-    if !width_fits(least, n) {
+    if !width_fits(h.least, n) {
         return whole(Refusal::Width);
     }
-    let f = signed::natural(root);
+    let f = signed::natural(h.root);
     let m = signed::natural(n);
     if formula_value(schema, f, m, 65536, 1, pairs, pair_rows) != 1 {
         return whole(Refusal::False);
@@ -121,22 +90,14 @@ fn truth_pass(
 }
 
 // What is found first in a record.
-fn model_pass(
-    schema: &[i32],
-    schema_rows: usize,
-    root: i32,
-    least: i32,
-    n: i32,
-    pairs: &[i32],
-    pair_rows: usize,
-) -> Finding
-    ensures { λ r. ⌜ r ≡ modelRefusal (record { schema = now (schema .entry); schemaRows = «schema_rows»; root = root; least = least; n = n; pairs = now (pairs .entry); pairRows = «pair_rows» }) ⌝ }
+fn model_pass(schema: &[i32], h: SchemaHeader, n: i32, pairs: &[i32], pair_rows: usize) -> Finding
+    ensures { λ r. ⌜ r ≡ modelRefusal (record { schema = lentSchema (now (schema .entry)) h; n = n; pairs = now (pairs .entry); pairRows = «pair_rows» }) ⌝ }
 {
-    let found = tables_pass(schema, schema_rows, pairs, pair_rows);
+    let found = tables_pass(schema, h.rows, pairs, pair_rows);
     let Finding::Nothing = found else {
         return found;
     };
-    let found = formulas_pass(schema, schema_rows, root, least);
+    let found = formulas_pass(schema, h);
     let Finding::Nothing = found else {
         return found;
     };
@@ -144,23 +105,21 @@ fn model_pass(
     let Finding::Nothing = found else {
         return found;
     };
-    truth_pass(schema, root, least, n, pairs, pair_rows)
+    truth_pass(schema, h, n, pairs, pair_rows)
 }
 
 // The model check's answer. Where it accepts, no tableau of the same schema rows, root and least value is accepted.
 pub fn check_model(
     schema: &[i32],
-    schema_rows: usize,
-    root: i32,
-    least: i32,
+    h: SchemaHeader,
     n: i32,
     pairs: &[i32],
     pair_rows: usize,
 ) -> Verdict
-    ensures { λ r. ⌜ r ≡ checkModel (record { schema = now (schema .entry); schemaRows = «schema_rows»; root = root; least = least; n = n; pairs = now (pairs .entry); pairRows = «pair_rows» }) ⌝ }
-    ensures { λ r. ⌜ ((nodes links : ℕ) → r ≡ Accepted nodes links → Irrefutable (now (schema .entry)) «schema_rows» root least) ⌝ }
+    ensures { λ r. ⌜ r ≡ checkModel (record { schema = lentSchema (now (schema .entry)) h; n = n; pairs = now (pairs .entry); pairRows = «pair_rows» }) ⌝ }
+    ensures { λ r. ⌜ ((nodes links : ℕ) → r ≡ Accepted nodes links → Irrefutable (lentSchema (now (schema .entry)) h)) ⌝ }
 {
-    let found = model_pass(schema, schema_rows, root, least, n, pairs, pair_rows);
+    let found = model_pass(schema, h, n, pairs, pair_rows);
     match found {
         Finding::Found { why, place } => Verdict::Refused { why, place },
         Finding::Nothing => Verdict::Accepted { nodes: 0, links: 0 },

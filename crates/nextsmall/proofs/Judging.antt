@@ -9,7 +9,8 @@ use lib.IntN.{ℤ, pos}
 use borrow.Author.Tests.{le-leb}
 use Rattle.stab.specs.Basic.{if_then_else_, _and_, eqZ, within, nat, below, scan, unless, allOf}
 use Rattle.stab.specs.Formula.{Row, rowAt, Kind, constant, literal, junction, iteration, unknown, kindOf, Formula, partIf, part, decode, treeN, tree, size, depth, isOuter, wellFormed, smallEnough}
-use Rattle.stab.specs.Check.{atUnless, wholeUnless, rowRefusal, rootFits, formulasBy, formulasRefusal}
+use Rattle.stab.specs.Check.{atUnless, wholeUnless, rowRefusal, rootFits, formulaRefusal, formulasRefusal, schemaRefusal}
+use Rattle.stab.specs.Lent.{lentSchema, schemaHeader}
 use Rattle.stab.specs.declared.Finding.{Finding}
 use Rattle.stab.specs.declared.Refusal.{Refusal}
 use Rattle.stab.specs.declared.Place.{Place}
@@ -98,7 +99,7 @@ least-fits = refl
 
 module _ (n : ℕ) (t : List ℤ) (a : 1 ≤ n) (b : n ≤ 3) where
   abbrev pub passes : Finding
-  passes = formulasRefusal (rowAt t) n n (pos (n - 1)) (pos 0)
+  passes = schemaRefusal (lentSchema t (schemaHeader n (pos (n - 1)) (pos 0)))
 
   root-fits : rootFits n (pos (n - 1)) (pos 0) ≡ true
   unfolding rootFits
@@ -110,7 +111,7 @@ module _ (n : ℕ) (t : List ℤ) (a : 1 ≤ n) (b : n ≤ 3) where
   small-rows (suc m) f = and-both _ _ (small-rows m (λ r l. f r (omega arith))) (f m (omega arith))
 
   pub passes-listed : RowsFit n t → passes ≡ Nothing → onList n t ≡ true
-  unfolding formulasRefusal formulasBy wholeUnless rowRefusal atUnless isSmall onList nat
+  unfolding schemaRefusal formulasRefusal formulaRefusal wholeUnless rowRefusal atUnless isSmall onList nat
   passes-listed f h =
       let rest = otherwise-second (unless (rootFits n (pos (n - 1)) (pos 0)) _ _) _ h in
       let rows = nothing-scan (rowRefusal (rowAt t)) n (otherwise-first _ _ rest) in
@@ -123,7 +124,7 @@ module _ (n : ℕ) (t : List ℤ) (a : 1 ≤ n) (b : n ≤ 3) where
       outer))
 
   pub listed-passes : onList n t ≡ true → passes ≡ Nothing
-  unfolding formulasRefusal formulasBy wholeUnless rowRefusal atUnless isSmall nat
+  unfolding schemaRefusal formulasRefusal formulaRefusal wholeUnless rowRefusal atUnless isSmall nat
   listed-passes h =
       otherwise-nothing _ _ (nothing-unless (rootFits n (pos (n - 1)) (pos 0)) _ _ root-fits)
       ∙ otherwise-nothing _ _

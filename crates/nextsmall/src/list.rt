@@ -3,7 +3,9 @@ use crate::rows::Columns;
 use crate::rows::candidate;
 use crate::rows::count;
 use crate::rows::place as row_place;
+use formula_pass::schema_formulas;
 use stab::Finding;
+use stab::SchemaHeader;
 ghost use mathlib.Core.Path.{_≡_};
 ghost use mathlib.Core.List.{[], _++_};
 ghost use Prim.Native.Nat.{_+_, _*_, _<_, _≤_};
@@ -82,9 +84,13 @@ pub fn on_list(table: &[i32], n: usize) -> bool
     ensures { λ v. ⌜ v ≡ onList n (now (table .entry)) ⌝ }
 {
     let mut facts = [0u32; 12];
-    let end = 4 * n;
     let root = signed::of(n - 1);
-    match formula::rows::formulas(table, n, &table[end..], n, root, 0, &mut facts) {
+    let h = SchemaHeader {
+        rows: n,
+        root,
+        least: 0,
+    };
+    match schema_formulas(table, h, &mut facts) {
         Finding::Nothing => true,
         Finding::Found { why: _, place: _ } => false,
     }

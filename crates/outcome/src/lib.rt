@@ -1,8 +1,10 @@
 // What the two texts of a record come to: each is read into tables, the schema first, and what was read is checked.
+use stab::Header;
 use stab::ModelRead;
 use stab::Place;
 use stab::ProofRead;
 use stab::Refusal;
+use stab::SchemaHeader;
 use stab::SchemaRead;
 use stab::Verdict;
 use text::read;
@@ -43,15 +45,8 @@ pub fn verdict(o: Outcome) -> Verdict
 }
 
 // A proof text, after a schema text whose rows stand in a table; of an older record or not.
-fn check_after(
-    older: bool,
-    table: &[i32],
-    rows: usize,
-    root: i32,
-    least: i32,
-    proof: &[u8],
-) -> Outcome
-    ensures { λ r. ⌜ r ≡ checkAfter older (readProof 4096 9216 8192 (now (proof .entry))) (now (table .entry)) rows root least ⌝ }
+fn check_after(older: bool, table: &[i32], h: SchemaHeader, proof: &[u8]) -> Outcome
+    ensures { λ r. ⌜ r ≡ checkAfter older (readProof 4096 9216 8192 (now (proof .entry))) (now (table .entry)) h ⌝ }
 {
     let mut more = [0i32; 4096];
     let mut nodes = [0i32; 9216];
@@ -65,17 +60,19 @@ fn check_after(
             verdict: tableau::check::check_as(
                 older,
                 table,
-                rows,
                 &more,
-                p,
-                root,
-                least,
                 &nodes,
-                k,
                 &members,
-                m,
+                Header {
+                    schema_rows: h.rows,
+                    proof_rows: p,
+                    root: h.root,
+                    least: h.least,
+                    node_rows: k,
+                    member_count: m,
+                },
             ),
-            schema_rows: rows,
+            schema_rows: h.rows,
             proof_rows: p,
         },
         ProofRead::Refused { why, place } => Outcome::Second { why, place },
@@ -89,21 +86,21 @@ pub fn check_outcome(older: bool, schema: &[u8], proof: &[u8]) -> Outcome
     let mut table = [0i32; 4096];
     match read::read_schema(schema, &mut table) {
         SchemaRead::Schema { root, least, rows } => {
-            check_after(older, &table, rows, root, least, proof)
+            check_after(older, &table, SchemaHeader { rows, root, least }, proof)
         }
         SchemaRead::Refused { why, place } => Outcome::First { why, place },
     }
 }
 
 // A model text, after a schema text whose rows stand in a table.
-fn model_after(table: &[i32], rows: usize, root: i32, least: i32, model: &[u8]) -> Outcome
-    ensures { λ r. ⌜ r ≡ modelAfter (readModel 8192 (now (model .entry))) (now (table .entry)) rows root least ⌝ }
+fn model_after(table: &[i32], h: SchemaHeader, model: &[u8]) -> Outcome
+    ensures { λ r. ⌜ r ≡ modelAfter (readModel 8192 (now (model .entry))) (now (table .entry)) h ⌝ }
 {
     let mut pairs = [0i32; 8192];
     match read::read_model(model, &mut pairs) {
         ModelRead::Model { n, pairs: k } => Outcome::Judged {
-            verdict: model::check_model(table, rows, root, least, n, &pairs, k),
-            schema_rows: rows,
+            verdict: model::check_model(table, h, n, &pairs, k),
+            schema_rows: h.rows,
             proof_rows: 0,
         },
         ModelRead::Refused { why, place } => Outcome::Second { why, place },
@@ -116,7 +113,9 @@ pub fn model_outcome(schema: &[u8], model: &[u8]) -> Outcome
 {
     let mut table = [0i32; 4096];
     match read::read_schema(schema, &mut table) {
-        SchemaRead::Schema { root, least, rows } => model_after(&table, rows, root, least, model),
+        SchemaRead::Schema { root, least, rows } => {
+            model_after(&table, SchemaHeader { rows, root, least }, model)
+        }
         SchemaRead::Refused { why, place } => Outcome::First { why, place },
     }
 }

@@ -1,2 +1,2 @@
 pub mod Links
-mod RepeatedLaws
+pub mod RepeatedLaws

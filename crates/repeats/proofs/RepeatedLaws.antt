@@ -1,10 +1,10 @@
 -- What is found of a row, by whether it is written twice.
-use Prim.Native.Nat.{ℕ, _<_}
+use Prim.Native.Nat.{ℕ}
 use mathlib.Core.Path.{_≡_, sym, _∙_}
 use mathlib.Core.Logic.{⊎-elim}
 use mathlib.Core.Bool.{true, false}
 use lib.Dec.{leb, ltb}
-use borrow.Author.Tests.{leb-true, le-leb, ltb-false, lt-ltb, le-ltb}
+use borrow.Author.Tests.{leb-true, le-leb, ltb-false, le-ltb}
 use Rattle.stab.specs.Formula.{Row}
 use Rattle.stab.specs.Check.{atUnless, repeatRefusal}
 use Rattle.stab.specs.declared.Place.the-variants.{At}
@@ -28,7 +28,3 @@ module _ (rows : ℕ → Row) (from r : ℕ) where
       (λ t. or-left _ _ t)
       (λ t. or-right (ltb r from) _ (not-of-false _ (sym (and-first-true _ _ (le-leb from r (ltb-false r from t))) ∙ h)))
       (decide (ltb r from)))
-
-  pub repeat-before : r < from → repeatRefusal rows from r ≡ Nothing
-  unfolding repeatRefusal atUnless
-  repeat-before l = nothing-unless _ _ _ (or-left _ _ (lt-ltb r from l))

@@ -9,9 +9,9 @@ use lib.IntN.{ℤ, pos}
 use lib.Signed.{_≤ℤ_}
 use Rattle.stab.specs.Basic.{eqZ, nat}
 use Rattle.stab.specs.Node.{Tableau, Bound, node, bound}
-use Rattle.stab.specs.Rule.{entry, ruleTable, ruleOf, rule, ofRule, drawn, fieldsFit, targetFits, loopFits, boundFits, partnersFit, loweredFits, childrenFit}
-use Rattle.stab.specs.Check.{nodeRefusal, stepRefusal, refusalWith, olderFormulas, checkWith, verdict, checkOlder, linkCount}
-use Rattle.stab.specs.AncestorLink.{Ancestor, parent, further, targetAbove, loopAbove, boundAbove, stepRefusalAbove, nodeRefusalAbove, checkAbove}
+use Rattle.stab.specs.Rule.{entry, ruleTable, ruleOf, rule, ofRule, drawn, fieldsFit, targetFits, loopFits, boundFits, partnersFit, loweredFits, childrenFit, childrenAs}
+use Rattle.stab.specs.Check.{nodeRefusal, stepRefusal, refusal, olderMode, verdict, verdictOn, checkOlder, linkCount}
+use Rattle.stab.specs.Before.{stepBy, nodeBy, refusalBy, checkBy, testsNow, Ancestor, parent, further, targetAbove, loopAbove, boundAbove, testsAbove}
 use Rattle.stab.specs.Keeps.{KeepsParent}
 use Rattle.stab.specs.declared.Refusal.the-variants.{Drawn, Fields, Target, Bound as BoundWrong, Partner, Lowered, Children}
 use Rattle.stab.specs.declared.Verdict.the-variants.{Accepted}
@@ -25,6 +25,11 @@ use Rattle.stab.proofs.Ancestors.{ancestor-below, ancestor-tests}
 use Rattle.stab.proofs.Exactness.Checked.{refusal-by-kept}
 use Rattle.stab.proofs.Exactness.Refusals.{accepted}
 use Rattle.stab.proofs.Exactness.Steps.{rule-tests, fields-tests, target-tests, loop-tests, bound-tests}
+
+-- with its own tests it is the older check
+pub with-own-tests : (T : Tableau) → checkBy testsNow T ≡ checkOlder T
+unfolding checkBy refusalBy nodeBy stepBy testsNow checkOlder refusal olderMode nodeRefusal stepRefusal childrenAs
+with-own-tests T = refl
 
 -- a loop uses to and by
 pub link-used : (T : Tableau) (j : ℕ) → node T j .rule ≡ pos 8 → rule T j .link ≡ true
@@ -66,8 +71,8 @@ pub record Above (T : Tableau) (j : ℕ) : Type 0 where
   lowered : loweredFits T j ≡ true
   children : childrenFit T j ≡ true
 
-pub above-clears : (T : Tableau) (j : ℕ) → nodeRefusalAbove T j ≡ Nothing → Above T j
-unfolding nodeRefusalAbove stepRefusalAbove
+pub above-clears : (T : Tableau) (j : ℕ) → nodeBy testsAbove T j ≡ Nothing → Above T j
+unfolding nodeBy stepBy testsAbove
 above-clears T j h =
     let p =
     ((at-clears Drawn j (itself (drawn T j)) then
@@ -152,8 +157,8 @@ module _ (T : Tableau) (parents : (k : ℕ) → k < T .nodeRows → KeepsParent 
       (λ r. sym (other-above T j r) ∙ found j l .bounds)
       (decide (ofRule 8 (node T j)))
 
-  node-kept : nodeRefusal T j ≡ Nothing
-  unfolding nodeRefusal stepRefusal
+  node-kept : nodeRefusal true T j ≡ Nothing
+  unfolding nodeRefusal stepRefusal childrenAs
   node-kept =
       ((at-clears Drawn j (itself (drawn T j)) then
       at-clears Fields j (itself (fieldsFit T j)) then
@@ -169,9 +174,9 @@ module _ (T : Tableau) (parents : (k : ℕ) → k < T .nodeRows → KeepsParent 
 -- ---- the theorem
 
 -- 02, No. 6: tableaux that were accepted are accepted, with the same counts, whatever their numbers
-pub ancestor-links-accepted : (T : Tableau) (n l : ℕ) → checkAbove T ≡ Accepted n l → checkOlder T ≡ Accepted n l
-unfolding checkAbove checkOlder checkWith nodeRefusalAbove stepRefusalAbove verdict
+pub ancestor-links-accepted : (T : Tableau) (n l : ℕ) → checkBy testsAbove T ≡ Accepted n l → checkOlder T ≡ Accepted n l
+unfolding checkBy checkOlder verdictOn verdict
 ancestor-links-accepted T n l h =
     let a =
-    accepted (refusalWith olderFormulas nodeRefusalAbove T) (T .nodeRows) (linkCount T) n l h in
-    rw (refusal-by-kept nodeRefusalAbove nodeRefusal T (λ parents found j m. node-kept T parents (λ k p. above-clears T k (found k p)) j m) (a .0), a .1, a .2)
+    accepted (refusalBy testsAbove T) (T .nodeRows) (linkCount T) n l h in
+    rw (refusal-by-kept testsAbove T (λ parents found j m. node-kept T parents (λ k p. above-clears T k (found k p)) j m) (a .0), a .1, a .2)

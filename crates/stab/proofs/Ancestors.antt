@@ -9,7 +9,7 @@ use lib.IntN.{ℤ, pos}
 use Rattle.stab.specs.Basic.{_and_, _or_, eqZ, nat, below}
 use Rattle.stab.specs.Node.{Tableau, nodeAt}
 use Rattle.stab.specs.Keeps.{KeepsParent}
-use Rattle.stab.specs.AncestorLink.{aboveIf, aboveN, isAncestor, Ancestor, parent, further}
+use Rattle.stab.specs.Before.{aboveIf, aboveN, isAncestor, Ancestor, parent, further}
 use Rattle.stab.proofs.Bools.{and-left, and-right, and-both, or-cases, or-left, or-right}
 use Rattle.stab.proofs.Whole.{eqZ-true, eqZ-refl}
 use Rattle.stab.proofs.Trees.{below-pos, below-of}

@@ -9,7 +9,7 @@ use Prim.Native.Nat.{ℕ}
 use mathlib.Core.Path.{_≡_}
 use mathlib.Core.Logic.{_↔_}
 use Rattle.stab.specs.Node.{Tableau}
-use Rattle.stab.specs.Check.{linkCount, verdict, nodeRefusal, refusalWith, olderFormulas, presentFormulas, checkWith, check, checkOlder, refusal}
+use Rattle.stab.specs.Check.{linkCount, verdict, refusal, presentMode, olderMode, verdictOn, check, checkOlder}
 use Rattle.stab.specs.Model.{Model, modelRefusal, checkModel}
 use Rattle.stab.specs.Keeps.{KeepsOlder, Keeps, KeepsModel}
 use Rattle.stab.specs.declared.Verdict.the-variants.{Accepted}
@@ -19,20 +19,20 @@ use Refusals.{accepted}
 
 -- the check accepts exactly the records that keep the rules, and says how many nodes and links they have
 pub accepts-exactly : (T : Tableau) (n l : ℕ) → (check T ≡ Accepted n l) ↔ (Keeps T × (n ≡ T .nodeRows) × (l ≡ linkCount T))
-unfolding check refusal verdict
+unfolding check verdictOn verdict
 accepts-exactly T n l = (
   λ h.
-      let a = accepted (refusalWith presentFormulas nodeRefusal T) (T .nodeRows) (linkCount T) n l h in
+      let a = accepted (refusal presentMode T) (T .nodeRows) (linkCount T) n l h in
       (tableau-clears T .0 (a .0), a .1, a .2),
   λ p. rw (tableau-clears T .1 (p .0), p .1, p .2),
 )
 
 -- the older check exactly those that keep document 01's rules, as 02, Nos. 3 to 6 amend them
 pub older-accepts-exactly : (T : Tableau) (n l : ℕ) → (checkOlder T ≡ Accepted n l) ↔ (KeepsOlder T × (n ≡ T .nodeRows) × (l ≡ linkCount T))
-unfolding checkOlder checkWith verdict
+unfolding checkOlder verdictOn verdict
 older-accepts-exactly T n l = (
   λ h.
-      let a = accepted (refusalWith olderFormulas nodeRefusal T) (T .nodeRows) (linkCount T) n l h in
+      let a = accepted (refusal olderMode T) (T .nodeRows) (linkCount T) n l h in
       (older-clears T .0 (a .0), a .1, a .2),
   λ p. rw (older-clears T .1 (p .0), p .1, p .2),
 )

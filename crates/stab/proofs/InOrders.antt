@@ -9,9 +9,9 @@ use Rattle.stab.specs.Basic.{_and_, _or_, eqZ, nat, _otherwise_}
 use Rattle.stab.specs.Formula.{Formula, const, lit, join, iter}
 use Rattle.stab.specs.Alike.{lower, eqOp, alike}
 use Rattle.stab.specs.Node.{Tableau, row, formula, node, set}
-use Rattle.stab.specs.Rule.{shortened, isInstance, partnersFit, isLowered, hasLowered, loweredFits}
-use Rattle.stab.specs.Check.{atUnless, stepRefusal, nodeRefusal, refusalWith, olderFormulas, checkWith, verdict, checkOlder, linkCount}
-use Rattle.stab.specs.InOrder.{agree, partnersInOrder, hasLoweredInOrder, loweredInOrder, stepRefusalInOrder, nodeRefusalInOrder, checkInOrder}
+use Rattle.stab.specs.Rule.{shortened, isInstance, partnersFit, isLowered, hasLowered, loweredFits, childrenAs}
+use Rattle.stab.specs.Check.{atUnless, stepRefusal, nodeRefusal, refusal, olderMode, verdict, verdictOn, checkOlder, linkCount}
+use Rattle.stab.specs.Before.{stepBy, nodeBy, refusalBy, checkBy, agree, partnersInOrder, hasLoweredInOrder, loweredInOrder, testsInOrder}
 use Rattle.stab.specs.declared.Refusal.{Refusal}
 use Rattle.stab.specs.declared.Verdict.{Verdict}
 use Rattle.stab.specs.declared.Verdict.the-variants.{Accepted}
@@ -89,24 +89,24 @@ _both_ {w} {x} {y} {z} f g h = otherwise-nothing x z (f (otherwise-first w y h))
 at-kept : {a b : Bool} (why : Refusal) (j : ℕ) → (a ≡ true → b ≡ true) → atUnless a why j clears-too atUnless b why j
 at-kept {a} {b} why j f h = at-clears why j (itself b) .1 (f (at-clears why j (itself a) .0 h))
 
-step-kept : (T : Tableau) (j : ℕ) → stepRefusalInOrder T j clears-too stepRefusal T j
-unfolding stepRefusalInOrder stepRefusal
+step-kept : (T : Tableau) (j : ℕ) → stepBy testsInOrder T j clears-too stepRefusal T j
+unfolding stepBy testsInOrder stepRefusal
 step-kept T j =
     (λ h. h) both (λ h. h) both (λ h. h) both (λ h. h) both at-kept _ j (partners-kept T j) both at-kept _ j (lowered-kept T j)
 
-node-kept : (T : Tableau) (j : ℕ) → nodeRefusalInOrder T j clears-too nodeRefusal T j
-unfolding nodeRefusalInOrder nodeRefusal
+node-kept : (T : Tableau) (j : ℕ) → nodeBy testsInOrder T j clears-too nodeRefusal true T j
+unfolding nodeBy nodeRefusal childrenAs
 node-kept T j = step-kept T j both (λ h. h)
 
-refusal-kept : (T : Tableau) → refusalWith olderFormulas nodeRefusalInOrder T clears-too refusalWith olderFormulas nodeRefusal T
-refusal-kept T = refusal-by-kept nodeRefusalInOrder nodeRefusal T (λ parents found j l. node-kept T j (found j l))
+refusal-kept : (T : Tableau) → refusalBy testsInOrder T clears-too refusal olderMode T
+refusal-kept T = refusal-by-kept testsInOrder T (λ parents found j l. node-kept T j (found j l))
 
 -- ---- the theorem
 
 -- 02, No. 4: links and unfoldings that were accepted are accepted, for every tableau, whatever its numbers
-pub in-order-accepted : (T : Tableau) (n l : ℕ) → checkInOrder T ≡ Accepted n l → checkOlder T ≡ Accepted n l
-unfolding checkInOrder checkOlder checkWith nodeRefusalInOrder stepRefusalInOrder verdict
+pub in-order-accepted : (T : Tableau) (n l : ℕ) → checkBy testsInOrder T ≡ Accepted n l → checkOlder T ≡ Accepted n l
+unfolding checkBy checkOlder verdictOn verdict
 in-order-accepted T n l h =
     let a =
-    accepted (refusalWith olderFormulas nodeRefusalInOrder T) (T .nodeRows) (linkCount T) n l h in
+    accepted (refusalBy testsInOrder T) (T .nodeRows) (linkCount T) n l h in
     rw (refusal-kept T (a .0), a .1, a .2)

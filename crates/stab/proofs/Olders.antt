@@ -7,7 +7,7 @@ use lib.Dec.{ltb}
 use Rattle.stab.specs.Basic.{_or_, _otherwise_, scan, unless}
 use Rattle.stab.specs.Formula.{Row}
 use Rattle.stab.specs.Node.{Tableau, rows, rowCount}
-use Rattle.stab.specs.Check.{atUnless, rowRefusal, standsBefore, repeatRefusal, freshRowRefusal, formulasBy, formulasRefusal, nodeRefusal, refusalWith, olderFormulas, presentFormulas, linkCount, verdict, checkWith, check, checkOlder, refusal}
+use Rattle.stab.specs.Check.{atUnless, rowRefusal, standsBefore, repeatRefusal, formulaRefusal, formulasRefusal, refusal, presentMode, olderMode, linkCount, verdict, verdictOn, check, checkOlder}
 use Rattle.stab.specs.Keeps.{Fresh}
 use Rattle.stab.specs.declared.Place.the-variants.{At}
 use Rattle.stab.specs.declared.Refusal.the-variants.{Repeated}
@@ -41,8 +41,8 @@ both-or-27 {y = y} {w = w} (inl e) h =
     (then-or-27 y h)
 both-or-27 {w = w} (inr p) h = inr (p .0, ap (λ (v : Finding). v otherwise w) (p .1))
 
-row-or-27 : (rows : ℕ → Row) (s r : ℕ) → Or27 (freshRowRefusal rows s r) (rowRefusal rows r)
-unfolding freshRowRefusal repeatRefusal _otherwise_ atUnless unless
+row-or-27 : (rows : ℕ → Row) (s r : ℕ) → Or27 (formulaRefusal false rows s r) (formulaRefusal true rows s r)
+unfolding formulaRefusal repeatRefusal _otherwise_ atUnless unless
 row-or-27 rows s r = go (rowRefusal rows r) (ltb r s or not (standsBefore rows r (rows r)))
   where
     go : (x : Finding) (t : Bool) → Or27 (x otherwise atUnless t Repeated r) x
@@ -50,24 +50,21 @@ row-or-27 rows s r = go (rowRefusal rows r) (ltb r s or not (standsBefore rows r
     go Nothing false = inr (r, refl)
     go (Found why p) t = inl refl
 
-scan-or-27 : (rows : ℕ → Row) (s n : ℕ) → Or27 (scan (freshRowRefusal rows s) n) (scan (rowRefusal rows) n)
+scan-or-27 : (rows : ℕ → Row) (s n : ℕ) → Or27 (scan (formulaRefusal false rows s) n) (scan (formulaRefusal true rows s) n)
 unfolding scan
 scan-or-27 rows s zero = inl refl
 scan-or-27 rows s (suc n) = both-or-27 (scan-or-27 rows s n) (row-or-27 rows s n)
 
-formulas-or-27 : (T : Tableau) → Or27 (presentFormulas T) (olderFormulas T)
-unfolding presentFormulas olderFormulas formulasRefusal formulasBy
-formulas-or-27 T = then-or-27 _ (first-or-27 _ (scan-or-27 (rows T) (T .schemaRows) (rowCount T)))
-
-refusal-or-27 : (T : Tableau) → Or27 (refusalWith presentFormulas nodeRefusal T) (refusalWith olderFormulas nodeRefusal T)
-unfolding refusalWith
-refusal-or-27 T = then-or-27 _ (then-or-27 _ (first-or-27 _ (formulas-or-27 T)))
+refusal-or-27 : (T : Tableau) → Or27 (refusal presentMode T) (refusal olderMode T)
+unfolding refusal presentMode olderMode formulasRefusal
+refusal-or-27 T =
+    then-or-27 _ (then-or-27 _ (first-or-27 _ (then-or-27 _ (first-or-27 _ (scan-or-27 (rows T) (T .schemaRows) (rowCount T))))))
 
 -- ---- the theorems
 
 -- the check gives what the older check gives, or 27 at a row, for every tableau, whatever its numbers
 pub older-or-27 : (T : Tableau) → (check T ≡ checkOlder T) ⊎ ((r : ℕ) × (check T ≡ Refused Repeated (At r)))
-unfolding check refusal checkOlder checkWith verdict
+unfolding check checkOlder verdictOn verdict
 older-or-27 T =
     ⊎-elim
     (λ e. inl (ap (λ (x : Finding). verdict x (Accepted (T .nodeRows) (linkCount T))) e))

@@ -12,9 +12,8 @@ use Rattle.stab.specs.Basic.{_and_, _or_, _implies_, eqZ, nat, below}
 use Rattle.stab.specs.Formula.{Row}
 use Rattle.stab.specs.Node.{Tableau, Node, Bound, row, nodeAt, node, rank, isUpper, isExact, splitAt, splitBound, childBound, firstBound, boundOf, bound}
 use Rattle.stab.specs.Rule.{ofRule, fieldsFit, staysBelow, splitFits, unfoldFits, clashFits, voidFits, boundFits}
-use Rattle.stab.specs.AncestorLink.{targetAbove, loopAbove, boundAbove, stepRefusalAbove, nodeRefusalAbove, checkAbove}
-use Rattle.stab.specs.Check.{atUnless, checkWith, verdict, linkCount}
-use Rattle.stab.specs.OneValue.{OpenOrExact, splitOne, childOne, firstOne, boundOne, fieldsFitOne, splitFitsOne, voidFitsOne, boundFitsOne, stepRefusalOne, nodeRefusalOne, checkOne}
+use Rattle.stab.specs.Check.{atUnless, verdictOn}
+use Rattle.stab.specs.Before.{stepBy, nodeBy, checkBy, targetAbove, loopAbove, boundAbove, testsAbove, OpenOrExact, splitOne, childOne, firstOne, boundOne, fieldsFitOne, splitFitsOne, voidFitsOne, boundFitsOne, testsOne}
 use Rattle.stab.specs.Keeps.{KeepsParent, Splits}
 use Rattle.stab.specs.declared.Refusal.the-variants.{Bound as BoundWrong, Fields, Target}
 use Rattle.stab.specs.declared.Verdict.{Verdict}
@@ -134,7 +133,7 @@ module _ (T : Tableau) (parents : (k : ℕ) → k < T .nodeRows → KeepsParent 
       ∙ sym (ap twoSided (inherit-first (firstOne (T .least)) childOne (T .nodes) j b)))
       (decide (below j (nodeAt (T .nodes) j .up)))
 
-  module _ (j : ℕ) (l : j < T .nodeRows) (before : (k : ℕ) → k < j → nodeRefusalAbove T k ≡ Nothing) where
+  module _ (j : ℕ) (l : j < T .nodeRows) (before : (k : ℕ) → k < j → nodeBy testsAbove T k ≡ Nothing) where
     splits : (i : ℕ) → i < suc j → RightSplits T parents i
     splits i q = splits-above T parents i (λ k p. above-clears T k (before k (omega arith)) .bounds)
 
@@ -190,8 +189,8 @@ module _ (T : Tableau) (parents : (k : ℕ) → k < T .nodeRows → KeepsParent 
         (λ r. same-others r ∙ sym (other-above T j r))
         (decide (ofRule 8 (node T j)))
 
-    same-step : stepRefusalOne T j ≡ stepRefusalAbove T j
-    unfolding stepRefusalOne stepRefusalAbove
+    same-step : stepBy testsOne T j ≡ stepBy testsAbove T j
+    unfolding stepBy testsOne testsAbove
     same-step =
         otherwise-same _ _ _ (λ d.
         otherwise-first-same _ (ap (λ (v : Bool). atUnless v Fields j) same-fields)
@@ -200,15 +199,15 @@ module _ (T : Tableau) (parents : (k : ℕ) → k < T .nodeRows → KeepsParent 
         otherwise-first-same _
         (ap (λ (v : Bool). atUnless v BoundWrong j) (same-bounds (at-clears Target j (itself (targetAbove T j)) .0 t))))))
 
-    same-node : nodeRefusalOne T j ≡ nodeRefusalAbove T j
-    unfolding nodeRefusalOne nodeRefusalAbove
+    same-node : nodeBy testsOne T j ≡ nodeBy testsAbove T j
+    unfolding nodeBy
     same-node = otherwise-first-same _ same-step
 
 -- ---- the theorem
 
 -- 02, No. 5: "by 0 stands for K = L, so stored tableaux read as before", for every tableau, whatever its numbers
-pub stored-as-before : (T : Tableau) → ((j : ℕ) → j < T .nodeRows → node T j .rule ≡ pos 2 → node T j .by ≡ pos 0) → checkAbove T ≡ checkOne T
-unfolding checkAbove checkOne checkWith
+pub stored-as-before : (T : Tableau) → ((j : ℕ) → j < T .nodeRows → node T j .rule ≡ pos 2 → node T j .by ≡ pos 0) → checkBy testsAbove T ≡ checkBy testsOne T
+unfolding checkBy
 stored-as-before T zeros =
-    ap (λ (x : Finding). verdict x (Accepted (T .nodeRows) (linkCount T)))
-    (sym (refusal-by-same nodeRefusalOne nodeRefusalAbove T (λ parents j l before. same-node T parents zeros j l before)))
+    ap (λ (x : Finding). verdictOn x T)
+    (sym (refusal-by-same testsOne testsAbove T (λ parents j l before. same-node T parents zeros j l before)))

@@ -11,9 +11,8 @@ use lib.Signed.{leZ, _≤ℤ_}
 use Rattle.stab.specs.Basic.{_and_, nat}
 use Rattle.stab.specs.Node.{Tableau, Bound, node, isExact, bound}
 use Rattle.stab.specs.Rule.{fieldsFit}
-use Rattle.stab.specs.Check.{atUnless, checkWith, verdict, linkCount}
-use Rattle.stab.specs.AncestorLink.{Ancestor, targetAbove, loopAbove, boundAbove, stepRefusalAbove, nodeRefusalAbove, checkAbove}
-use Rattle.stab.specs.OpenTarget.{targetOpen, stepRefusalOpen, nodeRefusalOpen, checkOpen}
+use Rattle.stab.specs.Check.{atUnless, verdictOn}
+use Rattle.stab.specs.Before.{stepBy, nodeBy, checkBy, Ancestor, targetAbove, loopAbove, boundAbove, testsAbove, targetOpen, boundOpen, testsOpen}
 use Rattle.stab.specs.Keeps.{KeepsParent, KeepsStep}
 use Rattle.stab.specs.declared.Refusal.the-variants.{Bound as BoundWrong, Fields, Target}
 use Rattle.stab.specs.declared.Verdict.{Verdict}
@@ -63,7 +62,7 @@ module _ (T : Tableau) (parents : (k : ℕ) → k < T .nodeRows → KeepsParent 
       (λ x. x)
       (decide (isExact (bound T i)))
 
-  module _ (j : ℕ) (l : j < T .nodeRows) (before : (k : ℕ) → k < j → nodeRefusalAbove T k ≡ Nothing) where
+  module _ (j : ℕ) (l : j < T .nodeRows) (before : (k : ℕ) → k < j → nodeBy testsAbove T k ≡ Nothing) where
     splits : RightSplits T parents j
     splits = splits-above T parents j (λ k p. above-clears T k (before k p) .bounds)
 
@@ -78,8 +77,8 @@ module _ (T : Tableau) (parents : (k : ℕ) → k < T .nodeRows → KeepsParent 
         (subst (λ (m : ℕ). pos (bound T m .L) ≤ℤ (pos (bound T j .L) -ℤ node T j .by)) e (of-leZ (sym (loop-above T j r) ∙ b))))
 
     -- with the tests before it passed, the test that went says nothing more
-    nothing-more : fieldsFit T j ≡ true → targetAbove T j ≡ true → (boundAbove T j and targetOpen T j) ≡ boundAbove T j
-    unfolding targetOpen
+    nothing-more : fieldsFit T j ≡ true → targetAbove T j ≡ true → boundOpen T j ≡ boundAbove T j
+    unfolding boundOpen targetOpen
     nothing-more f t =
         ⊎-elim
         (λ b.
@@ -89,8 +88,8 @@ module _ (T : Tableau) (parents : (k : ℕ) → k < T .nodeRows → KeepsParent 
         (λ b. and-first-false (boundAbove T j) _ b ∙ sym b)
         (decide (boundAbove T j))
 
-    same-step : stepRefusalOpen T j ≡ stepRefusalAbove T j
-    unfolding stepRefusalOpen stepRefusalAbove
+    same-step : stepBy testsOpen T j ≡ stepBy testsAbove T j
+    unfolding stepBy testsOpen testsAbove
     same-step =
         otherwise-same _ _ _ (λ d.
         otherwise-same _ _ _ (λ f.
@@ -99,15 +98,13 @@ module _ (T : Tableau) (parents : (k : ℕ) → k < T .nodeRows → KeepsParent 
         (ap (λ (v : Bool). atUnless v BoundWrong j)
         (nothing-more (at-clears Fields j (itself (fieldsFit T j)) .0 f) (at-clears Target j (itself (targetAbove T j)) .0 t))))))
 
-    same-node : nodeRefusalOpen T j ≡ nodeRefusalAbove T j
-    unfolding nodeRefusalOpen nodeRefusalAbove
+    same-node : nodeBy testsOpen T j ≡ nodeBy testsAbove T j
+    unfolding nodeBy
     same-node = otherwise-first-same _ same-step
 
 -- ---- the theorems
 
 -- 02, No. 3: "Every verdict and place is the same.", for every tableau, whatever its numbers
-pub open-needless : (T : Tableau) → checkOpen T ≡ checkAbove T
-unfolding checkOpen checkAbove checkWith
-open-needless T =
-    ap (λ (x : Finding). verdict x (Accepted (T .nodeRows) (linkCount T)))
-    (refusal-by-same nodeRefusalOpen nodeRefusalAbove T (same-node T))
+pub open-needless : (T : Tableau) → checkBy testsOpen T ≡ checkBy testsAbove T
+unfolding checkBy
+open-needless T = ap (λ (x : Finding). verdictOn x T) (refusal-by-same testsOpen testsAbove T (same-node T))

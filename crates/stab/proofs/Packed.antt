@@ -6,8 +6,8 @@ use mathlib.Core.Path.{_≡_, refl, sym, _∙_, ap, subst}
 use mathlib.Core.Bool.{Bool, true, false}
 use lib.IntN.{pos, _+ℤ_, _-ℤ_}
 use Rattle.stab.specs.Basic.{if_then_else_, nat}
-use Rattle.stab.specs.Node.{Tableau}
-use Rattle.stab.specs.Check.{nodeRefusal, refusalWith, olderFormulas, presentFormulas, checkWith, check, checkOlder, checkAs, verdict, linkCount, refusal}
+use Rattle.stab.specs.Node.{Tableau, schemaOf}
+use Rattle.stab.specs.Check.{refusal, presentMode, olderMode, verdictOn, check, checkOlder, checkAs, verdict, linkCount}
 use Rattle.stab.specs.Model.{Model, modelRefusal, checkModel}
 use Rattle.stab.specs.Answer.{Numbers, refusalNumber, placeNumber, refusedNumbers, verdictNumbers, oneNumber, packed, answerIn, numbersIn, placeCode, Packs}
 use Rattle.stab.specs.Refuted.{Refuted, SameSchema, Irrefutable}
@@ -23,7 +23,7 @@ use Rattle.stab.proofs.Whole.{num, _⊖_, eq-of}
 use Rattle.stab.proofs.Scans.{count-le}
 use Rattle.stab.proofs.Soundness.{sound, sound-older, no-model}
 use Rattle.stab.proofs.Exactness.Checked.{older-clears, tableau-clears}
-use Rattle.stab.proofs.Exactness.Refusals.{Near, FindsNear, of-older-refusal, of-refusal, of-model-refusal}
+use Rattle.stab.proofs.Exactness.Refusals.{Near, FindsNear, of-refusal, of-model-refusal}
 
 -- ---- a refusal's number is from 1 to 31
 
@@ -74,14 +74,14 @@ packs-of T Nothing few near =
 packs-of T (Found why place) few near = near-packs why place (near why place refl)
 
 pub check-packs : (T : Tableau) → Packs (check T)
-unfolding check refusal
+unfolding check verdictOn
 check-packs T =
-    packs-of T (refusal T) (λ e. tableau-clears T .0 e .older .tables .nodeLimit) (of-refusal T)
+    packs-of T (refusal presentMode T) (λ e. tableau-clears T .0 e .older .tables .nodeLimit) (of-refusal presentMode T)
 
 pub older-packs : (T : Tableau) → Packs (checkOlder T)
-unfolding checkOlder checkWith
+unfolding checkOlder verdictOn
 older-packs T =
-    packs-of T (refusalWith olderFormulas nodeRefusal T) (λ e. older-clears T .0 e .tables .nodeLimit) (of-older-refusal T)
+    packs-of T (refusal olderMode T) (λ e. older-clears T .0 e .tables .nodeLimit) (of-refusal olderMode T)
 
 pub checked-packs : (older : Bool) (T : Tableau) → Packs (checkAs older T)
 unfolding checkAs if_then_else_
@@ -148,19 +148,19 @@ accepted-packed n l p = omega (arith, packed-acceptance n l, p .0, p .1)
 -- ---- demand 3 in the one number
 
 -- If the check's answer is 0, the schema is false at every natural n from its least value up, under every assignment.
-pub packed-sound : (T : Tableau) → answerIn (packed (check T)) ≡ 0 → Refuted (T .schema) (T .root) (T .least)
+pub packed-sound : (T : Tableau) → answerIn (packed (check T)) ≡ 0 → Refuted (schemaOf T)
 packed-sound T h = let a = packed-accepted (check T) (check-packs T) h in sound T (a .0) (a .1) (a .2)
 
-pub packed-sound-older : (T : Tableau) → answerIn (packed (checkOlder T)) ≡ 0 → Refuted (T .schema) (T .root) (T .least)
+pub packed-sound-older : (T : Tableau) → answerIn (packed (checkOlder T)) ≡ 0 → Refuted (schemaOf T)
 packed-sound-older T h = let a = packed-accepted (checkOlder T) (older-packs T) h in sound-older T (a .0) (a .1) (a .2)
 
 -- If the model check's answer is 0, no tableau of the same schema rows, root and least value is accepted.
-pub packed-no-model : (M : Model) → answerIn (packed (checkModel M)) ≡ 0 → Irrefutable (M .schema) (M .schemaRows) (M .root) (M .least)
+pub packed-no-model : (M : Model) → answerIn (packed (checkModel M)) ≡ 0 → Irrefutable (M .schema)
 packed-no-model M h = let a = packed-accepted (checkModel M) (model-packs M) h in no-model M (a .0) (a .1) (a .2)
 
 -- The two numbers of a tableau and a model of the same schema rows, root and least value do not both have answer 0.
 -- Nor do those of the older check and a model.
-pub packed-not-both : (T : Tableau) (M : Model) → SameSchema T (M .schema) (M .schemaRows) (M .root) (M .least)
+pub packed-not-both : (T : Tableau) (M : Model) → SameSchema T (M .schema)
     → answerIn (packed (checkModel M)) ≡ 0 → (answerIn (packed (check T)) ≡ 0 → ⊥) × (answerIn (packed (checkOlder T)) ≡ 0 → ⊥)
 packed-not-both T M same g = (
   λ h. let a = packed-accepted (check T) (check-packs T) h in packed-no-model M g T same (a .0) (a .1) .0 (a .2),

@@ -73,6 +73,10 @@ scan-first f (suc n) {why} {p} h = go (scan f n) refl h (scan-first f n)
     go Nothing e d ih = (n, omega arith, e, d)
     go (Found w q) e d ih = let k = ih (e ∙ d) in (k .0, omega (arith, k .1), k .2, k .3)
 
+-- what is found among the first numbers is found among more
+pub scan-longer : (f : ℕ → Finding) (m n : ℕ) {why : Refusal} {p : Place} → m ≤ n → scan f m ≡ Found why p → scan f n ≡ Found why p
+scan-longer f m n l h = let k = scan-first f m h in scan-found f n (k .0) (omega (arith, k .1)) (k .2) (k .3)
+
 -- ---- counting
 
 pub count-true : (p : ℕ → Bool) (i : ℕ) → p i ≡ true → count p (i + 1) ≡ count p i + 1

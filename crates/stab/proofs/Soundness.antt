@@ -12,9 +12,9 @@ use borrow.Author.Tests.{lt-ltb}
 use Rattle.stab.specs.Basic.{_and_, nat, below}
 use Rattle.stab.specs.Formula.{rowAt, formulaRows, tree}
 use Rattle.stab.specs.Meaning.{Assignment, truth}
-use Rattle.stab.specs.Node.{Tableau, Bound, rows, formula, node, bound, firstBound, AtMost, Satisfies}
+use Rattle.stab.specs.Node.{Tableau, Bound, schemaOf, rows, formula, node, bound, firstBound, AtMost, Satisfies}
 use Rattle.stab.specs.Check.{check, checkOlder}
-use Rattle.stab.specs.Model.{Model, schemaRow, assignment, satisfied, checkModel}
+use Rattle.stab.specs.Model.{Model, assignment, satisfied, checkModel}
 use Rattle.stab.specs.Keeps.{KeepsOlder}
 use Rattle.stab.specs.Refuted.{Refuted, SameSchema, Irrefutable}
 use Rattle.stab.specs.declared.Verdict.the-variants.{Accepted}
@@ -67,7 +67,7 @@ root-below T K = below-nat (T .schemaRows) (T .root) (below-tests (T .schemaRows
 
 -- ---- the theorems
 
-refuted-by : (T : Tableau) → KeepsOlder T → Refuted (T .schema) (T .root) (T .least)
+refuted-by : (T : Tableau) → KeepsOlder T → Refuted (schemaOf T)
 unfolding formula
 refuted-by T K n σ h =
     let e = schema-tree T (T .schema) (λ r l. refl) (root-below T K) in
@@ -77,15 +77,15 @@ refuted-by T K n σ h =
     (decide (truth σ n (tree (rowAt (T .schema)) (nat (T .root)))))
 
 -- If the check accepts, the schema is false at every natural n from its least value up, under every assignment.
-pub sound : (T : Tableau) (nodes links : ℕ) → check T ≡ Accepted nodes links → Refuted (T .schema) (T .root) (T .least)
+pub sound : (T : Tableau) (nodes links : ℕ) → check T ≡ Accepted nodes links → Refuted (schemaOf T)
 sound T nodes links a = refuted-by T (accepts-exactly T nodes links .0 a .0 .older)
 
 -- So it is if the older check accepts.
-pub sound-older : (T : Tableau) (nodes links : ℕ) → checkOlder T ≡ Accepted nodes links → Refuted (T .schema) (T .root) (T .least)
+pub sound-older : (T : Tableau) (nodes links : ℕ) → checkOlder T ≡ Accepted nodes links → Refuted (schemaOf T)
 sound-older T nodes links a = refuted-by T (older-accepts-exactly T nodes links .0 a .0)
 
-no-model-of : (M : Model) (n l : ℕ) → checkModel M ≡ Accepted n l → (T : Tableau) → SameSchema T (M .schema) (M .schemaRows) (M .root) (M .least) → KeepsOlder T → ⊥
-unfolding satisfied schemaRow
+no-model-of : (M : Model) (n l : ℕ) → checkModel M ≡ Accepted n l → (T : Tableau) → SameSchema T (M .schema) → KeepsOlder T → ⊥
+unfolding satisfied
 no-model-of M n l b T same K =
     let c = model-counts-zero M n l b in
     let KM = model-accepts-exactly M .0 (b ∙ ap₂ Accepted (c .0) (c .1)) in
@@ -93,18 +93,18 @@ no-model-of M n l b T same K =
     let in-range : leZ (T .least) (M .n) ≡ true = ap (λ (z : ℤ). leZ z (M .n)) (same .sameLeast) ∙ leZ-of (KM .inRange .0) in
     let e : pos (nat (M .n)) ≡ M .n =
     nat-pos (M .n) (le-of (num 0) (atom (M .n)) (omega (arith, of-le (num 0) (atom (T .least)) least≥0, of-le (atom (T .least)) (atom (M .n)) in-range))) in
-    let t : tree (rowAt (T .schema)) (nat (T .root)) ≡ tree (rowAt (M .schema)) (nat (T .root)) =
-    tree-agrees (rowAt (T .schema)) (rowAt (M .schema)) (nat (T .root)) (λ r q. same .rows r (omega (arith, root-below T K, same .count))) in
+    let t : tree (rowAt (T .schema)) (nat (T .root)) ≡ tree (rowAt (M .schema .table)) (nat (T .root)) =
+    tree-agrees (rowAt (T .schema)) (rowAt (M .schema .table)) (nat (T .root)) (λ r q. same .rows r (omega (arith, root-below T K, same .count))) in
     let f : truth (assignment M) (nat (M .n)) (tree (rowAt (T .schema)) (nat (T .root))) ≡ false =
     refuted-by T K (nat (M .n)) (assignment M) (of-leZ (ap (leZ (T .least)) e ∙ in-range)) in
     true≢false
     (sym (KM .holds)
-    ∙ ap (λ (z : ℤ). truth (assignment M) (nat (M .n)) (tree (rowAt (M .schema)) (nat z))) (sym (same .sameRoot))
+    ∙ ap (λ (z : ℤ). truth (assignment M) (nat (M .n)) (tree (rowAt (M .schema .table)) (nat z))) (sym (same .sameRoot))
     ∙ ap (truth (assignment M) (nat (M .n))) (sym t)
     ∙ f)
 
 -- If the check or the older check accepts a tableau, the model check accepts no model of the same schema rows, root and least value.
-pub no-model : (M : Model) (n l : ℕ) → checkModel M ≡ Accepted n l → Irrefutable (M .schema) (M .schemaRows) (M .root) (M .least)
+pub no-model : (M : Model) (n l : ℕ) → checkModel M ≡ Accepted n l → Irrefutable (M .schema)
 no-model M n l b T same nodes links = (
   λ a. no-model-of M n l b T same (accepts-exactly T nodes links .0 a .0 .older),
   λ a. no-model-of M n l b T same (older-accepts-exactly T nodes links .0 a .0),

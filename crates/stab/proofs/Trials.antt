@@ -8,7 +8,7 @@ use lib.IntN.{pos, negsuc}
 use lib.ListN.{length, replicate}
 use Rattle.stab.specs.Basic.{nat}
 use Rattle.stab.specs.Formula.{rowAt, tree}
-use Rattle.stab.specs.InOrder.{agree, partnersInOrder, hasLoweredInOrder, loweredInOrder, stepRefusalInOrder, nodeRefusalInOrder, checkInOrder}
+use Rattle.stab.specs.Before.{stepBy, nodeBy, refusalBy, checkBy, agree, partnersInOrder, hasLoweredInOrder, loweredInOrder, testsInOrder}
 use Rattle.stab.specs.Occurs.{Wire, wireBefore, insert, gathered, inserted, occurring, table}
 use Rattle.stab.specs.Text.{bytes}
 use Rattle.stab.specs.Read.{Reading, read, stopped, SchemaText, readSchema, readProof}
@@ -103,7 +103,7 @@ regrouped = "4 1 2 0\n4 3 2 0\n4 0 4 0\n3 0 2 0\n7 5 2 0\n7 6 2 0\n"
 -- as the check program, with sides in order
 inOrderProgram : List ℕ → List ℕ → List ℕ
 inOrderProgram schema proof =
-    printed (afterReading (λ s p. verdictNumbers (checkInOrder (tableauOf s p))) (readSchema 4096 schema) (readProof 4096 9216 8192 proof))
+    printed (afterReading (λ s p. verdictNumbers (checkBy testsInOrder (tableauOf s p))) (readSchema 4096 schema) (readProof 4096 9216 8192 proof))
 
 -- ---- bounds from both sides
 
@@ -373,5 +373,5 @@ stated =
     model "1\nsymbol index\n0 -1\n0 0\n0 1\n0 2\n1 -2\n1 -1\n" ∷ []
 
 pub trials : computed ≡ stated
-unfolding evaluated rewritten crossLink openCross ranges openSplit rangeClash rangeVoid rangeLink schema₂₅₅ schemaTrue model schemaFalse nodes byZero openClash openClashAtLeast emptyUnfolded leafBound agree partnersInOrder hasLoweredInOrder loweredInOrder stepRefusalInOrder nodeRefusalInOrder checkInOrder sided swapped oneBody regrouped inOrderProgram wireBefore insert gathered inserted occurring table wiresAt wires fromTwo shared answer computed stated
+unfolding evaluated rewritten crossLink openCross ranges openSplit rangeClash rangeVoid rangeLink schema₂₅₅ schemaTrue model schemaFalse nodes byZero openClash openClashAtLeast emptyUnfolded leafBound agree partnersInOrder hasLoweredInOrder loweredInOrder testsInOrder stepBy nodeBy refusalBy checkBy sided swapped oneBody regrouped inOrderProgram wireBefore insert gathered inserted occurring table wiresAt wires fromTwo shared answer computed stated
 trials = refl

@@ -14,10 +14,10 @@ use lib.Signed.{leZ}
 use lib.ListN.{length}
 use borrow.Author.Tests.{leb-true}
 use Rattle.stab.specs.Basic.{nat}
-use Rattle.stab.specs.Formula.{Formula, rowAt, tree}
+use Rattle.stab.specs.Formula.{Schema, Formula, schemaFormula}
 use Rattle.stab.specs.Meaning.{Assignment, truth}
-use Rattle.stab.specs.Model.{Model, listed, assignment, schemaRow, satisfied, checkModel}
-use Rattle.stab.specs.Keeps.{Within, KeepsFormulas, KeepsPair}
+use Rattle.stab.specs.Model.{Model, listed, assignment, satisfied, checkModel}
+use Rattle.stab.specs.Keeps.{Within, KeepsSchema, KeepsPair}
 use Rattle.stab.specs.Occurs.{Occurs, OccursIn, Wire, occurring, Ascends, KeepsList, HasList, HasListOfWires, table, listing, HasModel, HasModelOfWires}
 use Rattle.stab.specs.declared.Verdict.the-variants.{Accepted}
 use Rattle.stab.proofs.Bools.{same-test}
@@ -46,9 +46,9 @@ occurring-ascends n f = inserted-ascends n f (pos 0) [] tt
 -- ---- the same value
 
 -- "at a given n, two assignments that agree on the pairs occurring in the schema at that n give it the same value", for every table of numbers
-pub same-wires : (schema : List ℤ) (root : ℤ) (n : ℕ) (σ τ : Assignment) → ((s z : ℤ) → OccursIn schema root n s z → σ s z ≡ τ s z) → truth σ n (tree (rowAt schema) (nat root)) ≡ truth τ n (tree (rowAt schema) (nat root))
+pub same-wires : (S : Schema) (n : ℕ) (σ τ : Assignment) → ((s z : ℤ) → OccursIn S n s z → σ s z ≡ τ s z) → truth σ n (schemaFormula S) ≡ truth τ n (schemaFormula S)
 unfolding truth
-same-wires schema root n σ τ h = same-value σ τ n (tree (rowAt schema) (nat root)) (pos 0) h
+same-wires S n σ τ h = same-value σ τ n (schemaFormula S) (pos 0) h
 
 -- the same by the list
 pub same-listed : (n : ℕ) (f : Formula) (σ τ : Assignment) → ((w : Wire) → List·Memᴰ w (occurring n f) → σ (w .symbol) (w .index) ≡ τ (w .symbol) (w .index)) → truth σ n f ≡ truth τ n f
@@ -97,10 +97,10 @@ module _ (n : ℕ) (f : Formula) (t : List ℤ) (k : ℕ) where
       subst (λ (x : Wire). Within (pos 0) (pos 255) (x .symbol) × Within (negℤ (pos 29997)) (pos 29997) (x .index)) (p .2) (K .symbol, K .index))
 
 -- "So a schema has a model in 01's sense, a list, at n exactly when it has one that lists only pairs which occur", for every natural n and every table of numbers
-pub list-wires : (schema : List ℤ) (root : ℤ) (n : ℕ) → HasList schema root n ↔ HasListOfWires schema root n
-list-wires schema root n = (
+pub list-wires : (S : Schema) (n : ℕ) → HasList S n ↔ HasListOfWires S n
+list-wires S n = (
   λ L.
-      let f : Formula = tree (rowAt schema) (nat root) in
+      let f : Formula = schemaFormula S in
       let ws : List Wire = wiresAmong n f (L .0) (L .1) in (
         table ws,
         length ws,
@@ -123,18 +123,18 @@ nat-most (pos k) m h = leb-true k m h
 nat-most (negsuc k) m h = omega arith
 
 -- every pair that occurs in a well-formed schema at an n in range can be listed in a model
-pub occurs-in-range : (schema : List ℤ) (schemaRows : ℕ) (root least : ℤ) → KeepsFormulas (rowAt schema) schemaRows schemaRows root least → (n : ℕ) → n ≤ 9999 → (s z : ℤ) → OccursIn schema root n s z → Within (pos 0) (pos 255) s × Within (negℤ (pos 29997)) (pos 29997) z
-occurs-in-range schema schemaRows root least K n h s z p =
-    occurs-within n h (tree (rowAt schema) (nat root))
-    (limited (rowAt schema) schemaRows (K .each) (nat root) (below-nat schemaRows root (below-tests schemaRows root .1 (K .rootRow))))
+pub occurs-in-range : (S : Schema) → KeepsSchema S → (n : ℕ) → n ≤ 9999 → (s z : ℤ) → OccursIn S n s z → Within (pos 0) (pos 255) s × Within (negℤ (pos 29997)) (pos 29997) z
+occurs-in-range S K n h s z p =
+    occurs-within n h (schemaFormula S)
+    (limited _ (S .rows) (K .each) (nat (S .root)) (below-nat (S .rows) (S .root) (below-tests (S .rows) (S .root) .1 (K .rootRow))))
     (pos 0) s z (of-leZ refl, of-leZ refl) p
 
 -- a list that makes the schema true is accepted at an n in range, if the schema is well formed
-list-accepted : (schema : List ℤ) (schemaRows : ℕ) (root least n : ℤ) → 4 * schemaRows ≤ length schema → schemaRows ≤ 1024 → KeepsFormulas (rowAt schema) schemaRows schemaRows root least → Within least (pos 9999) n
-    → (pairs : List ℤ) (pairRows : ℕ) → KeepsList schema root (nat n) pairs pairRows → checkModel (listing schema schemaRows root least n pairs pairRows) ≡ Accepted 0 0
-unfolding schemaRow satisfied assignment
-list-accepted schema schemaRows root least n held limit K range pairs pairRows L =
-    model-accepts-exactly (listing schema schemaRows root least n pairs pairRows) .1 (record {
+list-accepted : (S : Schema) (n : ℤ) → 4 * S .rows ≤ length (S .table) → S .rows ≤ 1024 → KeepsSchema S → Within (S .least) (pos 9999) n
+    → (pairs : List ℤ) (pairRows : ℕ) → KeepsList S (nat n) pairs pairRows → checkModel (listing S n pairs pairRows) ≡ Accepted 0 0
+unfolding satisfied assignment
+list-accepted S n held limit K range pairs pairRows L =
+    model-accepts-exactly (listing S n pairs pairRows) .1 (record {
       schemaHeld = held;
       pairsHeld = L .held;
       rowLimit = limit;
@@ -146,30 +146,29 @@ list-accepted schema schemaRows root least n held limit K range pairs pairRows L
     })
 
 -- wires that occur, ascending and few enough, are an accepted model if they make the schema true
-pub wires-accepted : (schema : List ℤ) (schemaRows : ℕ) (root least n : ℤ) → 4 * schemaRows ≤ length schema → schemaRows ≤ 1024 → KeepsFormulas (rowAt schema) schemaRows schemaRows root least → Within least (pos 9999) n
-    → (ws : List Wire) → length ws ≤ 4096 → Ascends ws → ((w : Wire) → List·Memᴰ w ws → OccursIn schema root (nat n) (w .symbol) (w .index))
-    → truth (listed (table ws) (length ws)) (nat n) (tree (rowAt schema) (nat root)) ≡ true → checkModel (listing schema schemaRows root least n (table ws) (length ws)) ≡ Accepted 0 0
-wires-accepted schema schemaRows root least n held limit K range ws few a occur t =
-    list-accepted schema schemaRows root least n held limit K range (table ws) (length ws) (record {
+pub wires-accepted : (S : Schema) (n : ℤ) → 4 * S .rows ≤ length (S .table) → S .rows ≤ 1024 → KeepsSchema S → Within (S .least) (pos 9999) n
+    → (ws : List Wire) → length ws ≤ 4096 → Ascends ws → ((w : Wire) → List·Memᴰ w ws → OccursIn S (nat n) (w .symbol) (w .index))
+    → truth (listed (table ws) (length ws)) (nat n) (schemaFormula S) ≡ true → checkModel (listing S n (table ws) (length ws)) ≡ Accepted 0 0
+wires-accepted S n held limit K range ws few a occur t =
+    list-accepted S n held limit K range (table ws) (length ws) (record {
       held = omega (arith, table-length ws);
       limit = few;
-      each = table-keeps ws a (λ w m. occurs-in-range schema schemaRows root least K (nat n) (nat-most n 9999 (leZ-of (range .1))) (w .symbol) (w .index) (occur w m));
+      each = table-keeps ws a (λ w m. occurs-in-range S K (nat n) (nat-most n 9999 (leZ-of (range .1))) (w .symbol) (w .index) (occur w m));
       holds = t;
     })
 
 -- where a model is accepted, so is one of the same schema at the same n that lists only pairs which occur
-pub only-wires : (M : Model) → checkModel M ≡ Accepted 0 0 → HasModelOfWires (M .schema) (M .schemaRows) (M .root) (M .least) (M .n)
-unfolding schemaRow satisfied assignment
+pub only-wires : (M : Model) → checkModel M ≡ Accepted 0 0 → HasModelOfWires (M .schema) (M .n)
+unfolding satisfied assignment
 only-wires M h =
     let K = model-accepts-exactly M .0 h in
-    let L = list-wires (M .schema) (M .root) (nat (M .n)) .0 (M .pairs, M .pairRows, record { held = K .pairsHeld; limit = K .pairLimit; each = K .pairs; holds = K .holds }) in (
+    let L = list-wires (M .schema) (nat (M .n)) .0 (M .pairs, M .pairRows, record { held = K .pairsHeld; limit = K .pairLimit; each = K .pairs; holds = K .holds }) in (
       L .0,
       L .1,
-      list-accepted (M .schema) (M .schemaRows) (M .root) (M .least) (M .n) (K .schemaHeld) (K .rowLimit) (K .formulas) (K .inRange) (L .0) (L .1) (L .2),
+      list-accepted (M .schema) (M .n) (K .schemaHeld) (K .rowLimit) (K .formulas) (K .inRange) (L .0) (L .1) (L .2),
       L .3,
     )
 
 -- the same of models that the model check accepts, so with n from the least value up to 9999
-pub model-wires : (schema : List ℤ) (schemaRows : ℕ) (root least n : ℤ) → HasModel schema schemaRows root least n ↔ HasModelOfWires schema schemaRows root least n
-model-wires schema schemaRows root least n =
-    (λ M. only-wires (listing schema schemaRows root least n (M .0) (M .1)) (M .2), λ M. (M .0, M .1, M .2))
+pub model-wires : (S : Schema) (n : ℤ) → HasModel S n ↔ HasModelOfWires S n
+model-wires S n = (λ M. only-wires (listing S n (M .0) (M .1)) (M .2), λ M. (M .0, M .1, M .2))

@@ -1,14 +1,15 @@
--- 01, "Turning records away": checking tables; 02, No. 9. The order of refusals is the order of the lines below.
+-- 01, "Turning records away": checking tables; 02, Nos. 7 and 9. The order of refusals is the order of the lines below.
 use Prim.Native.Nat.{ℕ, zero, suc, _*_}
-use mathlib.Core.Bool.{Bool, false, not}
+use mathlib.Core.Bool.{Bool, true, false, not}
 use mathlib.Core.List.{List}
 use lib.Dec.{leb, eqb, ltb}
 use lib.IntN.{ℤ, pos}
 use lib.ListN.{length}
 use Rattle.stab.specs.Basic.{if_then_else_, _and_, _or_, _implies_, eqZ, within, nat, below, count, _otherwise_, scan, unless}
-use Rattle.stab.specs.Formula.{Row, tree, isOuter, wellFormed, smallEnough}
+use Rattle.stab.specs.Formula.{Row, rowAt, Schema, tree, isOuter, wellFormed, smallEnough}
 use Rattle.stab.specs.Node.{Tableau, rows, rowCount, setEnd, setFits, parentFits, nodeAt}
-use Rattle.stab.specs.Rule.{ofRule, drawn, fieldsFit, targetFits, boundFits, partnersFit, loweredFits, childrenFit}
+use Rattle.stab.specs.Rule.{ofRule, drawn, fieldsFit, targetFits, boundFits, partnersFit, loweredFits, childrenAs}
+use Rattle.stab.specs.declared.Mode.{Mode}
 use Rattle.stab.specs.declared.Place.the-variants.{Whole, At}
 use Rattle.stab.specs.declared.Refusal.{Refusal}
 use Rattle.stab.specs.declared.Refusal.the-variants.{TableTooShort, TooMany, Root, IllFormed, TooLarge, Set, Parent, Drawn, Fields, Target, Bound, Partner, Lowered, Children, Repeated}
@@ -48,24 +49,25 @@ standsBefore rows (suc r) w = standsBefore rows r w or sameRow (rows r) w
 unfoldable pub repeatRefusal : (ℕ → Row) → ℕ → ℕ → Finding
 repeatRefusal rows s r = atUnless (ltb r s or not (standsBefore rows r (rows r))) Repeated r
 
--- "27, for a formula row, after 8"
-unfoldable pub freshRowRefusal : (ℕ → Row) → ℕ → ℕ → Finding
-freshRowRefusal rows s r = rowRefusal rows r otherwise repeatRefusal rows s r
+-- 7, 8 and "27, for a formula row, after 8"; in an older record, whose proof rows may repeat, 7 and 8 alone
+unfoldable pub formulaRefusal : Bool → (ℕ → Row) → ℕ → ℕ → Finding
+formulaRefusal true rows s r = rowRefusal rows r
+formulaRefusal false rows s r = rowRefusal rows r otherwise repeatRefusal rows s r
 
 -- "6 root no schema row, or least not 0..9999 (-1)"
 unfoldable pub rootFits : ℕ → ℤ → ℤ → Bool
 rootFits schemaRows root least = below schemaRows root and within (pos 0) (pos 9999) least
 
--- 6, what `judge` finds of each row, and 6 again "if the root is not outer", for n formula rows of which s are schema rows
-unfoldable pub formulasBy : (ℕ → Finding) → (ℕ → Row) → ℕ → ℕ → ℤ → ℤ → Finding
-formulasBy judge rows n s root least =
+-- 6, each row, and 6 again "if the root is not outer", for n formula rows of which s are schema rows
+unfoldable pub formulasRefusal : Bool → (ℕ → Row) → ℕ → ℕ → ℤ → ℤ → Finding
+formulasRefusal older rows n s root least =
     wholeUnless (rootFits s root least) Root otherwise
-    scan judge n otherwise
+    scan (formulaRefusal older rows s) n otherwise
     wholeUnless (isOuter (tree rows (nat root))) Root
 
--- 6, 7, 8 and 6 again: the part that the older check and the model check share
-unfoldable pub formulasRefusal : (ℕ → Row) → ℕ → ℕ → ℤ → ℤ → Finding
-formulasRefusal rows n s root least = formulasBy (rowRefusal rows) rows n s root least
+-- the same of a schema alone, whose rows may repeat
+unfoldable pub schemaRefusal : Schema → Finding
+schemaRefusal S = formulasRefusal true (rowAt (S .table)) (S .rows) (S .rows) (S .root) (S .least)
 
 -- ---- nodes
 
@@ -88,8 +90,8 @@ stepRefusal T j =
     atUnless (partnersFit T j) Partner j otherwise
     atUnless (loweredFits T j) Lowered j
 
-unfoldable pub nodeRefusal : Tableau → ℕ → Finding
-nodeRefusal T j = stepRefusal T j otherwise atUnless (childrenFit T j) Children j
+unfoldable pub nodeRefusal : Bool → Tableau → ℕ → Finding
+nodeRefusal whole T j = stepRefusal T j otherwise atUnless (childrenAs whole T j) Children j
 
 -- ---- the check
 
@@ -105,34 +107,33 @@ tablesHold T =
 unfoldable pub withinLimits : Tableau → Bool
 withinLimits T = leb (rowCount T) 1024 and leb (T .nodeRows) 1024 and leb (T .memberCount) 8192
 
--- what is found, where `formulas` says what is found of the formulas, `nodes` of the number of nodes, and `judge` of a node once tables,
--- formulas, sets and parents are right
-unfoldable pub refusalBy : (Tableau → Finding) → (Tableau → Finding) → (Tableau → ℕ → Finding) → Tableau → Finding
-refusalBy formulas nodes judge T =
+-- "10 no node (-1)"; rows that are held may be none
+unfoldable pub enoughNodes : Bool → Tableau → Bool
+enoughNodes whole T = whole implies ltb 0 (T .nodeRows)
+
+-- what is found first, in the order of "Checking tables"
+unfoldable pub refusal : Mode → Tableau → Finding
+refusal m T =
     wholeUnless (tablesHold T) TableTooShort otherwise
     wholeUnless (withinLimits T) TooMany otherwise
-    formulas T otherwise
+    formulasRefusal (m .older) (rows T) (rowCount T) (T .schemaRows) (T .root) (T .least) otherwise
     scan (setRefusal T) (T .nodeRows) otherwise
-    nodes T otherwise
+    wholeUnless (enoughNodes (m .whole) T) Parent otherwise
     scan (parentRefusal T) (T .nodeRows) otherwise
-    scan (judge T) (T .nodeRows)
-
--- "10 no node (-1)"
-unfoldable pub noNode : Tableau → Finding
-noNode T = wholeUnless (ltb 0 (T .nodeRows)) Parent
-
--- the same of a whole record, which has a node
-unfoldable pub refusalWith : (Tableau → Finding) → (Tableau → ℕ → Finding) → Tableau → Finding
-unfolding refusalBy noNode
-refusalWith formulas judge T = refusalBy formulas noNode judge T
-
--- proof rows may repeat
-unfoldable pub olderFormulas : Tableau → Finding
-olderFormulas T = formulasRefusal (rows T) (rowCount T) (T .schemaRows) (T .root) (T .least)
+    scan (nodeRefusal (m .whole) T) (T .nodeRows)
 
 -- 02, No. 9: "From now on the check refuses a proof row" that repeats
-unfoldable pub presentFormulas : Tableau → Finding
-presentFormulas T = formulasBy (freshRowRefusal (rows T) (T .schemaRows)) (rows T) (rowCount T) (T .schemaRows) (T .root) (T .least)
+unfoldable pub presentMode : Mode
+presentMode = record { older = false; whole = true }
+
+-- "a separate entry checks them without this test"
+unfoldable pub olderMode : Mode
+olderMode = record { older = true; whole = true }
+
+-- 02, No. 7: "puts all rows held under the check, no node and missing children aside"; No. 9: "The formula rows given first in No. 7 pass
+-- this test too."
+unfoldable pub heldMode : Mode
+heldMode = record { older = false; whole = false }
 
 -- node j is a rule 8 row
 unfoldable pub isLink : List ℤ → ℕ → Bool
@@ -147,21 +148,17 @@ unfoldable pub verdict : Finding → Verdict → Verdict
 verdict Nothing v = v
 verdict (Found why place) v = Refused why place
 
--- the check by such findings; "Acceptance gives the number of nodes and of rule 8 rows"
-unfoldable pub checkWith : (Tableau → Finding) → (Tableau → ℕ → Finding) → Tableau → Verdict
-checkWith formulas judge T = verdict (refusalWith formulas judge T) (Accepted (T .nodeRows) (linkCount T))
-
--- what the check finds
-unfoldable pub refusal : Tableau → Finding
-refusal T = refusalWith presentFormulas nodeRefusal T
+-- "Acceptance gives the number of nodes and of rule 8 rows"
+unfoldable pub verdictOn : Finding → Tableau → Verdict
+verdictOn found T = verdict found (Accepted (T .nodeRows) (linkCount T))
 
 -- the check
 unfoldable pub check : Tableau → Verdict
-check T = verdict (refusal T) (Accepted (T .nodeRows) (linkCount T))
+check T = verdictOn (refusal presentMode T) T
 
--- 02, No. 9: "a separate entry checks them without this test"
+-- 02, No. 9: "Records already in the catalogue are marked as older and keep their verdict; a separate entry checks them without this test."
 unfoldable pub checkOlder : Tableau → Verdict
-checkOlder T = checkWith olderFormulas nodeRefusal T
+checkOlder T = verdictOn (refusal olderMode T) T
 
 -- the check, or the older one if `older` holds
 unfoldable pub checkAs : Bool → Tableau → Verdict

@@ -24,6 +24,13 @@ rowAt t r = record { kind = getD t (4 * r) (pos 0); a = getD t (4 * r + 1) (pos 
 unfoldable pub formulaRows : List ℤ → ℕ → List ℤ → ℕ → Row
 formulaRows schema s proof r = if ltb r s then rowAt schema r else rowAt proof (r - s)
 
+-- A schema as it is lent: a table that is said to hold so many rows, the root, which is to be one of them, and the least value of n.
+pub record Schema : Type 0 where
+  pub table : List ℤ
+  pub rows : ℕ
+  pub root : ℤ
+  pub least : ℤ
+
 -- The kinds come in pairs: true and false, literal and negated literal, and and or, big and and big or.
 pub data Op : Type 0 where
   conj disj : Op
@@ -91,6 +98,10 @@ treeN rows (suc k) r = decode r (rows r) (kindOf (rows r .kind)) (treeN rows k)
 -- ill-formed row is turned away before its formula is asked for.
 unfoldable pub tree : (ℕ → Row) → ℕ → Formula
 tree rows r = treeN rows (suc r) r
+
+-- the formula of a schema: its root's
+abbrev pub schemaFormula : Schema → Formula
+schemaFormula S = tree (rowAt (S .table)) (nat (S .root))
 
 -- ---- size, depth, literals on i
 

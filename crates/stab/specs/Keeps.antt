@@ -9,11 +9,11 @@ use lib.IntN.{ℤ, pos, negℤ, _+ℤ_, _-ℤ_}
 use lib.Signed.{_≤ℤ_, _<ℤ_}
 use lib.ListN.{length}
 use Rattle.stab.specs.Basic.{nat}
-use Rattle.stab.specs.Formula.{Row, Op, Kind, constant, literal, junction, iteration, unknown, kindOf, index, Formula, const, lit, join, iter, tree, size, depth}
+use Rattle.stab.specs.Formula.{Row, Op, Kind, constant, literal, junction, iteration, unknown, kindOf, index, Formula, const, lit, join, iter, tree, size, depth, Schema, rowAt}
 use Rattle.stab.specs.Alike.{lower, instance}
 use Rattle.stab.specs.Node.{Tableau, Bound, rows, rowCount, row, formula, node, set, setStart, setEnd, splitAt, bound, rank, childCount}
 use Rattle.stab.specs.Rule.{unused, rule, given, indexAt}
-use Rattle.stab.specs.Model.{Model, schemaRow, pairSymbol, pairIndex, satisfied}
+use Rattle.stab.specs.Model.{Model, pairSymbol, pairIndex, satisfied}
 
 -- ---- formula rows
 
@@ -66,6 +66,10 @@ pub record KeepsFormulas (rows : ℕ → Row) (n s : ℕ) (root least : ℤ) : T
   pub leastRange : Within (pos 0) (pos 9999) least
   pub each : (r : ℕ) → r < n → KeepsRow rows r
   pub rootOuter : Outer (tree rows (nat root))
+
+-- a schema alone: its root, its least value and its rows
+abbrev pub KeepsSchema : Schema → Type 0
+KeepsSchema S = KeepsFormulas (rowAt (S .table)) (S .rows) (S .rows) (S .root) (S .least)
 
 -- 02, No. 4: the second is the first "after swapping the sides of any and or or, also inside bodies"
 pub data Alike : Formula → Formula → Type 0 where
@@ -218,11 +222,11 @@ pub record KeepsPair (t : List ℤ) (k : ℕ) : Type 0 where
 
 -- "A model is accepted exactly when it and its schema are well formed, n is in document 01's range and the schema is true there."
 pub record KeepsModel (M : Model) : Type 0 where
-  pub schemaHeld : 4 * M .schemaRows ≤ length (M .schema)
+  pub schemaHeld : 4 * M .schema .rows ≤ length (M .schema .table)
   pub pairsHeld : 2 * M .pairRows ≤ length (M .pairs)
-  pub rowLimit : M .schemaRows ≤ 1024
+  pub rowLimit : M .schema .rows ≤ 1024
   pub pairLimit : M .pairRows ≤ 4096
-  pub formulas : KeepsFormulas (schemaRow M) (M .schemaRows) (M .schemaRows) (M .root) (M .least)
+  pub formulas : KeepsSchema (M .schema)
   pub pairs : (k : ℕ) → k < M .pairRows → KeepsPair (M .pairs) k
-  pub inRange : Within (M .least) (pos 9999) (M .n)
+  pub inRange : Within (M .schema .least) (pos 9999) (M .n)
   pub holds : satisfied M ≡ true

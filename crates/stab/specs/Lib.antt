@@ -5,12 +5,10 @@ pub mod Meaning
 pub mod Alike
 pub mod Node
 pub mod Rule
+pub mod Lent
 pub mod Check
 pub mod Search
-pub mod AncestorLink
-pub mod OpenTarget
-pub mod InOrder
-pub mod OneValue
+pub mod Before
 pub mod Model
 pub mod Keeps
 pub mod Refuted

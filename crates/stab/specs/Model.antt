@@ -7,20 +7,17 @@ use lib.IntN.{ℤ, pos, negℤ}
 use lib.Signed.{leZ, ltZ}
 use lib.ListN.{getD}
 use Rattle.stab.specs.Basic.{_and_, _or_, eqZ, within, nat, _otherwise_, scan}
-use Rattle.stab.specs.Formula.{Row, rowAt, tree}
+use Rattle.stab.specs.Formula.{Schema, schemaFormula}
 use Rattle.stab.specs.Meaning.{Assignment, truth}
-use Rattle.stab.specs.Check.{wholeUnless, atUnless, holds, formulasRefusal, verdict}
+use Rattle.stab.specs.Check.{wholeUnless, atUnless, holds, schemaRefusal, verdict}
 use Rattle.stab.specs.declared.Refusal.the-variants.{TableTooShort, TooMany, Pair, Width, False}
 use Rattle.stab.specs.declared.Verdict.{Verdict}
 use Rattle.stab.specs.declared.Verdict.the-variants.{Accepted}
 use Rattle.stab.specs.declared.Finding.{Finding}
 
--- What the model check is lent: a schema, n and a table of pairs, with how many rows each table is said to hold.
+-- What the model check is lent: a schema, n and a table of pairs, with how many pairs it is said to hold.
 pub record Model : Type 0 where
-  pub schema : List ℤ
-  pub schemaRows : ℕ
-  pub root : ℤ
-  pub least : ℤ
+  pub schema : Schema
   pub n : ℤ
   pub pairs : List ℤ
   pub pairRows : ℕ
@@ -57,26 +54,22 @@ listed t (suc n) s i = isPair t s i n or listed t n s i
 unfoldable pub assignment : Model → Assignment
 assignment M = listed (M .pairs) (M .pairRows)
 
--- the schema rows
-unfoldable pub schemaRow : Model → ℕ → Row
-schemaRow M = rowAt (M .schema)
-
 -- "18 pair out of order or range, place its row"
 unfoldable pub pairRefusal : List ℤ → ℕ → Finding
 pairRefusal t k = atUnless (pairInRange t k and pairFollows t k) Pair k
 
 -- the schema is true at n under the pairs' assignment
 unfoldable pub satisfied : Model → Bool
-satisfied M = truth (assignment M) (nat (M .n)) (tree (schemaRow M) (nat (M .root)))
+satisfied M = truth (assignment M) (nat (M .n)) (schemaFormula (M .schema))
 
 -- "2, 5, 6, 7, 8 likewise over schema rows (2 and 5 also over pairs); 18 ..; 19 n below least or over 9999; 20 the schema is false (both -1)"
 unfoldable pub modelRefusal : Model → Finding
 modelRefusal M =
-    wholeUnless (holds (M .schema) 4 (M .schemaRows) and holds (M .pairs) 2 (M .pairRows)) TableTooShort otherwise
-    wholeUnless (leb (M .schemaRows) 1024 and leb (M .pairRows) 4096) TooMany otherwise
-    formulasRefusal (schemaRow M) (M .schemaRows) (M .schemaRows) (M .root) (M .least) otherwise
+    wholeUnless (holds (M .schema .table) 4 (M .schema .rows) and holds (M .pairs) 2 (M .pairRows)) TableTooShort otherwise
+    wholeUnless (leb (M .schema .rows) 1024 and leb (M .pairRows) 4096) TooMany otherwise
+    schemaRefusal (M .schema) otherwise
     scan (pairRefusal (M .pairs)) (M .pairRows) otherwise
-    wholeUnless (leZ (M .least) (M .n) and leZ (M .n) (pos 9999)) Width otherwise
+    wholeUnless (leZ (M .schema .least) (M .n) and leZ (M .n) (pos 9999)) Width otherwise
     wholeUnless (satisfied M) False
 
 -- "a model has both counts 0"

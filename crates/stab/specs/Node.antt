@@ -8,7 +8,7 @@ use lib.IntN.{ℤ, pos, negℤ, _+ℤ_}
 use lib.Signed.{leZ}
 use lib.ListN.{getD, take, drop}
 use Rattle.stab.specs.Basic.{if_then_else_, _and_, eqZ, nat, below, allOf, ascending, sameList, count}
-use Rattle.stab.specs.Formula.{Row, formulaRows, Formula, tree, isOuter}
+use Rattle.stab.specs.Formula.{Row, Schema, formulaRows, Formula, tree, isOuter}
 
 -- What the check is lent: tables of numbers, with how many rows or members each is said to hold.
 pub record Tableau : Type 0 where
@@ -22,6 +22,10 @@ pub record Tableau : Type 0 where
   pub nodeRows : ℕ
   pub members : List ℤ
   pub memberCount : ℕ
+
+-- the schema that it is lent with
+abbrev pub schemaOf : Tableau → Schema
+schemaOf T = record { table = T .schema; rows = T .schemaRows; root = T .root; least = T .least }
 
 -- the formula rows, schema rows first
 unfoldable pub rows : Tableau → ℕ → Row

@@ -40,10 +40,7 @@ tableauOf s p = record {
 
 unfoldable pub modelOf : SchemaText → ModelText → Model
 modelOf s m = record {
-  schema = padded (pos 0) 4096 (s .table);
-  schemaRows = length (s .table) / 4;
-  root = s .root;
-  least = s .least;
+  schema = record { table = padded (pos 0) 4096 (s .table); rows = length (s .table) / 4; root = s .root; least = s .least };
   n = m .n;
   pairs = padded (pos 0) 8192 (m .table);
   pairRows = length (m .table) / 2;

@@ -1,4 +1,4 @@
--- 01, "The rules"; 02, Nos. 3 to 6.
+-- 01, "The rules"; 02, Nos. 3 to 7.
 use Prim.Native.Nat.{ℕ, zero, suc}
 use mathlib.Core.Bool.{Bool, true, false}
 use mathlib.Core.List.{List, [], _∷_}
@@ -201,3 +201,12 @@ loweredFits T j =
 -- "17 number of children", by the table's last column
 unfoldable pub childrenFit : Tableau → ℕ → Bool
 childrenFit T j = eqb (childCount T j) (rule T j .children)
+
+-- 02, No. 7: "missing children aside", no child beyond the number that the rule has
+unfoldable pub childrenHeld : Tableau → ℕ → Bool
+childrenHeld T j = leb (childCount T j) (rule T j .children)
+
+-- just as many in a whole record; among rows that are held some may be missing
+unfoldable pub childrenAs : Bool → Tableau → ℕ → Bool
+childrenAs true T j = childrenFit T j
+childrenAs false T j = childrenHeld T j

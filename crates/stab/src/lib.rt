@@ -55,6 +55,29 @@ pub enum Finding {
     Found { why: Refusal, place: Place },
 }
 
+// The numbers that go with the lent table of a schema: how many rows it holds, the root and the least value of n.
+pub struct SchemaHeader {
+    pub rows: usize,
+    pub root: i32,
+    pub least: i32,
+}
+
+// Those that go with the four lent tables of a record.
+pub struct Header {
+    pub schema_rows: usize,
+    pub proof_rows: usize,
+    pub root: i32,
+    pub least: i32,
+    pub node_rows: usize,
+    pub member_count: usize,
+}
+
+// What is asked of a record: whether its proof rows may repeat, as those of an older one, and whether it is whole, or rows held while it grows.
+pub struct Mode {
+    pub older: bool,
+    pub whole: bool,
+}
+
 // What reading a schema text gives.
 pub enum SchemaRead {
     Schema { root: i32, least: i32, rows: usize },

@@ -1,20 +1,20 @@
 -- A node's tests in the paper's order: what is found where one fails, and where none does.
 use Prim.Native.Nat.{ℕ, zero, suc}
 use native.Mathlib.Omega.{arith}
-use mathlib.Core.Path.{_≡_, refl, sym, _∙_}
+use mathlib.Core.Path.{_≡_, refl, sym, _∙_, ap}
 use mathlib.Core.Bool.{Bool, true, false}
-use Rattle.stab.specs.Basic.{_otherwise_, allOf, nat}
-use Rattle.stab.specs.Node.{Tableau, node, set, rank}
+use lib.Dec.{eqb, leb}
+use Rattle.stab.specs.Basic.{if_then_else_, _otherwise_, allOf, nat}
+use Rattle.stab.specs.Node.{Tableau, node, set, rank, childCount}
 use Rattle.stab.specs.Rule as R
-use Rattle.stab.specs.Rule.{drawn, drawnFrom, fieldsFit, targetFits, boundFits, partnersFit, loweredFits}
-use Rattle.stab.specs.Check.{atUnless, stepRefusal}
+use Rattle.stab.specs.Rule.{drawn, drawnFrom, fieldsFit, targetFits, boundFits, partnersFit, loweredFits, rule, childrenFit, childrenHeld, childrenAs}
+use Rattle.stab.specs.Check.{atUnless, stepRefusal, nodeRefusal}
 use Rattle.stab.specs.declared.Place.the-variants.{At}
 use Rattle.stab.specs.declared.Refusal.{Refusal}
 use Rattle.stab.specs.declared.Refusal.the-variants.{Drawn, Fields, Target, Bound, Partner, Lowered, Children}
 use Rattle.stab.specs.declared.Finding.the-variants.{Nothing, Found}
 use Rattle.stab.specs.declared.Finding.{Finding}
 use Rattle.stab.specs.declared.Place.{Place}
-use Rattle.steps.specs.Judged.{childrenAs, nodeRefusalAs}
 use Rattle.stab.proofs.Bools.{unless-nothing, nothing-unless, found-unless, otherwise-first, otherwise-second, otherwise-nothing, otherwise-found}
 
 -- ---- one test
@@ -93,18 +93,24 @@ module _ (T : Tableau) (j : ℕ) where
 
   -- ---- and 17
 
-  pub step-found : (whole : Bool) (why : Refusal) (p : Place) → stepRefusal T j ≡ Found why p → Found why p ≡ nodeRefusalAs whole T j
-  unfolding nodeRefusalAs
+  pub step-found : (whole : Bool) (why : Refusal) (p : Place) → stepRefusal T j ≡ Found why p → Found why p ≡ nodeRefusal whole T j
+  unfolding nodeRefusal
   step-found whole why p h = sym (otherwise-found (stepRefusal T j) _ h)
 
   module _ (whole : Bool) (h : stepRefusal T j ≡ Nothing) where
-    pub children-found : childrenAs whole T j ≡ false → (Found Children (At j)) ≡ nodeRefusalAs whole T j
-    unfolding nodeRefusalAs
+    pub children-found : childrenAs whole T j ≡ false → (Found Children (At j)) ≡ nodeRefusal whole T j
+    unfolding nodeRefusal
     children-found c = last-found _ _ _ c ∙ sym (otherwise-nothing (stepRefusal T j) _ h)
 
-    pub node-passes : childrenAs whole T j ≡ true → Nothing ≡ nodeRefusalAs whole T j
-    unfolding nodeRefusalAs
+    pub node-passes : childrenAs whole T j ≡ true → Nothing ≡ nodeRefusal whole T j
+    unfolding nodeRefusal
     node-passes c = last-passes _ _ _ c ∙ sym (otherwise-nothing (stepRefusal T j) _ h)
+
+-- a number of children that is the node's
+pub children-are : (whole : Bool) (T : Tableau) (j : ℕ) {n : ℕ} → n ≡ childCount T j → (if whole then eqb n (rule T j .children) else leb n (rule T j .children)) ≡ childrenAs whole T j
+unfolding childrenAs childrenFit childrenHeld if_then_else_
+children-are true T j e = ap (λ (m : ℕ). eqb m (rule T j .children)) e
+children-are false T j e = ap (λ (m : ℕ). leb m (rule T j .children)) e
 
 -- ---- the set of node 0 is drawn from nothing
 

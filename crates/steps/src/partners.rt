@@ -1,7 +1,7 @@
 // `with` and `other` of an unfolding: refusal 15.
-use branch::header::Header;
 use branch::node;
 use classes::compare;
+use stab::Header;
 ghost use mathlib.Core.Path.{_≡_};
 ghost use mathlib.Core.Bool.{true};
 ghost use mathlib.Core.List.{[]};
@@ -15,7 +15,8 @@ ghost use Rattle.stab.specs.Rule.{ofRule, shortened, partnersFit};
 ghost use Rattle.formula.specs.Facts.{AllKnown};
 ghost use Rattle.classes.specs.Class.{Ready};
 ghost use Rattle.classes.specs.Agreed.{Remembers};
-ghost use Rattle.branch.specs.Lent.{lent, FieldsKnown};
+ghost use Rattle.stab.specs.Lent.{lent};
+ghost use Rattle.branch.specs.Lent.{FieldsKnown};
 
 // Node j unfolds an iteration.
 fn unfolds(nodes: &[i32], j: usize) -> bool

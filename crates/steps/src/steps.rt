@@ -1,12 +1,12 @@
 // The judgement of nodes, one by one: refusals 11 to 17.
 use crate::partners;
 use alike::lowered;
-use branch::header::Header;
 use branch::node;
 use branch::worked;
 use fields::rules;
 use formula::kept;
 use stab::Finding;
+use stab::Header;
 use stab::Place;
 use stab::Refusal;
 ghost use mathlib.Core.Path.{_≡_};
@@ -18,12 +18,12 @@ ghost use Rattle.stab.specs.Basic.{if_then_else_, _implies_, nat, below, scan};
 ghost use Rattle.stab.specs.Formula.{formulaRows};
 ghost use Rattle.stab.specs.Node.{nodeAt};
 ghost use Rattle.stab.specs.Rule.{ruleOf, ofRule, drawn, loweredFits};
-ghost use Rattle.stab.specs.Check.{stepRefusal};
+ghost use Rattle.stab.specs.Check.{stepRefusal, nodeRefusal};
 ghost use Rattle.classes.specs.Class.{Ready as Compared};
 ghost use Rattle.classes.specs.Agreed.{Remembers};
-ghost use Rattle.branch.specs.Lent.{lent, SetOfRows, ChildKnown};
+ghost use Rattle.stab.specs.Lent.{lent};
+ghost use Rattle.branch.specs.Lent.{SetOfRows, ChildKnown};
 ghost use Rattle.steps.specs.Ready.{Ready};
-ghost use Rattle.steps.specs.Judged.{nodeRefusalAs};
 
 // 11: the set of node j is drawn from its parent's. Node 0 has none.
 fn drawn_fits(
@@ -172,7 +172,7 @@ fn judge(
     requires { ⌜ j < h .«node_rows» ⌝ }
     requires { ⌜ Ready (lent (now schema) (now proof) (now nodes) (now members) h) (now facts) (now forms) (now work) ⌝ }
     requires { ⌜ Remembers (formulaRows (now schema) (h .«schema_rows») (now proof)) (now agreed) × (h .«schema_rows» + h .«proof_rows» ≤ length (now agreed)) ⌝ }
-    ensures { λ r. ⌜ r ≡ nodeRefusalAs whole (lent (now (schema .entry)) (now (proof .entry)) (now (nodes .entry)) (now (members .entry)) h) j ⌝ }
+    ensures { λ r. ⌜ r ≡ nodeRefusal whole (lent (now (schema .entry)) (now (proof .entry)) (now (nodes .entry)) (now (members .entry)) h) j ⌝ }
     ensures { λ _. ⌜ Remembers (formulaRows (now (schema .entry)) (h .«schema_rows») (now (proof .entry))) (now (agreed .exit)) ⌝ }
 {
     let found = step(
@@ -214,7 +214,7 @@ pub fn each_node(
 ) -> Finding
     requires { ⌜ Ready (lent (now schema) (now proof) (now nodes) (now members) h) (now facts) (now forms) (now work) ⌝ }
     requires { ⌜ Remembers (formulaRows (now schema) (h .«schema_rows») (now proof)) (now agreed) × (h .«schema_rows» + h .«proof_rows» ≤ length (now agreed)) ⌝ }
-    ensures { λ r. ⌜ r ≡ scan (nodeRefusalAs whole (lent (now (schema .entry)) (now (proof .entry)) (now (nodes .entry)) (now (members .entry)) h)) (h .«node_rows») ⌝ }
+    ensures { λ r. ⌜ r ≡ scan (nodeRefusal whole (lent (now (schema .entry)) (now (proof .entry)) (now (nodes .entry)) (now (members .entry)) h)) (h .«node_rows») ⌝ }
     ensures { λ _. ⌜ Remembers (formulaRows (now (schema .entry)) (h .«schema_rows») (now (proof .entry))) (now (agreed .exit)) ⌝ }
 {
     let mut j: usize = 0;

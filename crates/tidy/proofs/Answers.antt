@@ -17,13 +17,11 @@ use Rattle.stab.specs.declared.Refusal.the-variants.{TableTooShort}
 use Rattle.stab.specs.declared.Verdict.{Verdict}
 use Rattle.stab.specs.declared.Verdict.the-variants.{Accepted, Refused}
 use Rattle.stab.specs.declared.ProofRead.{ProofRead}
-use Rattle.stab.specs.declared.ProofRead.the-variants.{Proof, Refused as ProofRefused}
+use Rattle.stab.specs.declared.ProofRead.the-variants.{Refused as ProofRefused}
 use Rattle.stab.specs.declared.Finding.{Finding}
 use Rattle.stab.proofs.Bools.{nothing-unless, found-unless}
-use Rattle.tidied.specs.Tidied.{foldingOf, newOf, tidyMembers, tidyNodes, tidied}
+use Rattle.tidied.specs.Tidied.{tidied}
 use Rattle.tidied.specs.Tidy.{Rooms, tidyVerdict, tidyAnswer, tidy, tidyTableBy, tidyProof, tidyNodeTable, tidyMemberTable}
-use Rattle.tidy.specs.Kept.{bare}
-use Rattle.tidy.proofs.Fitting.{bare-members, bare-nodes}
 
 module _ (R : Rooms) (T : Tableau) where
   -- an answer and three tables, in this order
@@ -66,21 +64,20 @@ module _ (R : Rooms) (T : Tableau) where
   -- ---- the tidied record
 
   pub answers-tidied : {n l : ℕ} {r : ProofRead} {rows nodes members : List ℤ} → (leb 4096 (R .rows) and leb 9216 (R .nodes) and leb 8192 (R .members)) ≡ true → checkOlder T ≡ Accepted n l
-      → r ≡ Proof (foldingOf T .count) (T .nodeRows) (length (tidyMembers (bare (T .nodes) (T .members)) (newOf T) (T .nodeRows)))
-      → rows ≡ padded (pos 0) (R .rows) (foldingOf T .table)
-      → nodes ≡ padded (pos 0) (R .nodes) (tidyNodes (bare (T .nodes) (T .members)) (newOf T) (T .nodeRows))
-      → members ≡ padded (pos 0) (R .members) (tidyMembers (bare (T .nodes) (T .members)) (newOf T) (T .nodeRows))
+      → r ≡ tidyAnswer (Accepted 0 0) (tidied T)
+      → rows ≡ padded (pos 0) (R .rows) (tidied T .proof)
+      → nodes ≡ padded (pos 0) (R .nodes) (tidied T .nodes)
+      → members ≡ padded (pos 0) (R .members) (tidied T .members)
       → Answers r rows nodes members
-  unfolding tidy tidyAnswer tidyProof tidyNodeTable tidyMemberTable tidyTableBy tidied
+  unfolding tidy tidyAnswer tidyProof tidyNodeTable tidyMemberTable tidyTableBy
   answers-tidied h e a b c d =
-      let v = verdict-older h ∙ e in
-      let same = bare-members T (newOf T) (T .nodeRows) in (
-        a ∙ ap (λ (m : List ℤ). Proof (foldingOf T .count) (T .nodeRows) (length m)) same ∙ sym (ap (λ (w : Verdict). tidyAnswer w (tidied T)) v),
+      let v = verdict-older h ∙ e in (
+        a ∙ sym (ap (λ (w : Verdict). tidyAnswer w (tidied T)) v),
         (
           b ∙ sym (ap (λ (w : Verdict). tidyTableBy w (R .rows) (tidied T .proof)) v),
           (
-            c ∙ ap (padded (pos 0) (R .nodes)) (bare-nodes T (newOf T) (T .nodeRows)) ∙ sym (ap (λ (w : Verdict). tidyTableBy w (R .nodes) (tidied T .nodes)) v),
-            d ∙ ap (padded (pos 0) (R .members)) same ∙ sym (ap (λ (w : Verdict). tidyTableBy w (R .members) (tidied T .members)) v),
+            c ∙ sym (ap (λ (w : Verdict). tidyTableBy w (R .nodes) (tidied T .nodes)) v),
+            d ∙ sym (ap (λ (w : Verdict). tidyTableBy w (R .members) (tidied T .members)) v),
           ),
         ),
       )

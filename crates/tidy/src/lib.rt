@@ -5,6 +5,7 @@ pub mod set;
 use branch::node::SIZE;
 use branch::node::START;
 use branch::node::natural_of;
+use stab::Header;
 use stab::Place;
 use stab::ProofRead;
 use stab::Refusal;
@@ -17,13 +18,14 @@ ghost use Prim.Native.Nat.{_+_, _*_, _<_, _≤_};
 ghost use lib.IntN.{pos};
 ghost use lib.ListN.{length};
 ghost use Rattle.stab.specs.Text.{padded};
-ghost use Rattle.stab.specs.declared.ProofRead.the-variants.{Proof};
 ghost use Rattle.stab.specs.declared.ProofRead.the-variants.{Refused as ProofRefused};
-ghost use Rattle.tidied.specs.Tidied.{newNumber, folding, tidyMembers, tidyNodes};
-ghost use Rattle.branch.specs.Work.{tableau};
-ghost use Rattle.tidied.specs.Tidy.{tidy as tidyOf, tidyProof, tidyNodeTable, tidyMemberTable};
+ghost use Rattle.tidied.specs.Tidied.{newNumber, newOf};
+ghost use Rattle.tidied.specs.Tidied.{tidied as tidiedOf};
+ghost use Rattle.stab.specs.Lent.{lent};
+ghost use Rattle.stab.specs.declared.Verdict.the-variants.{Accepted};
+ghost use Rattle.tidied.specs.Tidy.{tidy as tidyOf, tidyAnswer, tidyProof, tidyNodeTable, tidyMemberTable};
 ghost use Rattle.folds.specs.Folds.{AllSmall};
-ghost use Rattle.tidy.specs.Kept.{rooms, bare, SetFits, AllFit, Tidies};
+ghost use Rattle.tidy.specs.Kept.{rooms, SetFits, AllFit, Tidies};
 
 // Node j and its set, after the m members of the sets before it. How many members its set has.
 fn one_node(
@@ -74,26 +76,40 @@ fn each_node(
 // The rows of a record folded, and its nodes and sets put under the new numbers.
 fn tidied(
     schema: &[i32],
-    s: usize,
     proof: &[i32],
-    p: usize,
     nodes: &[i32],
-    k: usize,
     members: &[i32],
+    h: Header,
     out_proof: &mut [i32],
     out_nodes: &mut [i32],
     out_members: &mut [i32],
 ) -> ProofRead
-    requires { ⌜ (s + p ≤ 1024) × (k ≤ 1024) × (4 * p ≤ length (now «out_proof»)) × (9 * k ≤ length (now «out_nodes»)) × (8192 ≤ length (now «out_members»)) ⌝ }
-    requires { ⌜ AllFit (now nodes) (now members) (newNumber s (folding (now schema) s (now proof) p .numbers)) k ⌝ }
-    ensures { λ r. ⌜ r ≡ Proof (folding (now (schema .entry)) s (now (proof .entry)) p .count) k (length (tidyMembers (bare (now (nodes .entry)) (now (members .entry))) (newNumber s (folding (now (schema .entry)) s (now (proof .entry)) p .numbers)) k)) ⌝ }
-    ensures { λ r. ⌜ now («out_proof» .exit) ≡ padded (pos 0) (length (now («out_proof» .entry))) (folding (now (schema .entry)) s (now (proof .entry)) p .table) ⌝ }
-    ensures { λ r. ⌜ now («out_nodes» .exit) ≡ padded (pos 0) (length (now («out_nodes» .entry))) (tidyNodes (bare (now (nodes .entry)) (now (members .entry))) (newNumber s (folding (now (schema .entry)) s (now (proof .entry)) p .numbers)) k) ⌝ }
-    ensures { λ r. ⌜ now («out_members» .exit) ≡ padded (pos 0) (length (now («out_members» .entry))) (tidyMembers (bare (now (nodes .entry)) (now (members .entry))) (newNumber s (folding (now (schema .entry)) s (now (proof .entry)) p .numbers)) k) ⌝ }
+    requires { ⌜ (h .«schema_rows» + h .«proof_rows» ≤ 1024) × (h .«node_rows» ≤ 1024) × (4 * h .«proof_rows» ≤ length (now «out_proof»)) × (9 * h .«node_rows» ≤ length (now «out_nodes»)) × (8192 ≤ length (now «out_members»)) ⌝ }
+    requires { ⌜ AllFit (now nodes) (now members) (newOf (lent (now schema) (now proof) (now nodes) (now members) h)) (h .«node_rows») ⌝ }
+    ensures { λ r. ⌜ r ≡ tidyAnswer (Accepted 0 0) (tidiedOf (lent (now (schema .entry)) (now (proof .entry)) (now (nodes .entry)) (now (members .entry)) h)) ⌝ }
+    ensures { λ r. ⌜ now («out_proof» .exit) ≡ padded (pos 0) (length (now («out_proof» .entry))) (tidiedOf (lent (now (schema .entry)) (now (proof .entry)) (now (nodes .entry)) (now (members .entry)) h) .proof) ⌝ }
+    ensures { λ r. ⌜ now («out_nodes» .exit) ≡ padded (pos 0) (length (now («out_nodes» .entry))) (tidiedOf (lent (now (schema .entry)) (now (proof .entry)) (now (nodes .entry)) (now (members .entry)) h) .nodes) ⌝ }
+    ensures { λ r. ⌜ now («out_members» .exit) ≡ padded (pos 0) (length (now («out_members» .entry))) (tidiedOf (lent (now (schema .entry)) (now (proof .entry)) (now (nodes .entry)) (now (members .entry)) h) .members) ⌝ }
 {
     let mut numbers = [0u32; 1024];
-    let rows = folds::fold(schema, s, proof, p, out_proof, &mut numbers);
-    let m = each_node(nodes, k, members, &numbers, s, out_nodes, out_members);
+    let k = h.node_rows;
+    let rows = folds::fold(
+        schema,
+        h.schema_rows,
+        proof,
+        h.proof_rows,
+        out_proof,
+        &mut numbers,
+    );
+    let m = each_node(
+        nodes,
+        k,
+        members,
+        &numbers,
+        h.schema_rows,
+        out_nodes,
+        out_members,
+    );
     signed::clear(out_nodes, 9 * k);
     signed::clear(out_members, m);
     ProofRead::Proof {
@@ -127,23 +143,18 @@ fn refuse(
 // for each larger one before it.
 pub fn tidy(
     schema: &[i32],
-    schema_rows: usize,
     proof: &[i32],
-    proof_rows: usize,
-    root: i32,
-    least: i32,
     nodes: &[i32],
-    node_rows: usize,
     members: &[i32],
-    member_count: usize,
+    h: Header,
     out_proof: &mut [i32],
     out_nodes: &mut [i32],
     out_members: &mut [i32],
 ) -> ProofRead
-    ensures answer { λ r. ⌜ r ≡ tidyOf (rooms (now («out_proof» .entry)) (now («out_nodes» .entry)) (now («out_members» .entry))) (tableau (now (schema .entry)) «schema_rows» (now (proof .entry)) «proof_rows» root least (now (nodes .entry)) «node_rows» (now (members .entry)) «member_count») ⌝ }
-    ensures rows { λ r. ⌜ now («out_proof» .exit) ≡ tidyProof (rooms (now («out_proof» .entry)) (now («out_nodes» .entry)) (now («out_members» .entry))) (tableau (now (schema .entry)) «schema_rows» (now (proof .entry)) «proof_rows» root least (now (nodes .entry)) «node_rows» (now (members .entry)) «member_count») ⌝ }
-    ensures nodes { λ r. ⌜ now («out_nodes» .exit) ≡ tidyNodeTable (rooms (now («out_proof» .entry)) (now («out_nodes» .entry)) (now («out_members» .entry))) (tableau (now (schema .entry)) «schema_rows» (now (proof .entry)) «proof_rows» root least (now (nodes .entry)) «node_rows» (now (members .entry)) «member_count») ⌝ }
-    ensures members { λ r. ⌜ now («out_members» .exit) ≡ tidyMemberTable (rooms (now («out_proof» .entry)) (now («out_nodes» .entry)) (now («out_members» .entry))) (tableau (now (schema .entry)) «schema_rows» (now (proof .entry)) «proof_rows» root least (now (nodes .entry)) «node_rows» (now (members .entry)) «member_count») ⌝ }
+    ensures answer { λ r. ⌜ r ≡ tidyOf (rooms (now («out_proof» .entry)) (now («out_nodes» .entry)) (now («out_members» .entry))) (lent (now (schema .entry)) (now (proof .entry)) (now (nodes .entry)) (now (members .entry)) h) ⌝ }
+    ensures rows { λ r. ⌜ now («out_proof» .exit) ≡ tidyProof (rooms (now («out_proof» .entry)) (now («out_nodes» .entry)) (now («out_members» .entry))) (lent (now (schema .entry)) (now (proof .entry)) (now (nodes .entry)) (now (members .entry)) h) ⌝ }
+    ensures nodes { λ r. ⌜ now («out_nodes» .exit) ≡ tidyNodeTable (rooms (now («out_proof» .entry)) (now («out_nodes» .entry)) (now («out_members» .entry))) (lent (now (schema .entry)) (now (proof .entry)) (now (nodes .entry)) (now (members .entry)) h) ⌝ }
+    ensures members { λ r. ⌜ now («out_members» .exit) ≡ tidyMemberTable (rooms (now («out_proof» .entry)) (now («out_nodes» .entry)) (now («out_members» .entry))) (lent (now (schema .entry)) (now (proof .entry)) (now (nodes .entry)) (now (members .entry)) h) ⌝ }
 {
     if !full(out_proof, out_nodes, out_members) {
         return refuse(
@@ -154,27 +165,14 @@ pub fn tidy(
             out_members,
         );
     }
-    match check_older(
-        schema,
-        schema_rows,
-        proof,
-        proof_rows,
-        root,
-        least,
-        nodes,
-        node_rows,
-        members,
-        member_count,
-    ) {
+    match check_older(schema, proof, nodes, members, h) {
         Verdict::Refused { why, place } => { refuse(why, place, out_proof, out_nodes, out_members) }
         Verdict::Accepted { nodes: _, links: _ } => tidied(
             schema,
-            schema_rows,
             proof,
-            proof_rows,
             nodes,
-            node_rows,
             members,
+            h,
             out_proof,
             out_nodes,
             out_members,

@@ -7,7 +7,6 @@ use Rattle.stab.specs.Check.{linkCount, check, checkOlder}
 use Rattle.stab.specs.Model.{Model, checkModel}
 use Rattle.stab.specs.Keeps.{Keeps, KeepsOlder, KeepsModel}
 use Rattle.stab.specs.Answer.{Numbers, verdictNumbers, packed, answerIn, nodesIn, linksIn, numbersIn, Packs}
-use Rattle.stab.specs.Refuted.{SameSchema}
 use Rattle.stab.specs.declared.Verdict.{Verdict}
 use Rattle.stab.specs.declared.Verdict.the-variants.{Accepted}
 use Rattle.stab.proofs.Exactness.{accepts-exactly, older-accepts-exactly, model-accepts-exactly, model-counts-zero}

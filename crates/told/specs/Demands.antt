@@ -2,7 +2,7 @@
 use Prim.Native.Nat.{ℕ}
 use mathlib.Core.Path.{_≡_}
 use mathlib.Core.Logic.{_↔_, _≢_}
-use Rattle.stab.specs.Node.{Tableau}
+use Rattle.stab.specs.Node.{Tableau, schemaOf}
 use Rattle.stab.specs.Check.{linkCount}
 use Rattle.stab.specs.Model.{Model, checkModel}
 use Rattle.stab.specs.Keeps.{Keeps, KeepsOlder, KeepsModel}
@@ -12,7 +12,7 @@ use Rattle.stab.specs.declared.Verdict.the-variants.{Accepted}
 
 -- demand 3: "whatever model the model check is given with the same schema rows, root and least value, it does not accept that model"
 abbrev pub NoModel : Tableau → Type 0
-NoModel T = (M : Model) → SameSchema T (M .schema) (M .schemaRows) (M .root) (M .least) → (nodes links : ℕ) → checkModel M ≢ Accepted nodes links
+NoModel T = (M : Model) → SameSchema T (M .schema) → (nodes links : ℕ) → checkModel M ≢ Accepted nodes links
 
 -- of a tableau that is to keep some rules
 pub record SaysOf (T : Tableau) (kept : Type 0) (x : ℕ) : Type 0 where
@@ -22,7 +22,7 @@ pub record SaysOf (T : Tableau) (kept : Type 0) (x : ℕ) : Type 0 where
   pub nodes : answerIn x ≡ 0 → nodesIn x ≡ T .nodeRows
   pub links : answerIn x ≡ 0 → linksIn x ≡ linkCount T
   -- demand 3: "if it accepts, the schema is false at every natural number n from its least value upward"
-  pub refuted : answerIn x ≡ 0 → Refuted (T .schema) (T .root) (T .least)
+  pub refuted : answerIn x ≡ 0 → Refuted (schemaOf T)
   pub noModel : answerIn x ≡ 0 → NoModel T
 
 -- the check's number
@@ -40,4 +40,4 @@ pub record ModelSays (M : Model) (x : ℕ) : Type 0 where
   pub nodes : answerIn x ≡ 0 → nodesIn x ≡ 0
   pub links : answerIn x ≡ 0 → linksIn x ≡ 0
   -- demand 3: no tableau of the same schema rows, root and least value is accepted
-  pub irrefutable : answerIn x ≡ 0 → Irrefutable (M .schema) (M .schemaRows) (M .root) (M .least)
+  pub irrefutable : answerIn x ≡ 0 → Irrefutable (M .schema)

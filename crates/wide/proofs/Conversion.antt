@@ -4,12 +4,13 @@ use native.Mathlib.Omega.{arith}
 use mathlib.Core.Path.{_≡_, refl, sym, _∙_, ap, ap₂}
 use mathlib.Core.Logic.{_↔_, Iff·trans, _⊎_, inl, inr, ⊎-elim}
 use mathlib.Core.Bool.{Bool, true, false, not}
+use mathlib.Core.List.{List}
 use lib.IntN.{ℤ, pos}
 use lib.ListN.{length}
 use Rattle.stab.specs.Basic.{nat, below, within, _otherwise_, scan, unless}
-use Rattle.stab.specs.Formula.{Row, rowAt, Formula, tree, isOuter, wellFormed, smallEnough}
+use Rattle.stab.specs.Formula.{Row, rowAt, Schema, Formula, tree, isOuter, wellFormed, smallEnough}
 use Rattle.stab.specs.Meaning.{Assignment, value, signed, truth}
-use Rattle.stab.specs.Check.{wholeUnless, atUnless, holds, rowRefusal, rootFits, formulasBy, formulasRefusal}
+use Rattle.stab.specs.Check.{wholeUnless, atUnless, holds, rowRefusal, rootFits, formulaRefusal, formulasRefusal, schemaRefusal}
 use Rattle.stab.specs.declared.Refusal.the-variants.{TableTooShort, TooMany, Root, IllFormed, TooLarge, Plain}
 use Rattle.stab.specs.declared.Place.the-variants.{Whole}
 use Rattle.stab.specs.declared.Finding.{Finding}
@@ -18,10 +19,10 @@ use Rattle.stab.proofs.Bools.{otherwise-nothing, otherwise-found}
 use Rattle.stab.proofs.Scans.{scan-same}
 use Rattle.stab.proofs.Trees.{below-nat, below-of}
 use Rattle.stab.proofs.Tests.{itself, _&_, le-tests, _clears_, whole-clears, at-clears, _then_, scan-clears}
-use Rattle.wide.specs.WideFormula.{wideTree, isWideOuter, wideFormed, wideSmall}
+use Rattle.wide.specs.WideFormula.{wideTree, wideFormula, isWideOuter, wideFormed, wideSmall}
 use Rattle.wide.specs.WideMeaning.{wideValue, wideTruth}
 use Rattle.wide.specs.Plain.{image, plainRows}
-use Rattle.wide.specs.Convert.{WideSchema, plainTable, plainCount, plainRoot, wideRowRefusal, wideRefusal, plainRefusal, convertRefusal}
+use Rattle.wide.specs.Convert.{WideSchema, plainTable, plainCount, plainRoot, wideRowRefusal, wideRefusal, plainRefusal, convertRefusal, plainIn}
 use Rattle.wide.proofs.Tables.{columns-row, small-agrees}
 use Rattle.wide.proofs.Places.{start-rises, plain-length}
 use Rattle.wide.proofs.PlainForms.{plain-value}
@@ -32,20 +33,20 @@ use Rattle.wide.proofs.PlainFormed.{rows-formed, image-outer}
 -- ---- when nothing is refused
 
 -- the wide rows, root and least value keep the rules
-pub record KeepsWide (rows : ℕ → Row) (n : ℕ) (root least : ℤ) : Type 0 where
-  pub rootRow : below n root ≡ true
-  pub leastRange : within (pos 0) (pos 9999) least ≡ true
-  pub formed : (r : ℕ) → r < n → wideFormed rows r ≡ true
-  pub small : (r : ℕ) → r < n → wideSmall rows r ≡ true
-  pub rootOuter : isWideOuter (wideTree rows (nat root)) ≡ true
+pub record KeepsWide (S : Schema) : Type 0 where
+  pub rootRow : below (S .rows) (S .root) ≡ true
+  pub leastRange : within (pos 0) (pos 9999) (S .least) ≡ true
+  pub formed : (r : ℕ) → r < S .rows → wideFormed (rowAt (S .table)) r ≡ true
+  pub small : (r : ℕ) → r < S .rows → wideSmall (rowAt (S .table)) r ≡ true
+  pub rootOuter : isWideOuter (wideFormula S) ≡ true
 
-pub wide-clears : (rows : ℕ → Row) (n : ℕ) (root least : ℤ) → wideRefusal rows n root least clears KeepsWide rows n root least
+pub wide-clears : (S : Schema) → wideRefusal S clears KeepsWide S
 unfolding wideRefusal wideRowRefusal rootFits
-wide-clears rows n root least =
+wide-clears S =
     Iff·trans
-    (whole-clears Root (itself (below n root) & itself (within (pos 0) (pos 9999) least)) then
-    scan-clears (wideRowRefusal rows) n (λ r l. at-clears IllFormed r (itself (wideFormed rows r)) then at-clears TooLarge r (itself (wideSmall rows r))) then
-    whole-clears Root (itself (isWideOuter (wideTree rows (nat root))))) (
+    (whole-clears Root (itself (below (S .rows) (S .root)) & itself (within (pos 0) (pos 9999) (S .least))) then
+    scan-clears (wideRowRefusal (rowAt (S .table))) (S .rows) (λ r l. at-clears IllFormed r (itself (wideFormed (rowAt (S .table)) r)) then at-clears TooLarge r (itself (wideSmall (rowAt (S .table)) r))) then
+    whole-clears Root (itself (isWideOuter (wideFormula S)))) (
       λ p. record { rootRow = p .0 .0; leastRange = p .0 .1; formed = λ r l. p .1 .0 r l .0; small = λ r l. p .1 .0 r l .1; rootOuter = p .1 .1 },
       λ k. ((k .rootRow, k .leastRange), (λ r l. (k .formed r l, k .small r l), k .rootOuter)),
     )
@@ -65,9 +66,9 @@ plain-clears W =
 -- the converter fills the table
 pub record Converts (W : WideSchema) : Type 0 where
   pub room : 4096 ≤ W .room
-  pub held : 4 * W .wideRows ≤ length (W .wide)
-  pub limit : W .wideRows ≤ 1024
-  pub wideRules : KeepsWide (rowAt (W .wide)) (W .wideRows) (W .root) (W .least)
+  pub held : 4 * W .schema .rows ≤ length (W .schema .table)
+  pub limit : W .schema .rows ≤ 1024
+  pub wideRules : KeepsWide (W .schema)
   pub plainRules : KeepsPlain W
 
 pub convert-clears : (W : WideSchema) → convertRefusal W clears Converts W
@@ -75,9 +76,9 @@ unfolding convertRefusal holds
 convert-clears W =
     Iff·trans
     (at-clears TableTooShort 0 (le-tests 4096 (W .room)) then
-    whole-clears TableTooShort (le-tests (4 * W .wideRows) (length (W .wide))) then
-    whole-clears TooMany (le-tests (W .wideRows) 1024) then
-    wide-clears (rowAt (W .wide)) (W .wideRows) (W .root) (W .least) then
+    whole-clears TableTooShort (le-tests (4 * W .schema .rows) (length (W .schema .table))) then
+    whole-clears TooMany (le-tests (W .schema .rows) 1024) then
+    wide-clears (W .schema) then
     plain-clears W) (
       λ p. record { room = p .0; held = p .1 .0; limit = p .1 .1 .0; wideRules = p .1 .1 .1 .0; plainRules = p .1 .1 .1 .1 },
       λ k. (k .room, (k .held, (k .limit, (k .wideRules, k .plainRules)))),
@@ -94,91 +95,92 @@ abbrev pub HasPlainRows : WideSchema → (ℕ → Row) → Type 0
 HasPlainRows W plains = (p : ℕ) → p < plainCount W → plains p ≡ rowAt (plainTable W) p
 
 module _ (W : WideSchema) (plains : ℕ → Row) (has : HasPlainRows W plains) where
-  stand : Stand (rowAt (W .wide)) (W .wideRows) plains
+  stand : Stand (rowAt (W .schema .table)) (W .schema .rows) plains
   unfolding plainCount plainTable
   stand p l =
-      has p (omega (arith, plain-length (rowAt (W .wide)) (W .wideRows))) ∙ columns-row (plainRows (rowAt (W .wide)) (W .wideRows)) p
+      has p (omega (arith, plain-length (rowAt (W .schema .table)) (W .schema .rows))) ∙ columns-row (plainRows (rowAt (W .schema .table)) (W .schema .rows)) p
 
-  module _ (formed : (r : ℕ) → r < W .wideRows → wideFormed (rowAt (W .wide)) r ≡ true) where
+  module _ (formed : (r : ℕ) → r < W .schema .rows → wideFormed (rowAt (W .schema .table)) r ≡ true) where
     pub row-formed : (r : ℕ) → r < plainCount W → wellFormed plains r ≡ true
     unfolding plainCount
     row-formed r l =
-        rows-formed (rowAt (W .wide)) (W .wideRows) plains formed stand r (omega (arith, plain-length (rowAt (W .wide)) (W .wideRows)))
+        rows-formed (rowAt (W .schema .table)) (W .schema .rows) plains formed stand r (omega (arith, plain-length (rowAt (W .schema .table)) (W .schema .rows)))
 
     -- the row that stands for a wide row has its value, and the one that stands for its negation the other, at every n, i and assignment
-    pub row-means : (r : ℕ) → r < W .wideRows → (σ : Assignment) (n : ℕ) (i : ℤ)
-        → (value σ n (tree plains (image (rowAt (W .wide)) r .own)) i ≡ wideValue σ n (wideTree (rowAt (W .wide)) r) i) × (value σ n (tree plains (image (rowAt (W .wide)) r .negated)) i ≡ not (wideValue σ n (wideTree (rowAt (W .wide)) r) i))
+    pub row-means : (r : ℕ) → r < W .schema .rows → (σ : Assignment) (n : ℕ) (i : ℤ)
+        → (value σ n (tree plains (image (rowAt (W .schema .table)) r .own)) i ≡ wideValue σ n (wideTree (rowAt (W .schema .table)) r) i) × (value σ n (tree plains (image (rowAt (W .schema .table)) r .negated)) i ≡ not (wideValue σ n (wideTree (rowAt (W .schema .table)) r) i))
     unfolding side signed
     row-means r l σ n i = (means true, means false)
       where
-        means : (v : Bool) → value σ n (tree plains (side v (image (rowAt (W .wide)) r))) i ≡ signed v (wideValue σ n (wideTree (rowAt (W .wide)) r) i)
+        means : (v : Bool) → value σ n (tree plains (side v (image (rowAt (W .schema .table)) r))) i ≡ signed v (wideValue σ n (wideTree (rowAt (W .schema .table)) r) i)
         means v =
-            ap (λ (f : Formula). value σ n f i) (image-tree (rowAt (W .wide)) (W .wideRows) plains formed stand v r l)
-            ∙ plain-value v σ n (wideTree (rowAt (W .wide)) r) i
+            ap (λ (f : Formula). value σ n f i) (image-tree (rowAt (W .schema .table)) (W .schema .rows) plains formed stand v r l)
+            ∙ plain-value v σ n (wideTree (rowAt (W .schema .table)) r) i
 
-    module _ (rootRow : below (W .wideRows) (W .root) ≡ true) where
+    module _ (rootRow : below (W .schema .rows) (W .schema .root) ≡ true) where
       pub root-below : plainRoot W < plainCount W
       unfolding plainRoot plainCount side
       root-below =
-          let l = below-nat (W .wideRows) (W .root) rootRow in
-          omega (arith, plain-length (rowAt (W .wide)) (W .wideRows), image-below (rowAt (W .wide)) (W .wideRows) formed true (nat (W .root)) l, start-rises (rowAt (W .wide)) (suc (nat (W .root))) (W .wideRows) l)
+          let l = below-nat (W .schema .rows) (W .schema .root) rootRow in
+          omega (arith, plain-length (rowAt (W .schema .table)) (W .schema .rows), image-below (rowAt (W .schema .table)) (W .schema .rows) formed true (nat (W .schema .root)) l, start-rises (rowAt (W .schema .table)) (suc (nat (W .schema .root))) (W .schema .rows) l)
 
-      pub root-outer : isOuter (tree plains (plainRoot W)) ≡ isWideOuter (wideTree (rowAt (W .wide)) (nat (W .root)))
+      pub root-outer : isOuter (tree plains (plainRoot W)) ≡ isWideOuter (wideFormula (W .schema))
       unfolding plainRoot side
-      root-outer = image-outer (rowAt (W .wide)) (W .wideRows) plains formed stand true (nat (W .root)) (below-nat (W .wideRows) (W .root) rootRow)
+      root-outer = image-outer (rowAt (W .schema .table)) (W .schema .rows) plains formed stand true (nat (W .schema .root)) (below-nat (W .schema .rows) (W .schema .root) rootRow)
 
-      pub root-means : (σ : Assignment) (n : ℕ) → truth σ n (tree plains (plainRoot W)) ≡ wideTruth σ n (wideTree (rowAt (W .wide)) (nat (W .root)))
+      pub root-means : (σ : Assignment) (n : ℕ) → truth σ n (tree plains (plainRoot W)) ≡ wideTruth σ n (wideFormula (W .schema))
       unfolding truth wideTruth plainRoot
-      root-means σ n = row-means (nat (W .root)) (below-nat (W .wideRows) (W .root) rootRow) σ n (pos 0) .0
+      root-means σ n = row-means (nat (W .schema .root)) (below-nat (W .schema .rows) (W .schema .root) rootRow) σ n (pos 0) .0
 
+-- in a table that starts with them
+module _ (W : WideSchema) (t : List ℤ) (has : HasPlainRows W (rowAt t)) where
   -- all that the check's pass over formula rows can find of them is 8
-  finds-8 : KeepsWide (rowAt (W .wide)) (W .wideRows) (W .root) (W .least)
-      → formulasRefusal plains (plainCount W) (plainCount W) (pos (plainRoot W)) (W .least) ≡ scan (λ r. atUnless (smallEnough plains r) TooLarge r) (plainCount W)
-  unfolding formulasRefusal formulasBy rowRefusal rootFits nat
+  finds-8 : KeepsWide (W .schema) → schemaRefusal (plainIn W t) ≡ scan (λ r. atUnless (smallEnough (rowAt t) r) TooLarge r) (plainCount W)
+  unfolding schemaRefusal formulasRefusal formulaRefusal rowRefusal rootFits nat
   finds-8 K =
-      otherwise-nothing _ _ (whole-clears Root (itself (below (plainCount W) (pos (plainRoot W))) & itself (within (pos 0) (pos 9999) (W .least))) .1
-      (below-of (plainCount W) (plainRoot W) (root-below (K .formed) (K .rootRow)), K .leastRange))
+      let plains = rowAt t in
+      otherwise-nothing _ _ (whole-clears Root (itself (below (plainCount W) (pos (plainRoot W))) & itself (within (pos 0) (pos 9999) (W .schema .least))) .1
+      (below-of (plainCount W) (plainRoot W) (root-below W plains has (K .formed) (K .rootRow)), K .leastRange))
       ∙ ap₂ _otherwise_
-      (scan-same _ (λ r. atUnless (smallEnough plains r) TooLarge r) (plainCount W) (λ r l h. otherwise-nothing _ _ (at-clears IllFormed r (itself _) .1 (row-formed (K .formed) r l))))
-      (whole-clears Root (itself _) .1 (root-outer (K .formed) (K .rootRow) ∙ K .rootOuter))
+      (scan-same _ (λ r. atUnless (smallEnough plains r) TooLarge r) (plainCount W) (λ r l h. otherwise-nothing _ _ (at-clears IllFormed r (itself _) .1 (row-formed W plains has (K .formed) r l))))
+      (whole-clears Root (itself _) .1 (root-outer W plains has (K .formed) (K .rootRow) ∙ K .rootOuter))
       ∙ nothing-after _
 
-  pub judged : KeepsWide (rowAt (W .wide)) (W .wideRows) (W .root) (W .least)
-      → formulasRefusal plains (plainCount W) (plainCount W) (pos (plainRoot W)) (W .least) clears ((r : ℕ) → r < plainCount W → smallEnough (rowAt (plainTable W)) r ≡ true)
+  pub judged : KeepsWide (W .schema) → schemaRefusal (plainIn W t) clears ((r : ℕ) → r < plainCount W → smallEnough (rowAt (plainTable W)) r ≡ true)
   judged K =
       Iff·trans (λ e. sym (finds-8 K) ∙ e, λ e. finds-8 K ∙ e)
-      (Iff·trans (scan-clears _ (plainCount W) (λ r l. at-clears TooLarge r (itself (smallEnough plains r)))) (
-        λ h r l. small-agrees (rowAt (plainTable W)) plains r (λ a m. sym (has a (omega arith))) ∙ h r l,
-        λ h r l. small-agrees plains (rowAt (plainTable W)) r (λ a m. has a (omega arith)) ∙ h r l,
+      (Iff·trans (scan-clears _ (plainCount W) (λ r l. at-clears TooLarge r (itself (smallEnough (rowAt t) r)))) (
+        λ h r l. small-agrees (rowAt (plainTable W)) (rowAt t) r (λ a m. sym (has a (omega arith))) ∙ h r l,
+        λ h r l. small-agrees (rowAt t) (rowAt (plainTable W)) r (λ a m. has a (omega arith)) ∙ h r l,
       ))
 
 -- ---- the theorems
 
 -- well-formed wide rows give well-formed plain rows, whatever their size
-pub plain-formed : (W : WideSchema) → ((r : ℕ) → r < W .wideRows → wideFormed (rowAt (W .wide)) r ≡ true) → (r : ℕ) → r < plainCount W → wellFormed (rowAt (plainTable W)) r ≡ true
+pub plain-formed : (W : WideSchema) → ((r : ℕ) → r < W .schema .rows → wideFormed (rowAt (W .schema .table)) r ≡ true) → (r : ℕ) → r < plainCount W → wellFormed (rowAt (plainTable W)) r ≡ true
 plain-formed W formed r l = row-formed W (rowAt (plainTable W)) (λ p h. refl) formed r l
 
 -- the plain root is a plain row, outer exactly if the wide root is
-pub plain-root : (W : WideSchema) → ((r : ℕ) → r < W .wideRows → wideFormed (rowAt (W .wide)) r ≡ true) → below (W .wideRows) (W .root) ≡ true
-    → (plainRoot W < plainCount W) × (isOuter (tree (rowAt (plainTable W)) (plainRoot W)) ≡ isWideOuter (wideTree (rowAt (W .wide)) (nat (W .root))))
+pub plain-root : (W : WideSchema) → ((r : ℕ) → r < W .schema .rows → wideFormed (rowAt (W .schema .table)) r ≡ true) → below (W .schema .rows) (W .schema .root) ≡ true
+    → (plainRoot W < plainCount W) × (isOuter (tree (rowAt (plainTable W)) (plainRoot W)) ≡ isWideOuter (wideFormula (W .schema)))
 plain-root W formed rootRow =
     let plains = rowAt (plainTable W) in
     (root-below W plains (λ p h. refl) formed rootRow, root-outer W plains (λ p h. refl) formed rootRow)
 
 -- in a table that starts with the plain rows, the check's pass over formula rows finds nothing exactly if 23 is not given, where the wide
 -- rows pass and the plain rows are few enough
-pub plain-judged : (W : WideSchema) (plains : ℕ → Row) → HasPlainRows W plains → wideRefusal (rowAt (W .wide)) (W .wideRows) (W .root) (W .least) ≡ Nothing → plainCount W ≤ 1024
-    → (formulasRefusal plains (plainCount W) (plainCount W) (pos (plainRoot W)) (W .least) ≡ Nothing) ↔ (plainRefusal W ≡ Nothing)
-plain-judged W plains has h few =
-    let j = judged W plains has (wide-clears _ _ _ _ .0 h) in (
+pub plain-judged : (W : WideSchema) (t : List ℤ) → HasPlainRows W (rowAt t) → wideRefusal (W .schema) ≡ Nothing → plainCount W ≤ 1024
+    → (schemaRefusal (plainIn W t) ≡ Nothing) ↔ (plainRefusal W ≡ Nothing)
+plain-judged W t has h few =
+    let j = judged W t has (wide-clears (W .schema) .0 h) in (
       λ e. plain-clears W .1 (record { limit = few; small = j .0 e }),
       λ e. j .1 (plain-clears W .0 e .small),
     )
 
 -- what it finds otherwise is 8
-pub plain-finds : (W : WideSchema) (plains : ℕ → Row) → HasPlainRows W plains → wideRefusal (rowAt (W .wide)) (W .wideRows) (W .root) (W .least) ≡ Nothing
-    → formulasRefusal plains (plainCount W) (plainCount W) (pos (plainRoot W)) (W .least) ≡ scan (λ r. atUnless (smallEnough plains r) TooLarge r) (plainCount W)
-plain-finds W plains has h = finds-8 W plains has (wide-clears _ _ _ _ .0 h)
+pub plain-finds : (W : WideSchema) (t : List ℤ) → HasPlainRows W (rowAt t) → wideRefusal (W .schema) ≡ Nothing
+    → schemaRefusal (plainIn W t) ≡ scan (λ r. atUnless (smallEnough (rowAt t) r) TooLarge r) (plainCount W)
+plain-finds W t has h = finds-8 W t has (wide-clears (W .schema) .0 h)
 
 -- nothing, or 23 of the whole
 abbrev Or23 : Finding → Type 0

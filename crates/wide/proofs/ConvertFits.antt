@@ -1,10 +1,8 @@
 -- What the converter answers fits into the one number and the lent results.
-use Prim.Native.Nat.{ℕ, _<_, _≤_}
+use Prim.Native.Nat.{_<_, _≤_}
 use native.Mathlib.Omega.{arith}
-use mathlib.Core.Path.{_≡_, refl, sym, subst}
-use lib.IntN.{ℤ}
-use Rattle.stab.specs.Formula.{Row, rowAt}
-use Rattle.stab.specs.Answer.{Packs}
+use mathlib.Core.Path.{_≡_, refl}
+use Rattle.stab.specs.Formula.{Schema, rowAt}
 use Rattle.stab.specs.declared.Refusal.the-variants.{TooMany, Plain}
 use Rattle.stab.proofs.Tests.{le-tests, whole-clears}
 use Rattle.stab.proofs.Exactness.Refusals.{FindsNear, of-whole, of-at, _or-else_, once, of-scan}
@@ -15,11 +13,11 @@ use Rattle.stab.specs.declared.Finding.the-variants.{Nothing, Found}
 use Rattle.wide.specs.Convert.{WideSchema, plainCount, plainRoot, wideRowRefusal, wideRefusal, plainRefusal, convertRefusal, convertedBy, converted}
 use Rattle.wide.proofs.Conversion.{convert-clears, plain-root}
 
-of-wide : (rows : ℕ → Row) (n : ℕ) (root least : ℤ) → n ≤ 4096 → FindsNear (wideRefusal rows n root least)
+of-wide : (S : Schema) → S .rows ≤ 4096 → FindsNear (wideRefusal S)
 unfolding wideRefusal wideRowRefusal
-of-wide rows n root least l =
+of-wide S l =
     of-whole _ _ or-else
-    of-scan (wideRowRefusal rows) n l (λ r k. of-at _ _ r k or-else of-at _ _ r k) or-else
+    of-scan (wideRowRefusal (rowAt (S .table))) (S .rows) l (λ r k. of-at _ _ r k or-else of-at _ _ r k) or-else
     of-whole _ _
 
 of-plain : (W : WideSchema) → FindsNear (plainRefusal W)
@@ -36,7 +34,7 @@ convert-finds W =
     of-whole _ _ or-else
     once (of-whole _ TooMany)
     (λ h.
-    of-wide (rowAt (W .wide)) (W .wideRows) (W .root) (W .least) (omega (arith, whole-clears TooMany (le-tests (W .wideRows) 1024) .0 h)) or-else
+    of-wide (W .schema) (omega (arith, whole-clears TooMany (le-tests (W .schema .rows) 1024) .0 h)) or-else
     of-plain W)
 
 -- at most 1,024 rows, or a refusal that packs

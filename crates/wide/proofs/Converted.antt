@@ -10,8 +10,8 @@ use lib.ListN.{length, getD, replicate, length-append, length-replicate}
 use Rattle.stab.specs.Basic.{nat}
 use Rattle.stab.specs.Formula.{rowAt, Formula, tree}
 use Rattle.stab.specs.Meaning.{Assignment, truth, value}
-use Rattle.stab.specs.Node.{Tableau}
-use Rattle.stab.specs.Check.{formulasRefusal, check, checkOlder}
+use Rattle.stab.specs.Node.{Tableau, schemaOf}
+use Rattle.stab.specs.Check.{schemaRefusal, check, checkOlder}
 use Rattle.stab.specs.Text.{padded}
 use Rattle.stab.specs.Refuted.{Refuted}
 use Rattle.stab.specs.declared.Verdict.the-variants.{Accepted}
@@ -22,11 +22,11 @@ use Rattle.stab.specs.declared.Place.{Place}
 use Rattle.stab.proofs.Trees.{tree-agrees}
 use Rattle.stab.proofs.Soundness.{sound, sound-older}
 use Rattle.stab.proofs.Texts.Outcomes.{padded-none}
-use Rattle.wide.specs.WideFormula.{wideTree}
+use Rattle.wide.specs.WideFormula.{wideFormula}
 use Rattle.wide.specs.WideMeaning.{wideTruth}
 use Rattle.wide.specs.Plain.{constantRow, row}
 use Rattle.wide.specs.Converted.{WideRefuted}
-use Rattle.wide.specs.Convert.{WideSchema, plainTable, plainCount, plainRoot, convertRefusal, convertedTableBy, convertedTable}
+use Rattle.wide.specs.Convert.{WideSchema, plainTable, plainCount, plainRoot, convertRefusal, convertedTableBy, convertedTable, plainSchema}
 use Rattle.wide.proofs.Tables.{row-is, columns-length, row-padded}
 use Rattle.wide.proofs.PlainRows.{constant-tree}
 use Rattle.wide.proofs.Conversion.{Converts, convert-clears, HasPlainRows, root-means, judged}
@@ -88,29 +88,29 @@ module _ (W : WideSchema) (converts : convertRefusal W ≡ Nothing) where
       ap (λ (x : Finding). rowAt (convertedTableBy x W) p) converts ∙ row-padded (W .room) (plainTable W) p (omega (arith, count-length W))
 
   -- "The plain root is true exactly where the wide root is, at every n and assignment"
-  pub plain-means : (σ : Assignment) (n : ℕ) → truth σ n (tree (rowAt (convertedTable W)) (plainRoot W)) ≡ wideTruth σ n (wideTree (rowAt (W .wide)) (nat (W .root)))
+  pub plain-means : (σ : Assignment) (n : ℕ) → truth σ n (tree (rowAt (convertedTable W)) (plainRoot W)) ≡ wideTruth σ n (wideFormula (W .schema))
   plain-means σ n = root-means W (rowAt (convertedTable W)) has-plain-rows (kept .wideRules .formed) (kept .wideRules .rootRow) σ n
 
   -- the table holds the plain rows, and the check's pass over formula rows finds nothing of them
-  pub plain-passes : (formulasRefusal (rowAt (convertedTable W)) (plainCount W) (plainCount W) (pos (plainRoot W)) (W .least) ≡ Nothing) × (plainCount W ≤ 1024) × (4 * plainCount W ≤ length (convertedTable W))
+  pub plain-passes : (schemaRefusal (plainSchema W) ≡ Nothing) × (plainCount W ≤ 1024) × (4 * plainCount W ≤ length (convertedTable W))
   plain-passes = (
-    judged W (rowAt (convertedTable W)) has-plain-rows (kept .wideRules) .1 (kept .plainRules .small),
+    judged W (convertedTable W) has-plain-rows (kept .wideRules) .1 (kept .plainRules .small),
     kept .plainRules .limit,
     omega (arith, converted-length W, kept .room, kept .plainRules .limit),
   )
 
-refuted-wide : (W : WideSchema) → Refuted (convertedTable W) (pos (plainRoot W)) (W .least) → WideRefuted W
+refuted-wide : (W : WideSchema) → Refuted (plainSchema W) → WideRefuted (W .schema)
 unfolding nat
 refuted-wide W refuted n σ h = go (convertRefusal W) refl
   where
-    go : (x : Finding) → convertRefusal W ≡ x → wideTruth σ n (wideTree (rowAt (W .wide)) (nat (W .root))) ≡ false
+    go : (x : Finding) → convertRefusal W ≡ x → wideTruth σ n (wideFormula (W .schema)) ≡ false
     go Nothing e = sym (plain-means W e σ n) ∙ refuted n σ h
     go (Found why p) e = absurd (true≢false (sym (cleared-true W why p e σ n (plainRoot W)) ∙ refuted n σ h))
 
 -- "so a closed tableau for the plain schema refutes the wide one", whichever entry accepts it: a tableau with that root and least value,
 -- whose schema table is the one filled or agrees with it up to the root
-module _ (W : WideSchema) (T : Tableau) (rows : (r : ℕ) → r ≤ plainRoot W → rowAt (T .schema) r ≡ rowAt (convertedTable W) r) (root : T .root ≡ pos (plainRoot W)) (least : T .least ≡ W .least) (nodes links : ℕ) where
-  same-refuted : Refuted (T .schema) (T .root) (T .least) → WideRefuted W
+module _ (W : WideSchema) (T : Tableau) (rows : (r : ℕ) → r ≤ plainRoot W → rowAt (T .schema) r ≡ rowAt (convertedTable W) r) (root : T .root ≡ pos (plainRoot W)) (least : T .least ≡ W .schema .least) (nodes links : ℕ) where
+  same-refuted : Refuted (schemaOf T) → WideRefuted (W .schema)
   unfolding nat
   same-refuted r =
       refuted-wide W (λ n σ h.
@@ -118,8 +118,8 @@ module _ (W : WideSchema) (T : Tableau) (rows : (r : ℕ) → r ≤ plainRoot W 
       ∙ ap (λ (z : ℤ). truth σ n (tree (rowAt (T .schema)) (nat z))) (sym root)
       ∙ r n σ (subst (λ (z : ℤ). z ≤ℤ pos n) (sym least) h))
 
-  pub wide-refuted : check T ≡ Accepted nodes links → WideRefuted W
+  pub wide-refuted : check T ≡ Accepted nodes links → WideRefuted (W .schema)
   wide-refuted h = same-refuted (sound T nodes links h)
 
-  pub wide-refuted-older : checkOlder T ≡ Accepted nodes links → WideRefuted W
+  pub wide-refuted-older : checkOlder T ≡ Accepted nodes links → WideRefuted (W .schema)
   wide-refuted-older h = same-refuted (sound-older T nodes links h)

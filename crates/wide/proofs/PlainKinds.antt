@@ -6,9 +6,9 @@ use mathlib.Core.Bool.{Bool, true, false, not, true≢false}
 use lib.Dec.{leb}
 use lib.IntN.{ℤ, pos, _-ℤ_}
 use Rattle.stab.specs.Basic.{_and_, _or_, eqZ, within, nat, below, _otherwise_}
-use Rattle.stab.specs.Formula.{Row, Kind, constant, literal, junction, iteration, unknown, kindOf, Formula, const, lit, join, iter, partIf, part, decode, tree, size, depth, loose, fixed, isBody, isOuter, mixes, offset, wellFormedAs, wellFormed, smallEnough}
+use Rattle.stab.specs.Formula.{Row, rowAt, Schema, Kind, constant, literal, junction, iteration, unknown, kindOf, Formula, const, lit, join, iter, partIf, part, decode, tree, size, depth, loose, fixed, isBody, isOuter, mixes, offset, wellFormedAs, wellFormed, smallEnough}
 use Rattle.stab.specs.Meaning.{Assignment, op, rangeSize, value, truth}
-use Rattle.stab.specs.Check.{wholeUnless, atUnless, rowRefusal, rootFits, formulasBy, formulasRefusal}
+use Rattle.stab.specs.Check.{wholeUnless, atUnless, rowRefusal, rootFits, formulaRefusal, formulasRefusal, schemaRefusal}
 use Rattle.stab.specs.declared.Refusal.the-variants.{Root, IllFormed, TooLarge}
 use Rattle.stab.proofs.Bools.{if-false, and-left, unless-nothing, otherwise-same}
 use Rattle.stab.proofs.Whole.{eqZ-not}
@@ -162,12 +162,14 @@ module _ (rows : ℕ → Row) (n : ℕ) (old : OldKinds rows n) where
     old-small r l,
   )
 
-  -- so the same is found of the rows
-  pub plain-kinds-refused : (root least : ℤ) → wideRefusal rows n root least ≡ formulasRefusal rows n n root least
-  unfolding wideRefusal wideRowRefusal formulasRefusal formulasBy rowRefusal wholeUnless rootFits
-  plain-kinds-refused root least =
-      otherwise-same _ _ _ (λ e.
-      let l = below-nat n root (and-left _ _ (unless-nothing _ _ _ e)) in
-      ap₂ _otherwise_
-      (scan-same (wideRowRefusal rows) (rowRefusal rows) n (λ r p q. ap₂ (λ (v w : Bool). atUnless v IllFormed r otherwise atUnless w TooLarge r) (old-formed r p) (old-small r p)))
-      (ap (λ (t : Bool). wholeUnless t Root) (old-outer (nat root) l)))
+-- so the same is found of a schema
+pub plain-kinds-refused : (S : Schema) → OldKinds (rowAt (S .table)) (S .rows) → wideRefusal S ≡ schemaRefusal S
+unfolding wideRefusal wideRowRefusal schemaRefusal formulasRefusal formulaRefusal rowRefusal wholeUnless rootFits
+plain-kinds-refused S old =
+    let rows = rowAt (S .table) in
+    let n = S .rows in
+    otherwise-same _ _ _ (λ e.
+    let l = below-nat n (S .root) (and-left _ _ (unless-nothing _ _ _ e)) in
+    ap₂ _otherwise_
+    (scan-same (wideRowRefusal rows) (rowRefusal rows) n (λ r p q. ap₂ (λ (v w : Bool). atUnless v IllFormed r otherwise atUnless w TooLarge r) (old-formed rows n old r p) (old-small rows n old r p)))
+    (ap (λ (t : Bool). wholeUnless t Root) (old-outer rows n old (nat (S .root)) l)))

@@ -32,7 +32,7 @@ opened a = a
 
 -- a table of rows, all of which are said to be there
 pub wideOf : List ℤ → ℤ → ℤ → WideSchema
-wideOf t root least = record { wide = t; wideRows = length t / 4; root = root; least = least; room = 4096 }
+wideOf t root least = record { schema = record { table = t; rows = length t / 4; root = root; least = least }; room = 4096 }
 
 -- the plain schema text, or the refusal as a check prints it
 shown : WideSchema → SchemaRead → List ℕ
@@ -122,8 +122,8 @@ computed =
     -- q implies not p
     fromText "3 0" "2 0 1 0\n2 1 1 0\n8 0 0 0\n9 1 2 0\n" ∷
     -- 2: too little room for the result comes first; a table shorter than its count. 5: 1,025 rows
-    conversion (record { wide = four 12 0 0 0; wideRows = 1025; root = pos 0; least = pos 0; room = 4095 }) ∷
-    conversion (record { wide = four 12 0 0 0; wideRows = 1025; root = pos 0; least = pos 0; room = 4096 }) ∷
+    conversion (record { schema = record { table = four 12 0 0 0; rows = 1025; root = pos 0; least = pos 0 }; room = 4095 }) ∷
+    conversion (record { schema = record { table = four 12 0 0 0; rows = 1025; root = pos 0; least = pos 0 }; room = 4096 }) ∷
     conversion (wideOf (run (λ r. four 12 0 0 0) 0 1025) (pos 1025) (pos 0)) ∷
     -- 6: no row, a negative one, a least value out of range; before 7
     fromText "1 0" "2 0 1 0\n" ∷

@@ -4,7 +4,7 @@ use mathlib.Core.Bool.{Bool, true, false, not}
 use lib.Dec.{leb}
 use lib.IntN.{ℤ, pos}
 use Rattle.stab.specs.Basic.{if_then_else_, _and_, _or_, eqZ, within, nat, below}
-use Rattle.stab.specs.Formula.{Row, Op, Base, Kind, unknown, kindOf, constant, literal, junction, iteration, baseOf, onIndex, offset}
+use Rattle.stab.specs.Formula.{Row, rowAt, Schema, Op, Base, Kind, unknown, kindOf, constant, literal, junction, iteration, baseOf, onIndex, offset}
 
 -- ---- the kinds
 
@@ -62,6 +62,10 @@ wideTreeN rows (suc k) r = wideDecode r (rows r) (wideKindOf (rows r .kind)) (wi
 
 unfoldable pub wideTree : (ℕ → Row) → ℕ → Wide
 wideTree rows r = wideTreeN rows (suc r) r
+
+-- the formula of a wide schema: its root's
+abbrev pub wideFormula : Schema → Wide
+wideFormula S = wideTree (rowAt (S .table)) (nat (S .root))
 
 -- ---- "Wide rows obey 01's rules on bodies, mixing, size and depth under 7 and 8."
 

@@ -3,11 +3,11 @@ use Prim.Native.Nat.{ℕ, _+_, _*_, _<_, _≤_}
 use mathlib.Core.Path.{_≡_}
 use mathlib.Core.Bool.{true}
 use mathlib.Core.List.{List}
-use lib.IntN.{ℤ, pos}
+use lib.IntN.{pos}
 use lib.ListN.{length}
 use Rattle.stab.specs.Basic.{if_then_else_, _and_, eqZ, nat, below}
 use Rattle.stab.specs.Check.{rootFits}
-use Rattle.stab.specs.Formula.{Row}
+use Rattle.stab.specs.Formula.{Row, rowAt, Schema}
 use Rattle.wide.specs.WideFormula.{Wide, wideTree, wideSize, wideDepth, wideLoose, wideFixed, wideFormed, wideSmall}
 use Rattle.wide.specs.Convert.{wideRowRefusal}
 use Rattle.formula.specs.Facts.{bit}
@@ -37,11 +37,11 @@ wideJudged rows r = if wideFormed rows r then Formed (wideFactsOf (wideTree rows
 
 -- the table after the pass over n rows: the numbers of each row, up to the first that is refused
 unfoldable pub wideTable : (ℕ → Row) → List ℕ → ℕ → List ℕ
-wideTable rows facts n = factsTableBy (wideRowRefusal rows) (λ r. wideFactsOf (wideTree rows r)) facts n
+wideTable rows facts n = factsTableBy (wideRowRefusal rows) (wideRowRefusal rows) (λ r. wideFactsOf (wideTree rows r)) facts n
 
 -- the same where the root and the least value are looked at first
-unfoldable pub wideRowsTable : (ℕ → Row) → List ℕ → ℕ → ℤ → ℤ → List ℕ
-wideRowsTable rows facts n root least = if rootFits n root least then wideTable rows facts n else facts
+unfoldable pub wideRowsTable : Schema → List ℕ → List ℕ
+wideRowsTable S facts = if rootFits (S .rows) (S .root) (S .least) then wideTable (rowAt (S .table)) facts (S .rows) else facts
 
 -- what holds of n rows that passed, and of the table that was lent for their numbers
 pub record WidePassed (rows : ℕ → Row) (facts : List ℕ) (n : ℕ) : Type 0 where

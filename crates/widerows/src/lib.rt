@@ -5,7 +5,8 @@ ghost use Prim.Native.Nat.{_+_, _*_, _<_, _≤_};
 ghost use lib.ListN.{length};
 ghost use lib.IntN.{pos};
 ghost use Rattle.stab.specs.Basic.{scan};
-ghost use Rattle.stab.specs.Formula.{rowAt, formulaRows};
+ghost use Rattle.stab.specs.Formula.{formulaRows};
+ghost use Rattle.stab.specs.Lent.{lentSchema};
 ghost use Rattle.stab.specs.declared.Finding.the-variants.{Nothing, Found};
 ghost use Rattle.wide.specs.WideFormula.{wideKindOf, wideTree};
 ghost use Rattle.wide.specs.Convert.{wideRowRefusal, wideRefusal};
@@ -28,6 +29,7 @@ use formula::rows::sized;
 use stab::Finding;
 use stab::Place;
 use stab::Refusal;
+use stab::SchemaHeader;
 
 // ---- one row
 
@@ -122,25 +124,26 @@ fn each(schema: &[i32], s: usize, proof: &[i32], n: usize, facts: &mut [u32]) ->
     Finding::Nothing
 }
 
-// What is found of n wide rows: the root and the least value, then every row, then that the root is outer. The rest of the table
+// What is found of wide rows: the root and the least value, then every row, then that the root is outer. The rest of the table
 // stands where a proof's rows would.
-pub fn wide_rows(wide: &[i32], n: usize, root: i32, least: i32, facts: &mut [u32]) -> Finding
-    requires { ⌜ (n ≤ 1024) × (4 * n ≤ length (now wide)) × (4 * n ≤ length (now facts)) ⌝ }
-    ensures { λ v. ⌜ v ≡ wideRefusal (rowAt (now (wide .entry))) n root least ⌝ }
-    ensures { λ v. ⌜ now (facts .exit) ≡ wideRowsTable (rowAt (now (wide .entry))) (now (facts .entry)) n root least ⌝ }
+pub fn wide_rows(wide: &[i32], h: SchemaHeader, facts: &mut [u32]) -> Finding
+    requires { ⌜ (h .rows ≤ 1024) × (4 * h .rows ≤ length (now wide)) × (4 * h .rows ≤ length (now facts)) ⌝ }
+    ensures { λ v. ⌜ v ≡ wideRefusal (lentSchema (now (wide .entry)) h) ⌝ }
+    ensures { λ v. ⌜ now (facts .exit) ≡ wideRowsTable (lentSchema (now (wide .entry)) h) (now (facts .entry)) ⌝ }
 {
-    if !root_fits(n, root, least) {
+    if !root_fits(h.rows, h.root, h.least) {
         return Finding::Found {
             why: Refusal::Root,
             place: Place::Whole,
         };
     }
+    let n = h.rows;
     let end = 4 * n;
     let found = each(wide, n, &wide[end..], n, facts);
     let Finding::Nothing = found else {
         return found;
     };
-    let f = known(facts, signed::natural(root));
+    let f = known(facts, signed::natural(h.root));
     if f.loose == 0 {
         return Finding::Nothing;
     }

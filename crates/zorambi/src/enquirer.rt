@@ -1,11 +1,13 @@
 // The entries of an editor: a row is enquired about, waits in lent memory, and is committed.
+use stab::Header;
 ghost use mathlib.Core.Path.{_≡_};
 ghost use mathlib.Core.List.{[], _∷_};
 ghost use lib.IntN.{pos};
+ghost use Rattle.stab.specs.Lent.{lent};
 ghost use Rattle.growing.specs.Growing.{growthPacked, shownNumber};
-ghost use Rattle.growing.specs.Enquiry.{enquire, commit, editorAnswer, edited};
+ghost use Rattle.growing.specs.Enquiry.{editor, enquire, commit, editorAnswer, edited};
+ghost use Rattle.growing.specs.Lent.{heldHeader};
 ghost use Rattle.grow.specs.State.{rowFrom};
-ghost use Rattle.enquire.specs.Editing.{editor};
 
 // A row is judged as adding would judge it, and no row is changed. Where the answer is yes it waits.
 #[no_mangle]
@@ -24,24 +26,19 @@ pub extern "C" fn zorambi_enquire(
     set: &[i32],
     waiting: &mut [i32; 1033],
 ) -> u64
-    ensures answer { λ r. ⌜ r ≡ growthPacked (editorAnswer (editor (now (schema .entry)) «schema_rows» (now (proof .entry)) «proof_rows» root least (now (nodes .entry)) (now (members .entry)) (now (held .entry)) (now (waiting .entry))) (enquire (rowFrom (now (row .entry)) (now (set .entry))))) ⌝ }
-    ensures shown { λ r. ⌜ now (shown .exit) ≡ pos (shownNumber (editorAnswer (editor (now (schema .entry)) «schema_rows» (now (proof .entry)) «proof_rows» root least (now (nodes .entry)) (now (members .entry)) (now (held .entry)) (now (waiting .entry))) (enquire (rowFrom (now (row .entry)) (now (set .entry)))))) ∷ [] ⌝ }
-    ensures left { λ r. ⌜ editor (now (schema .entry)) «schema_rows» (now (proof .entry)) «proof_rows» root least (now (nodes .exit)) (now (members .exit)) (now (held .exit)) (now (waiting .exit)) ≡ edited (editor (now (schema .entry)) «schema_rows» (now (proof .entry)) «proof_rows» root least (now (nodes .entry)) (now (members .entry)) (now (held .entry)) (now (waiting .entry))) (enquire (rowFrom (now (row .entry)) (now (set .entry)))) ⌝ }
+    ensures answer { λ r. ⌜ r ≡ growthPacked (editorAnswer (editor (lent (now (schema .entry)) (now (proof .entry)) (now (nodes .entry)) (now (members .entry)) (heldHeader «schema_rows» «proof_rows» root least (now (held .entry)))) (now (waiting .entry))) (enquire (rowFrom (now (row .entry)) (now (set .entry))))) ⌝ }
+    ensures shown { λ r. ⌜ now (shown .exit) ≡ pos (shownNumber (editorAnswer (editor (lent (now (schema .entry)) (now (proof .entry)) (now (nodes .entry)) (now (members .entry)) (heldHeader «schema_rows» «proof_rows» root least (now (held .entry)))) (now (waiting .entry))) (enquire (rowFrom (now (row .entry)) (now (set .entry)))))) ∷ [] ⌝ }
+    ensures left { λ r. ⌜ editor (lent (now (schema .entry)) (now (proof .entry)) (now (nodes .exit)) (now (members .exit)) (heldHeader «schema_rows» «proof_rows» root least (now (held .exit)))) (now (waiting .exit)) ≡ edited (editor (lent (now (schema .entry)) (now (proof .entry)) (now (nodes .entry)) (now (members .entry)) (heldHeader «schema_rows» «proof_rows» root least (now (held .entry)))) (now (waiting .entry))) (enquire (rowFrom (now (row .entry)) (now (set .entry)))) ⌝ }
 {
-    let r = enquire::enquire(
-        schema,
+    let h = Header {
         schema_rows,
-        proof,
         proof_rows,
         root,
         least,
-        nodes,
-        members,
-        held,
-        row,
-        set,
-        waiting,
-    );
+        node_rows: held[0],
+        member_count: held[1],
+    };
+    let r = enquire::enquire(schema, proof, nodes, members, h, row, set, waiting);
     told::growth(r, shown)
 }
 
@@ -60,21 +57,20 @@ pub extern "C" fn zorambi_commit(
     shown: &mut [i32; 1],
     waiting: &mut [i32; 1033],
 ) -> u64
-    ensures answer { λ r. ⌜ r ≡ growthPacked (editorAnswer (editor (now (schema .entry)) «schema_rows» (now (proof .entry)) «proof_rows» root least (now (nodes .entry)) (now (members .entry)) (now (held .entry)) (now (waiting .entry))) commit) ⌝ }
-    ensures shown { λ r. ⌜ now (shown .exit) ≡ pos (shownNumber (editorAnswer (editor (now (schema .entry)) «schema_rows» (now (proof .entry)) «proof_rows» root least (now (nodes .entry)) (now (members .entry)) (now (held .entry)) (now (waiting .entry))) commit)) ∷ [] ⌝ }
-    ensures left { λ r. ⌜ editor (now (schema .entry)) «schema_rows» (now (proof .entry)) «proof_rows» root least (now (nodes .exit)) (now (members .exit)) (now (held .exit)) (now (waiting .exit)) ≡ edited (editor (now (schema .entry)) «schema_rows» (now (proof .entry)) «proof_rows» root least (now (nodes .entry)) (now (members .entry)) (now (held .entry)) (now (waiting .entry))) commit ⌝ }
+    ensures answer { λ r. ⌜ r ≡ growthPacked (editorAnswer (editor (lent (now (schema .entry)) (now (proof .entry)) (now (nodes .entry)) (now (members .entry)) (heldHeader «schema_rows» «proof_rows» root least (now (held .entry)))) (now (waiting .entry))) commit) ⌝ }
+    ensures shown { λ r. ⌜ now (shown .exit) ≡ pos (shownNumber (editorAnswer (editor (lent (now (schema .entry)) (now (proof .entry)) (now (nodes .entry)) (now (members .entry)) (heldHeader «schema_rows» «proof_rows» root least (now (held .entry)))) (now (waiting .entry))) commit)) ∷ [] ⌝ }
+    ensures left { λ r. ⌜ editor (lent (now (schema .entry)) (now (proof .entry)) (now (nodes .exit)) (now (members .exit)) (heldHeader «schema_rows» «proof_rows» root least (now (held .exit)))) (now (waiting .exit)) ≡ edited (editor (lent (now (schema .entry)) (now (proof .entry)) (now (nodes .entry)) (now (members .entry)) (heldHeader «schema_rows» «proof_rows» root least (now (held .entry)))) (now (waiting .entry))) commit ⌝ }
 {
-    let r = enquire::commit(
-        schema,
+    let h = Header {
         schema_rows,
-        proof,
         proof_rows,
         root,
         least,
-        nodes,
-        members,
-        held,
-        waiting,
-    );
-    told::growth(r, shown)
+        node_rows: held[0],
+        member_count: held[1],
+    };
+    let r = enquire::commit(schema, proof, nodes, members, h, waiting);
+    *held = [r.node_rows, r.member_count];
+    let answer = r.answer;
+    told::growth(answer, shown)
 }

@@ -1,6 +1,8 @@
 // The entry that shows a failing width: one number back as from the check, and the model in lent results.
+use stab::SchemaHeader;
 ghost use mathlib.Core.Path.{_≡_};
 ghost use lib.ListN.{length};
+ghost use Rattle.stab.specs.Lent.{lentSchema, schemaHeader};
 ghost use Rattle.found.specs.Find.{find, foundPacked, foundResults, foundTable};
 
 // The first model of a schema at n is put in the table of pairs; the results are n and the number of pairs. In the number the count
@@ -15,12 +17,14 @@ pub extern "C" fn zorambi_find_model(
     pairs: &mut [i32],
     results: &mut [i32; 2],
 ) -> u64
-    ensures answer { λ r. ⌜ r ≡ foundPacked (find (record { schema = now (schema .entry); schemaRows = «schema_rows»; root = root; least = least; n = n; room = length (now (pairs .entry)) })) ⌝ }
-    ensures results { λ r. ⌜ now (results .exit) ≡ foundResults (find (record { schema = now (schema .entry); schemaRows = «schema_rows»; root = root; least = least; n = n; room = length (now (pairs .entry)) })) ⌝ }
-    ensures pairs { λ r. ⌜ now (pairs .exit) ≡ foundTable (record { schema = now (schema .entry); schemaRows = «schema_rows»; root = root; least = least; n = n; room = length (now (pairs .entry)) }) ⌝ }
+    ensures answer { λ r. ⌜ r ≡ foundPacked (find (record { schema = lentSchema (now (schema .entry)) (schemaHeader «schema_rows» root least); n = n; room = length (now (pairs .entry)) })) ⌝ }
+    ensures results { λ r. ⌜ now (results .exit) ≡ foundResults (find (record { schema = lentSchema (now (schema .entry)) (schemaHeader «schema_rows» root least); n = n; room = length (now (pairs .entry)) })) ⌝ }
+    ensures pairs { λ r. ⌜ now (pairs .exit) ≡ foundTable (record { schema = lentSchema (now (schema .entry)) (schemaHeader «schema_rows» root least); n = n; room = length (now (pairs .entry)) }) ⌝ }
 {
-    told::first_model(
-        find::find_model(schema, schema_rows, root, least, n, pairs),
-        results,
-    )
+    let h = SchemaHeader {
+        rows: schema_rows,
+        root,
+        least,
+    };
+    told::first_model(find::find_model(schema, h, n, pairs), results)
 }

@@ -1,6 +1,7 @@
 // The entry that joins two records: one number back as from the check, with both counts 0, and the root, the least value and the numbers of
 // schema rows, proof rows, nodes and members in lent results.
-ghost use Rattle.branch.specs.Work.{tableau};
+use stab::Header;
+ghost use Rattle.stab.specs.Lent.{lent, header};
 ghost use Rattle.join.specs.Kept.{rooms};
 ghost use Rattle.zorambi.specs.Given.{JoinGives};
 
@@ -33,30 +34,36 @@ pub extern "C" fn zorambi_join(
     out_members: &mut [i32],
     results: &mut [i32; 6],
 ) -> u64
-    ensures { λ r. ⌜ JoinGives (rooms (now («out_schema» .entry)) (now («out_proof» .entry)) (now («out_nodes» .entry)) (now («out_members» .entry))) (tableau (now («first_schema» .entry)) «first_schema_rows» (now («first_proof» .entry)) «first_proof_rows» «first_root» «first_least» (now («first_nodes» .entry)) «first_node_rows» (now («first_members» .entry)) «first_member_count») (tableau (now («second_schema» .entry)) «second_schema_rows» (now («second_proof» .entry)) «second_proof_rows» «second_root» «second_least» (now («second_nodes» .entry)) «second_node_rows» (now («second_members» .entry)) «second_member_count») r (now (results .exit)) (now («out_schema» .exit)) (now («out_proof» .exit)) (now («out_nodes» .exit)) (now («out_members» .exit)) ⌝ }
+    ensures { λ r. ⌜ JoinGives (rooms (now («out_schema» .entry)) (now («out_proof» .entry)) (now («out_nodes» .entry)) (now («out_members» .entry))) (lent (now («first_schema» .entry)) (now («first_proof» .entry)) (now («first_nodes» .entry)) (now («first_members» .entry)) (header «first_schema_rows» «first_proof_rows» «first_root» «first_least» «first_node_rows» «first_member_count»)) (lent (now («second_schema» .entry)) (now («second_proof» .entry)) (now («second_nodes» .entry)) (now («second_members» .entry)) (header «second_schema_rows» «second_proof_rows» «second_root» «second_least» «second_node_rows» «second_member_count»)) r (now (results .exit)) (now («out_schema» .exit)) (now («out_proof» .exit)) (now («out_nodes» .exit)) (now («out_members» .exit)) ⌝ }
 {
+    let first = Header {
+        schema_rows: first_schema_rows,
+        proof_rows: first_proof_rows,
+        root: first_root,
+        least: first_least,
+        node_rows: first_node_rows,
+        member_count: first_member_count,
+    };
+    let second = Header {
+        schema_rows: second_schema_rows,
+        proof_rows: second_proof_rows,
+        root: second_root,
+        least: second_least,
+        node_rows: second_node_rows,
+        member_count: second_member_count,
+    };
     told::joined(
         join::join(
             first_schema,
-            first_schema_rows,
             first_proof,
-            first_proof_rows,
-            first_root,
-            first_least,
             first_nodes,
-            first_node_rows,
             first_members,
-            first_member_count,
+            first,
             second_schema,
-            second_schema_rows,
             second_proof,
-            second_proof_rows,
-            second_root,
-            second_least,
             second_nodes,
-            second_node_rows,
             second_members,
-            second_member_count,
+            second,
             out_schema,
             out_proof,
             out_nodes,

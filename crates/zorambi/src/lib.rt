@@ -10,11 +10,13 @@ pub mod texts;
 pub mod tidier;
 pub mod wider;
 
+use stab::Header;
+use stab::SchemaHeader;
 ghost use mathlib.Core.Path.{_≡_};
 ghost use Rattle.stab.specs.Check.{check, checkOlder};
 ghost use Rattle.stab.specs.Model.{checkModel};
 ghost use Rattle.stab.specs.Answer.{packed};
-ghost use Rattle.branch.specs.Work.{tableau};
+ghost use Rattle.stab.specs.Lent.{lent, lentSchema, header, schemaHeader};
 ghost use Rattle.told.specs.Demands.{CheckSays, OlderSays, ModelSays};
 
 // The check. The number's answer is 0 exactly when the tableau keeps the rules; then its counts are those of the rows, the schema is
@@ -32,21 +34,18 @@ pub extern "C" fn zorambi_check(
     members: &[i32],
     member_count: usize,
 ) -> u64
-    ensures { λ r. ⌜ r ≡ packed (check (tableau (now (schema .entry)) «schema_rows» (now (proof .entry)) «proof_rows» root least (now (nodes .entry)) «node_rows» (now (members .entry)) «member_count»)) ⌝ }
-    ensures { λ r. ⌜ CheckSays (tableau (now (schema .entry)) «schema_rows» (now (proof .entry)) «proof_rows» root least (now (nodes .entry)) «node_rows» (now (members .entry)) «member_count») r ⌝ }
+    ensures { λ r. ⌜ r ≡ packed (check (lent (now (schema .entry)) (now (proof .entry)) (now (nodes .entry)) (now (members .entry)) (header «schema_rows» «proof_rows» root least «node_rows» «member_count»))) ⌝ }
+    ensures { λ r. ⌜ CheckSays (lent (now (schema .entry)) (now (proof .entry)) (now (nodes .entry)) (now (members .entry)) (header «schema_rows» «proof_rows» root least «node_rows» «member_count»)) r ⌝ }
 {
-    answer::pack(tableau::check::check(
-        schema,
+    let h = Header {
         schema_rows,
-        proof,
         proof_rows,
         root,
         least,
-        nodes,
         node_rows,
-        members,
         member_count,
-    ))
+    };
+    answer::pack(tableau::check::check(schema, proof, nodes, members, h))
 }
 
 // The check of an older record, whose proof rows may repeat. An answer of 0 says of the schema what the check's does.
@@ -63,22 +62,18 @@ pub extern "C" fn zorambi_check_older(
     members: &[i32],
     member_count: usize,
 ) -> u64
-    ensures { λ r. ⌜ r ≡ packed (checkOlder (tableau (now (schema .entry)) «schema_rows» (now (proof .entry)) «proof_rows» root least (now (nodes .entry)) «node_rows» (now (members .entry)) «member_count»)) ⌝ }
-    ensures { λ r. ⌜ OlderSays (tableau (now (schema .entry)) «schema_rows» (now (proof .entry)) «proof_rows» root least (now (nodes .entry)) «node_rows» (now (members .entry)) «member_count») r ⌝ }
+    ensures { λ r. ⌜ r ≡ packed (checkOlder (lent (now (schema .entry)) (now (proof .entry)) (now (nodes .entry)) (now (members .entry)) (header «schema_rows» «proof_rows» root least «node_rows» «member_count»))) ⌝ }
+    ensures { λ r. ⌜ OlderSays (lent (now (schema .entry)) (now (proof .entry)) (now (nodes .entry)) (now (members .entry)) (header «schema_rows» «proof_rows» root least «node_rows» «member_count»)) r ⌝ }
 {
-    answer::pack(tableau::check::check_as(
-        true,
-        schema,
+    let h = Header {
         schema_rows,
-        proof,
         proof_rows,
         root,
         least,
-        nodes,
         node_rows,
-        members,
         member_count,
-    ))
+    };
+    answer::pack(tableau::check::check_as(true, schema, proof, nodes, members, h))
 }
 
 // The model check. The number's answer is 0 exactly when the model is right; then no tableau of the same schema rows, root and least
@@ -93,8 +88,13 @@ pub extern "C" fn zorambi_check_model(
     pairs: &[i32],
     pair_rows: usize,
 ) -> u64
-    ensures { λ r. ⌜ r ≡ packed (checkModel (record { schema = now (schema .entry); schemaRows = «schema_rows»; root = root; least = least; n = n; pairs = now (pairs .entry); pairRows = «pair_rows» })) ⌝ }
-    ensures { λ r. ⌜ ModelSays (record { schema = now (schema .entry); schemaRows = «schema_rows»; root = root; least = least; n = n; pairs = now (pairs .entry); pairRows = «pair_rows» }) r ⌝ }
+    ensures { λ r. ⌜ r ≡ packed (checkModel (record { schema = lentSchema (now (schema .entry)) (schemaHeader «schema_rows» root least); n = n; pairs = now (pairs .entry); pairRows = «pair_rows» })) ⌝ }
+    ensures { λ r. ⌜ ModelSays (record { schema = lentSchema (now (schema .entry)) (schemaHeader «schema_rows» root least); n = n; pairs = now (pairs .entry); pairRows = «pair_rows» }) r ⌝ }
 {
-    answer::pack(model::check_model(schema, schema_rows, root, least, n, pairs, pair_rows))
+    let h = SchemaHeader {
+        rows: schema_rows,
+        root,
+        least,
+    };
+    answer::pack(model::check_model(schema, h, n, pairs, pair_rows))
 }

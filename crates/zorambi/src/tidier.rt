@@ -1,6 +1,7 @@
 // The entry that tidies an older record: one number back as from the check, with both counts 0, and the numbers of rows, nodes and members in
 // lent results.
-ghost use Rattle.branch.specs.Work.{tableau};
+use stab::Header;
+ghost use Rattle.stab.specs.Lent.{lent, header};
 ghost use Rattle.tidy.specs.Kept.{rooms};
 ghost use Rattle.zorambi.specs.Given.{TidyGives};
 
@@ -22,20 +23,23 @@ pub extern "C" fn zorambi_tidy(
     out_members: &mut [i32],
     results: &mut [i32; 3],
 ) -> u64
-    ensures { λ r. ⌜ TidyGives (rooms (now («out_proof» .entry)) (now («out_nodes» .entry)) (now («out_members» .entry))) (tableau (now (schema .entry)) «schema_rows» (now (proof .entry)) «proof_rows» root least (now (nodes .entry)) «node_rows» (now (members .entry)) «member_count») r (now (results .exit)) (now («out_proof» .exit)) (now («out_nodes» .exit)) (now («out_members» .exit)) ⌝ }
+    ensures { λ r. ⌜ TidyGives (rooms (now («out_proof» .entry)) (now («out_nodes» .entry)) (now («out_members» .entry))) (lent (now (schema .entry)) (now (proof .entry)) (now (nodes .entry)) (now (members .entry)) (header «schema_rows» «proof_rows» root least «node_rows» «member_count»)) r (now (results .exit)) (now («out_proof» .exit)) (now («out_nodes» .exit)) (now («out_members» .exit)) ⌝ }
 {
+    let h = Header {
+        schema_rows,
+        proof_rows,
+        root,
+        least,
+        node_rows,
+        member_count,
+    };
     told::proof(
         tidy::tidy(
             schema,
-            schema_rows,
             proof,
-            proof_rows,
-            root,
-            least,
             nodes,
-            node_rows,
             members,
-            member_count,
+            h,
             out_proof,
             out_nodes,
             out_members,

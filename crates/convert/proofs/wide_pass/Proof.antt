@@ -1,21 +1,18 @@
 use Prim.Native.Nat.{_*_}
 use native.Mathlib.Omega.{arith}
 use mathlib.Core.Bool.{true}
-use mathlib.Core.Path.{_≡_, sym, _∙_, ap₂}
+use mathlib.Core.Path.{_≡_, sym, _∙_}
 use lib.ListN.{length}
-use mir.Facts.{toZ-ofZ}
 use borrow.Author.Tests.{lt-leb, le-leb, leb-true}
 use borrow.Author.Needs.{needs}
 use Rattle.stab.proofs.Bools.{asked-false, asked-true, nothing-unless, found-unless, otherwise-nothing, otherwise-found}
-use Rattle.stab.specs.Formula.{rowAt}
 use Rattle.stab.specs.Check.{holds, atUnless, wholeUnless}
-use Rattle.wide.specs.Convert.{wideRefusal}
 use Rattle.convert.specs.Emission.{inputRefusal}
 use Rattle.convert.proofs.wide_pass.Statement.{statement}
 use Rattle.convert.proofs.wide_pass.Tie as tie
 
 -- the table holds the rows
-held : (c : tie.Else2) → let a = c .before .before .before .args in holds (a .wide .now) 4 (a .n) ≡ true
+held : (c : tie.Else2) → let a = c .before .before .before .args in holds (a .wide .now) 4 (a .h .rows) ≡ true
 held c = asked-true (c .before .holds .ensures) (c .if2 .left)
 
 returns : tie.Need-returns
@@ -35,7 +32,7 @@ returns-2 c =
 returns-3 : tie.Need-returns-3
 unfolding inputRefusal atUnless wholeUnless
 returns-3 c =
-    let e = c .before in
+    let e = c .before .before in
     sym
     (otherwise-nothing _ _ (nothing-unless _ _ _ (le-leb 4096 _ (e .before .before .if1 .left)))
     ∙ otherwise-nothing _ _ (nothing-unless _ _ _ (held e))
@@ -47,19 +44,16 @@ slice-aggregate-wide-rows c = search needs
 wide-rows-requires : tie.Need-wide-rows-requires
 unfolding holds
 wide-rows-requires c κs =
-    let e = c .before .before in
+    let e = c .before .before .before in
     let a = e .before .before .before .args in
-    (c .before .if3 .left, leb-true (4 * a .n) (length (a .wide .now)) (held e), omega arith)
+    (c .before .if3 .left, leb-true (4 * a .h .rows) (length (a .wide .now)) (held e), omega arith)
 
 returns-4 : tie.Need-returns-4
 unfolding inputRefusal atUnless wholeUnless
 returns-4 c =
     let g = c .before .before .before in
-    let e = g .before in
-    let s = e .before .before .before in
-    let a = s .args in
+    let e = g .before .before in
     c .before .wide-rows .ensures .0
-    ∙ ap₂ (wideRefusal (rowAt (a .wide .now)) (a .n)) (toZ-ofZ (s .fits .root)) (toZ-ofZ (s .fits .least))
     ∙ sym
     (otherwise-nothing _ _ (nothing-unless _ _ _ (le-leb 4096 _ (e .before .before .if1 .left)))
     ∙ otherwise-nothing _ _ (nothing-unless _ _ _ (held e))

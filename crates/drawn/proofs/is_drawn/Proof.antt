@@ -15,7 +15,8 @@ use Rattle.stab.specs.Rule.{drawnFrom}
 use Rattle.stab.specs.Search.{placeOf}
 use Rattle.stab.proofs.Bools.{asked-false, asked-true}
 use Rattle.stab.proofs.Searches.{place-within, place-grows}
-use Rattle.branch.specs.Lent.{lent, SetHeld}
+use Rattle.stab.specs.Lent.{lent}
+use Rattle.branch.specs.Lent.{SetHeld}
 use Rattle.branch.proofs.Ascending.{ascending-at}
 use Rattle.branch.proofs.HeldLaws.{set-length, set-at}
 use Rattle.formula.proofs.KeptLaws.{first-at}

@@ -1,53 +1,22 @@
 use borrow.Author.Needs.{needs}
-use native.Mathlib.Omega.{arith}
-use mathlib.Core.Path.{_≡_, refl, sym, _∙_, ap, ap₂}
-use mathlib.Core.Bool.{true, false}
-use mathlib.Core.List.{List}
-use lib.IntN.{ℤ, pos}
-use mir.Facts.{toZ-ofZ}
+use mathlib.Core.Path.{sym, _∙_}
 use denote.Ref.{now}
-use Rattle.stab.specs.Node.{Tableau}
-use Rattle.growing.specs.Growing.{NodeRow, add, answered, after}
-use Rattle.growing.specs.Enquiry.{Editor}
-use Rattle.grow.specs.State.{state, rowFrom}
-use Rattle.enquire.specs.Editing.{editor}
+use Rattle.stab.specs.Lent.{lent}
+use Rattle.growing.specs.Growing.{NodeRow, add}
+use Rattle.growing.specs.Enquiry.{Editor, editor}
+use Rattle.grow.specs.State.{rowFrom}
 use Rattle.enquire.proofs.Edits.{call-held, call-refused, call-answer, called-yes, called-no}
 use Rattle.enquire.proofs.add.Statement.{statement}
 use Rattle.enquire.proofs.add.Tie as tie
 
 -- the state at entry
-abbrev lentAt : tie.Start → ℤ → ℤ → Tableau
-lentAt c root least =
-    let a = c .args in
-    state (now (a .schema)) (a .schema-rows) (now (a .proof)) (a .proof-rows) root least (now (a .nodes)) (now (a .members)) (now (a .held))
-
-abbrev here : tie.Start → Tableau
-here c = lentAt c (c .args .root) (c .args .least)
-
 abbrev E : tie.Start → Editor
 E c =
     let a = c .args in
-    editor (now (a .schema)) (a .schema-rows) (now (a .proof)) (a .proof-rows) (a .root) (a .least) (now (a .nodes)) (now (a .members)) (now (a .held)) (now (a .waiting))
+    editor (lent (now (a .schema)) (now (a .proof)) (now (a .nodes)) (now (a .members)) (a .h)) (now (a .waiting))
 
 abbrev row : tie.Start → NodeRow
 row c = rowFrom (now (c .args .row)) (now (c .args .set))
-
--- a signed number is kept as bits, and read back from them
-answer-is : (c : tie.After-add) → let b = c .before .before .before .before in c .add .result ≡ answered (here b) (add (row b))
-answer-is c =
-    let b = c .before .before .before .before in
-    c .add .ensures .0 ∙ ap₂ (λ (r l : ℤ). answered (lentAt b r l) (add (row b))) (toZ-ofZ (b .fits .root)) (toZ-ofZ (b .fits .least))
-
-left-is : (c : tie.After-add) →
-    let b = c .before .before .before .before in
-    let a = b .args in
-    state (now (a .schema)) (a .schema-rows) (now (a .proof)) (a .proof-rows) (a .root) (a .least) (c .add .last .1 .1 .1 .1 .1 .1 .0) (c .add .last .1 .1 .1 .1 .1 .1 .1 .0) (c .add .last .1 .1 .1 .1 .1 .1 .1 .1 .0) ≡ after (here b) (add (row b))
-left-is c =
-    let b = c .before .before .before .before in
-    let a = b .args in
-    sym (ap₂ (λ (r l : ℤ). state (now (a .schema)) (a .schema-rows) (now (a .proof)) (a .proof-rows) r l (c .add .last .1 .1 .1 .1 .1 .1 .0) (c .add .last .1 .1 .1 .1 .1 .1 .1 .0) (c .add .last .1 .1 .1 .1 .1 .1 .1 .1 .0)) (toZ-ofZ (b .fits .root)) (toZ-ofZ (b .fits .least)))
-    ∙ c .add .ensures .1
-    ∙ ap₂ (λ (r l : ℤ). after (lentAt b r l) (add (row b))) (toZ-ofZ (b .fits .root)) (toZ-ofZ (b .fits .least))
 
 add-requires : tie.Need-add-requires
 add-requires c κs = search needs
@@ -65,12 +34,12 @@ same-length-2 : tie.Need-same-length-2
 same-length-2 c = search needs
 
 returns : tie.Need-returns
-unfolding editor
 returns c =
     let k = c .before .before .before .before in
-    let b = k .before .before .before .before in
-    let v = call-refused (here b) (add (row b)) _ _ _ (sym (answer-is k) ∙ c .enum-told2 .given .1) in
-    (answer-is k ∙ call-answer (E b) (add (row b)), (λ i. record { held = left-is k i; waiting = now (b .args .waiting) }) ∙ sym (called-no (E b) (add (row b)) (v .0) (v .1) (v .2)))
+    let b = k .before .before .before in
+    let e = k .add .ensures in
+    let v = call-refused (E b .held) (add (row b)) _ _ _ (sym (e .0) ∙ c .enum-told2 .given .1) in
+    (e .0 ∙ call-answer (E b) (add (row b)), (λ i. record { held = e .1 i; waiting = now (b .args .waiting) }) ∙ sym (called-no (E b) (add (row b)) (v .0) (v .1) (v .2)))
 
 empty-requires : tie.Need-empty-requires
 empty-requires c κs = search needs
@@ -82,13 +51,13 @@ same-length-4 : tie.Need-same-length-4
 same-length-4 c = search needs
 
 returns-2 : tie.Need-returns-2
-unfolding editor
 returns-2 c =
     let t = c .before .before in
     let k = t .before .before .before .before in
-    let b = k .before .before .before .before in
-    let e = call-held (here b) (add (row b)) _ _ _ (sym (answer-is k) ∙ t .enum-told .given .1) in
-    (answer-is k ∙ call-answer (E b) (add (row b)), (λ i. record { held = left-is k i; waiting = c .empty .ensures i }) ∙ sym (called-yes (E b) (add (row b)) e))
+    let b = k .before .before .before in
+    let e = k .add .ensures in
+    let y = call-held (E b .held) (add (row b)) _ _ _ (sym (e .0) ∙ t .enum-told .given .1) in
+    (e .0 ∙ call-answer (E b) (add (row b)), (λ i. record { held = e .1 i; waiting = c .empty .ensures i }) ∙ sym (called-yes (E b) (add (row b)) y))
 
 pub add-spec : {M : Type 1} → statement M
 add-spec =

@@ -1,11 +1,7 @@
 use borrow.Author.Needs.{needs}
 use native.Mathlib.Omega.{arith}
-use mathlib.Core.Path.{_≡_, refl, sym, _∙_, ap, ap₂}
-use mathlib.Core.Bool.{true, false}
-use mathlib.Core.List.{List}
-use mathlib.Core.Option.{none, some}
-use lib.IntN.{ℤ, pos}
-use mir.Facts.{toZ-ofZ}
+use mathlib.Core.Path.{_≡_, _∙_, ap}
+use lib.IntN.{pos}
 use denote.Ref.{now}
 use Rattle.stab.specs.Node.{Tableau}
 use Prim.Native.Nat.{ℕ, _+_, _-_, _≤_}
@@ -14,21 +10,17 @@ use Rattle.stab.specs.Basic.{eqZ, nat}
 use Rattle.stab.proofs.Bools.{and-right}
 use Rattle.stab.proofs.Trees.{below-nat}
 use Rattle.formula.proofs.RowLaws.{within-below}
-use Rattle.growing.specs.Growing.{NodeRow, add, answered, after}
+use Rattle.growing.specs.Growing.{add, answered, after}
 use Rattle.growing.specs.Enquiry.{waits, waitingRow}
-use Rattle.grow.specs.State.{state, rowFrom}
+use Rattle.stab.specs.Lent.{lent}
+use Rattle.grow.specs.State.{rowFrom}
 use Rattle.enquire.proofs.Edits.{parts}
 use Rattle.enquire.proofs.add_waiting.Statement.{statement}
 use Rattle.enquire.proofs.add_waiting.Tie as tie
 
 -- the state at entry
-abbrev lentAt : tie.Start → ℤ → ℤ → Tableau
-lentAt c root least =
-    let a = c .args in
-    state (now (a .schema)) (a .schema-rows) (now (a .proof)) (a .proof-rows) root least (now (a .nodes)) (now (a .members)) (now (a .held))
-
 abbrev here : tie.Start → Tableau
-here c = lentAt c (c .args .root) (c .args .least)
+here c = let a = c .args in lent (now (a .schema)) (now (a .proof)) (now (a .nodes)) (now (a .members)) (a .h)
 
 -- the set's length is within its memory
 few : (c : tie.After-natural-at) → c .natural-at .result ≤ 1024
@@ -60,7 +52,7 @@ part-add-end : tie.Need-part-add-end
 part-add-end c = search needs
 
 add-add : tie.Need-add-add
-add-add c = omega (arith, few (c .before .before .before .before))
+add-add c = omega (arith, few (c .before .before .before))
 
 sub-add-2 : tie.Need-sub-add-2
 sub-add-2 c = omega arith
@@ -69,7 +61,7 @@ part-add-start-2 : tie.Need-part-add-start-2
 part-add-start-2 c = omega arith
 
 part-add-end-2 : tie.Need-part-add-end-2
-part-add-end-2 c = let k = c .before .before .before .before in omega (arith, few k, k .before .pre .0)
+part-add-end-2 c = let k = c .before .before .before in omega (arith, few k, k .before .pre .0)
 
 add-requires : tie.Need-add-requires
 add-requires c κs = search needs
@@ -83,16 +75,9 @@ same-length-2 c = search needs
 returns : tie.Need-returns
 returns d =
     let c = d .before .before in
-    let k = c .before .before .before .before .before .before in
-    let b = k .before in
-    let a = b .args in
-    let root = toZ-ofZ (b .fits .root) in
-    let least = toZ-ofZ (b .fits .least) in (
-      c .add .ensures .0 ∙ (λ i. answered (lentAt b (root i) (least i)) (add (row-is k i))),
-      sym (ap₂ (λ (r l : ℤ). state (now (a .schema)) (a .schema-rows) (now (a .proof)) (a .proof-rows) r l (c .add .last .1 .1 .1 .1 .1 .1 .0) (c .add .last .1 .1 .1 .1 .1 .1 .1 .0) (c .add .last .1 .1 .1 .1 .1 .1 .1 .1 .0)) root least)
-          ∙ c .add .ensures .1
-          ∙ (λ i. after (lentAt b (root i) (least i)) (add (row-is k i))),
-    )
+    let k = c .before .before .before .before .before in
+    let T = here (k .before) in
+    (c .add .ensures .0 ∙ (λ i. answered T (add (row-is k i))), c .add .ensures .1 ∙ (λ i. after T (add (row-is k i))))
 
 pub add-waiting-spec : {M : Type 1} → statement M
 add-waiting-spec =

@@ -6,7 +6,7 @@ use Rattle.stab.specs.Basic.{below}
 use Rattle.stab.specs.Node.{Tableau, node, rowCount}
 use Rattle.stab.specs.Rule.{rule, ofRule}
 use Rattle.stab.proofs.Trees.{below-nat, below-more}
-use Rattle.branch.specs.Lent.{lent}
+use Rattle.stab.specs.Lent.{lent}
 use Rattle.fields.proofs.FieldParts.{no-rule, entry-is, rows-fail, rest-fails, clash-decides, others-fit, clash-rows}
 use Rattle.fields.proofs.fields_fit.Statement.{statement}
 use Rattle.fields.proofs.fields_fit.Tie as tie

@@ -1,34 +1,30 @@
 use native.Mathlib.Omega.{arith}
-use mathlib.Core.Path.{_≡_, refl, sym, _∙_, ap, ap₂}
-use mathlib.Core.List.{List}
-use lib.IntN.{ℤ, pos}
+use mathlib.Core.Path.{_≡_, refl, _∙_, ap}
+use lib.IntN.{ℤ}
 use lib.ListN.{length}
 use mir.Facts.{toZ-ofZ}
 use denote.Ref.{now}
 use borrow.Author.Needs.{needs}
-use Rattle.stab.specs.Occurs.{Wire, table}
-use Rattle.stab.specs.Text.{padded}
+use Rattle.stab.specs.Lent.{lentSchema}
 use Rattle.signed.proofs.Tables.{cleared-padded}
-use Rattle.model.proofs.Passes.{same₃}
-use Rattle.found.specs.Find.{Query, foundBy, givenBy}
-use Rattle.find.specs.Search.{queryRefusal, wiresRefusal, asked}
-use Rattle.find.proofs.Answers.{refused-is, refused-table, searched-is, searched-table, asked-found, asked-given}
+use Rattle.found.specs.Find.{Query}
+use Rattle.find.specs.Search.{queryRefusal, searchAnswer, searchTable}
+use Rattle.find.proofs.Answers.{refused-is, refused-table, searched-is, searched-table}
 use Rattle.find.proofs.find_model.Statement.{statement}
 use Rattle.find.proofs.find_model.Tie as tie
 
-abbrev query : tie.Start → ℤ → ℤ → ℤ → Query
-query c root least n =
-    record { schema = now (c .args .schema); schemaRows = c .args .schema-rows; root = root; least = least; n = n; room = length (now (c .args .pairs)) }
+abbrev query : tie.Start → ℤ → Query
+query c n =
+    record { schema = lentSchema (now (c .args .schema)) (c .args .h); n = n; room = length (now (c .args .pairs)) }
 
 abbrev here : tie.Start → Query
-here c = query c (c .args .root) (c .args .least) (c .args .n)
+here c = query c (c .args .n)
 
 -- a signed number is kept as bits, and read back from them
 query-known : (c : tie.After-query-pass) → (c .query-pass .result) ≡ queryRefusal (here (c .before .before))
 query-known c =
     let start = c .before .before in
-    c .query-pass .ensures .0
-    ∙ same₃ (λ (r l m : ℤ). queryRefusal (query start r l m)) (toZ-ofZ (start .fits .root)) (toZ-ofZ (start .fits .least)) (toZ-ofZ (start .fits .n))
+    c .query-pass .ensures .0 ∙ ap (λ (m : ℤ). queryRefusal (query start m)) (toZ-ofZ (start .fits .n))
 
 slice-aggregate-query-pass : tie.Need-slice-aggregate-query-pass
 slice-aggregate-query-pass c = search needs
@@ -50,7 +46,7 @@ slice-aggregate-searched c = search needs
 
 searched-requires : tie.Need-searched-requires
 searched-requires c κs =
-    c .before .before .before .before .before .query-pass .ensures .1 (sym (c .before .before .before .before .before .query-pass .ensures .0) ∙ (c .before .before .enum-told .given .1))
+    c .before .before .before .before .before .query-pass .ensures .1 (c .before .before .enum-told .given .1)
 
 same-length : tie.Need-same-length
 same-length c = search needs
@@ -69,17 +65,11 @@ same-length-2 c = search needs
 returns-2 : tie.Need-returns-2
 returns-2 c =
     let start = c .before .before .before .before .before .before .before .before .before in
-    let room = length (now (start .args .pairs)) in
+    let n = toZ-ofZ (start .fits .n) in
     let known = query-known (c .before .before .before .before .before .before .before) in
     let told = c .before .before .before .before .enum-told .given .1 in (
-      c .before .searched .ensures .0
-          ∙ ap₂ (λ (r m : ℤ). foundBy (wiresRefusal (asked (now (start .args .schema)) r m room)) (asked (now (start .args .schema)) r m room)) (toZ-ofZ (start .fits .root)) (toZ-ofZ (start .fits .n))
-          ∙ asked-found (here start)
-          ∙ searched-is (here start) _ known told,
-      c .before .searched .ensures .1
-          ∙ ap₂ (λ (r m : ℤ). padded (pos 0) room (table (givenBy (wiresRefusal (asked (now (start .args .schema)) r m room)) (asked (now (start .args .schema)) r m room)))) (toZ-ofZ (start .fits .root)) (toZ-ofZ (start .fits .n))
-          ∙ ap (λ (ws : List Wire). padded (pos 0) room (table ws)) (asked-given (here start))
-          ∙ searched-table (here start) _ known told,
+      c .before .searched .ensures .0 ∙ ap (λ (m : ℤ). searchAnswer (query start m)) n ∙ searched-is (here start) _ known told,
+      c .before .searched .ensures .1 ∙ ap (λ (m : ℤ). searchTable (query start m)) n ∙ searched-table (here start) _ known told,
     )
 
 pub find-model-spec : {M : Type 1} → statement M

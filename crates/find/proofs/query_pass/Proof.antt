@@ -7,47 +7,46 @@ use denote.Ref.{now}
 use borrow.Author.Needs.{needs}
 use Rattle.stab.specs.Basic.{_and_}
 use Rattle.stab.specs.Formula.{rowAt}
-use Rattle.stab.specs.Check.{formulasRefusal}
+use Rattle.stab.specs.Lent.{lentSchema}
+use Rattle.stab.specs.Check.{schemaRefusal}
 use Rattle.stab.specs.declared.Finding.the-variants.{Nothing}
 use Rattle.stab.proofs.Findings.{stays, nothing-found, later}
-use Rattle.stab.proofs.Bools.{otherwise-first}
+use Rattle.signed.proofs.Signs.{read-back}
 use Rattle.formula.specs.Rows.{Passed}
 use Rattle.model.proofs.Passes.{whole-none, found-last}
 use Rattle.found.specs.Find.{Query}
 use Rattle.find.specs.Search.{tablesRefusal, queryRefusal}
-use Rattle.find.proofs.Searches.{tables-clear, found-some, formulas-none, query-ready}
+use Rattle.find.proofs.Searches.{tables-clear, found-some, query-ready}
 use Rattle.find.proofs.query_pass.Statement.{statement}
 use Rattle.find.proofs.query_pass.Tie as tie
 
 abbrev query : tie.Start → Query
-query c =
-    record { schema = now (c .args .schema); schemaRows = c .args .schema-rows; root = c .args .root; least = c .args .least; n = c .args .n; room = c .args .room }
+query c = record { schema = lentSchema (now (c .args .schema)) (c .args .h); n = c .args .n; room = c .args .room }
 
-tables-passed : (c : tie.After-enum-told) → tablesRefusal (c .before .before .before .before .args .room) (now (c .before .before .before .before .args .schema)) (c .before .before .before .before .args .schema-rows) ≡ Nothing
+tables-passed : (c : tie.After-enum-told) →
+    let a = c .before .before .before .before .args in
+    tablesRefusal (a .room) (now (a .schema)) (a .h .rows) ≡ Nothing
 tables-passed c = nothing-found _ _ (c .before .before .tables-pass .ensures) (c .enum-told .given .1)
-
-formulas-are : (c : tie.After-schema-pass) →
-    let a = c .before .before .before .before .before .before .args in
-    (c .schema-pass .result) ≡ formulasRefusal (rowAt (now (a .schema))) (a .schema-rows) (a .schema-rows) (a .root) (a .least)
-formulas-are c =
-    let start = c .before .before .before .before .before .before in
-    c .schema-pass .ensures .0
-    ∙ ap₂ (formulasRefusal (rowAt (now (start .args .schema))) (start .args .schema-rows) (start .args .schema-rows)) (toZ-ofZ (start .fits .root)) (toZ-ofZ (start .fits .least))
 
 -- nothing was found in the formula rows
 module _ (c : tie.After-enum-told3) where
   formulas-passed :
       let a = c .before .before .before .before .before .before .before .before .before .before .args in
-      formulasRefusal (rowAt (now (a .schema))) (a .schema-rows) (a .schema-rows) (a .root) (a .least) ≡ Nothing
-  formulas-passed = nothing-found _ _ (formulas-are (c .before .before .before .before)) (c .enum-told3 .given .1)
+      schemaRefusal (lentSchema (now (a .schema)) (a .h)) ≡ Nothing
+  formulas-passed = nothing-found _ _ (c .before .before .before .before .schema-formulas .ensures .0) (c .enum-told3 .given .1)
 
-  rows-passed : Passed (rowAt (now (c .before .before .before .before .before .before .before .before .before .before .args .schema))) (c .before .before .before .before .schema-pass .last .1 .1 .1 .1 .0) (c .before .before .before .before .before .before .before .before .before .before .args .schema-rows)
-  rows-passed = c .before .before .before .before .schema-pass .ensures .1 .0 (nothing-found _ _ (c .before .before .before .before .schema-pass .ensures .0) (c .enum-told3 .given .1))
+  rows-passed :
+      let a = c .before .before .before .before .before .before .before .before .before .before .args in
+      Passed (rowAt (now (a .schema))) (c .before .before .before .before .schema-formulas .last .1 .1 .0) (a .h .rows)
+  rows-passed = c .before .before .before .before .schema-formulas .ensures .1 .0 formulas-passed
 
-width-is : (c : tie.After-width-fits) → c .width-fits .result ≡ (leZ (c .before .before .before .before .before .before .before .before .before .before .before .args .least) (c .before .before .before .before .before .before .before .before .before .before .before .args .n) and leZ (c .before .before .before .before .before .before .before .before .before .before .before .args .n) (pos 9999))
+width-is : (c : tie.After-width-fits) →
+    let a = c .before .before .before .before .before .before .before .before .before .before .before .before .args in
+    c .width-fits .result ≡ (leZ (a .h .least) (a .n) and leZ (a .n) (pos 9999))
 width-is c =
+    let start = c .before .before .before .before .before .before .before .before .before .before .before .before in
     c .width-fits .ensures
-    ∙ ap₂ (λ (l m : ℤ). leZ l m and leZ m (pos 9999)) (toZ-ofZ (c .before .before .before .before .before .before .before .before .before .before .before .fits .least)) (toZ-ofZ (c .before .before .before .before .before .before .before .before .before .before .before .fits .n))
+    ∙ ap₂ (λ (l m : ℤ). leZ l m and leZ m (pos 9999)) (read-back (start .args .h .least) (c .before .struct-told .given .1 .1 .0 .1)) (toZ-ofZ (start .fits .n))
 
 tables-pass-requires : tie.Need-tables-pass-requires
 tables-pass-requires c κs = search needs
@@ -61,11 +60,11 @@ enum-told-2 c = search needs
 returns : tie.Need-returns
 unfolding queryRefusal
 returns c =
-    let found = c .before .before .tables-pass .ensures in
-    (stays _ _ _ _ _ found (c .enum-told2 .given .1), λ h. absurd (found-some _ _ _ _ found (c .enum-told2 .given .1) (otherwise-first _ _ h)))
+    let found = c .enum-told2 .given .1 in
+    (stays _ _ _ _ _ (c .before .before .tables-pass .ensures) found, λ h. absurd (found-some _ _ _ found h))
 
-schema-pass-requires : tie.Need-schema-pass-requires
-schema-pass-requires c κs =
+schema-formulas-requires : tie.Need-schema-formulas-requires
+schema-formulas-requires c κs =
     let h = tables-clear _ _ _ .0 (tables-passed (c .before)) in
     (h .1 .1, h .1 .0, omega (arith, h, c .before .before .before .before .before .pre))
 
@@ -81,9 +80,9 @@ same-length c = search needs
 returns-2 : tie.Need-returns-2
 unfolding queryRefusal
 returns-2 c =
-    let found = formulas-are (c .before .before .before .before) in (
-      later _ _ _ (tables-passed (c .before .before .before .before .before .before)) (stays _ _ _ _ _ found (c .enum-told4 .given .1)),
-      λ h. absurd (found-some _ _ _ _ found (c .enum-told4 .given .1) (formulas-none (query (c .before .before .before .before .before .before .before .before .before .before)) h)),
+    let found = c .enum-told4 .given .1 in (
+      later _ _ _ (tables-passed (c .before .before .before .before .before .before)) (stays _ _ _ _ _ (c .before .before .before .before .schema-formulas .ensures .0) found),
+      λ h. absurd (found-some _ _ _ found h),
     )
 
 width-fits-requires : tie.Need-width-fits-requires
@@ -95,7 +94,10 @@ same-length-2 c = search needs
 returns-3 : tie.Need-returns-3
 unfolding queryRefusal
 returns-3 c =
-    (later _ _ _ (tables-passed (c .before .before .before .before .before .before .before .before)) (later _ _ _ (formulas-passed (c .before .before)) (sym (whole-none _ _ (sym (width-is (c .before)) ∙ c .if1 .taken)))), λ h. query-ready (query (c .before .before .before .before .before .before .before .before .before .before .before .before)) h _ (rows-passed (c .before .before)))
+    let told = c .before .before .before in
+    let start = told .before .before .before .before .before .before .before .before .before .before in
+    let none = later _ _ _ (tables-passed (told .before .before .before .before .before .before)) (later _ _ _ (formulas-passed told) (sym (whole-none _ _ (sym (width-is (c .before)) ∙ c .if1 .taken)))) in
+    (none, λ h. query-ready (query start) (sym none) _ (rows-passed told))
 
 whole-requires : tie.Need-whole-requires
 whole-requires c κs = search needs
@@ -106,7 +108,11 @@ same-length-3 c = search needs
 returns-4 : tie.Need-returns-4
 unfolding queryRefusal
 returns-4 c =
-    (later _ _ _ (tables-passed (c .before .before .before .before .before .before .before .before .before)) (later _ _ _ (formulas-passed (c .before .before .before)) (found-last _ _ _ (c .whole .ensures) (sym (width-is (c .before .before)) ∙ c .before .if1 .left))), λ h. query-ready (query (c .before .before .before .before .before .before .before .before .before .before .before .before .before)) h _ (rows-passed (c .before .before .before)))
+    let told = c .before .before .before .before in (
+      later _ _ _ (tables-passed (told .before .before .before .before .before .before))
+          (later _ _ _ (formulas-passed told) (found-last _ _ _ (c .whole .ensures) (sym (width-is (c .before .before)) ∙ c .before .if1 .left))),
+      λ h. absurd (found-some _ _ _ (c .whole .ensures) h),
+    )
 
 pub query-pass-spec : {M : Type 1} → statement M
 query-pass-spec =
@@ -116,7 +122,7 @@ query-pass-spec =
     enum-told
     enum-told-2
     returns
-    schema-pass-requires
+    schema-formulas-requires
     enum-told-3
     enum-told-4
     same-length

@@ -1,8 +1,7 @@
 use borrow.Author.Needs.{needs}
 use Prim.Native.Nat.{suc, _+_, _*_}
 use native.Mathlib.Omega.{arith}
-use mathlib.Core.Path.{sym, _∙_, ap}
-use lib.Dec.{leb}
+use mathlib.Core.Path.{sym, _∙_}
 use borrow.Author.Tests.{lt-ltb, le-ltb, le-leb, lt-leb}
 use Rattle.stab.proofs.Bools.{and-first-false, and-first-true}
 use Rattle.grow.proofs.room.Statement.{statement}

@@ -1,16 +1,17 @@
 use borrow.Author.Needs.{needs}
-use mir.Facts.{toZ-ofZ}
+use mathlib.Core.Path.{_∙_, ap}
+use Rattle.growing.specs.Lent.{replyOf}
 use Rattle.grow.proofs.settle.Statement.{statement}
 use Rattle.grow.proofs.settle.Tie as tie
 
 hold-requires : tie.Need-hold-requires
-hold-requires c κs = let p = c .before .before .before .pre in (p .2 .few, p .0, p .1)
+hold-requires c κs = let p = c .before .before .pre in (p .2 .few, p .0, p .1)
 
 show-requires : tie.Need-show-requires
-show-requires c κs =
-    let h = c .before .before .before in
-    let b = h .before .before .before .before in
-    rw (h .hold .ensures .0, toZ-ofZ (b .fits .least)) (b .pre .2)
+show-requires c κs = let h = c .before .before .before in rw (h .hold .ensures .0) (h .before .before .before .pre .2)
+
+reply-requires : tie.Need-reply-requires
+reply-requires c κs = search needs
 
 same-length : tie.Need-same-length
 same-length c = search needs
@@ -20,8 +21,8 @@ same-length-2 c = search needs
 
 returns : tie.Need-returns
 returns c =
-    let h = c .before .before .before .before in
-    (c .show .ensures, (h .hold .ensures .0, (h .hold .ensures .1 .0, h .hold .ensures .1 .1)))
+    let h = c .before .before .before .before .before in
+    (c .reply .ensures ∙ ap (replyOf (h .before .before .before .args .h)) (c .before .show .ensures), (h .hold .ensures .0, h .hold .ensures .1))
 
 pub settle-spec : {M : Type 1} → statement M
-settle-spec = tie.close (tie.spec hold-requires show-requires same-length same-length-2 returns)
+settle-spec = tie.close (tie.spec hold-requires show-requires reply-requires same-length same-length-2 returns)

@@ -1,4 +1,6 @@
 use borrow.Author.Needs.{needs}
+use Rattle.stab.specs.Check.{linkCount}
+use Rattle.grow.specs.State.{shown}
 use Rattle.grow.proofs.show.Statement.{statement}
 use Rattle.grow.proofs.show.Tie as tie
 
@@ -9,6 +11,7 @@ complete-requires : tie.Need-complete-requires
 complete-requires c κs = search needs
 
 returns : tie.Need-returns
+unfolding shown linkCount
 returns c = search needs
 
 pub show-spec : {M : Type 1} → statement M

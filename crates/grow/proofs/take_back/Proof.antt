@@ -1,46 +1,38 @@
 use borrow.Author.Needs.{needs}
-use Prim.Native.Nat.{ℕ, _*_, _-_, _<_}
+use Prim.Native.Nat.{_*_, _-_, _<_}
 use native.Mathlib.Omega.{arith}
-use mathlib.Core.Path.{_≡_, sym, _∙_, ap, ap₂, subst}
+use mathlib.Core.Path.{_≡_, sym, _∙_, ap}
 use mathlib.Core.List.{List}
 use lib.IntN.{ℤ, pos}
-use lib.ListN.{length, getD, take}
-use mir.Facts.{toZ-ofZ}
+use lib.ListN.{length, take}
 use denote.Ref.{now}
-use Rattle.stab.specs.Basic.{count, nat, _otherwise_}
-use Rattle.stab.specs.Node.{Tableau, node, nodeAt}
-use Rattle.stab.specs.Check.{isLink}
+use Rattle.stab.specs.Node.{Tableau, node}
+use Rattle.stab.specs.Lent.{lent}
+use Rattle.stab.specs.Check.{refusal, heldMode}
 use Rattle.stab.specs.Text.{padded}
+use Rattle.stab.specs.declared.Header.{Header}
 use Rattle.stab.specs.declared.Place.the-variants.{Whole}
 use Rattle.stab.specs.declared.Refusal.the-variants.{NoRow}
-use Rattle.stab.specs.declared.Finding.the-variants.{Nothing, Found}
-use Rattle.branch.specs.Work.{tableau}
+use Rattle.stab.specs.declared.Finding.the-variants.{Nothing}
 use Rattle.tidied.proofs.Tables.{set-within}
-use Rattle.growing.specs.Complete.{complete}
-use Rattle.growing.specs.Growing.{heldRefusal, holding, shortened, growthBy, takeBack, callRefusal, changed}
-use Rattle.growing.specs.declared.Growth.the-variants.{Held}
+use Rattle.growing.specs.Growing.{holding, shortened, takeBack, changed}
+use Rattle.growing.specs.Lent.{holdingIn, headerAfter}
+use Rattle.growing.specs.declared.Reply.{Reply}
 use Rattle.growing.proofs.States.{Holds, held-clears}
 use Rattle.growing.proofs.Held.{holds-shortened}
-use Rattle.grow.specs.State.{state, nodesOnly, Countable}
-use Rattle.grow.proofs.Calls.{refused-growth, turned-away, turned-answer, countable, accepted-answer, accepted-left, no-row, back-refused, back-accepted}
 use Rattle.growing.proofs.Grown.{refused-leaves}
+use Rattle.grow.specs.State.{shown}
+use Rattle.grow.proofs.Calls.{refused-answer, turned-answer, turned-left, headerOf, countable, accepted-answer, accepted-left, no-row, back-refused, back-accepted}
 use Rattle.grow.proofs.take_back.Statement.{statement}
 use Rattle.grow.proofs.take_back.Tie as tie
 
 -- the state at entry
-abbrev lentAt : tie.Start → ℤ → ℤ → Tableau
-lentAt c root least =
-    let a = c .args in
-    state (now (a .schema)) (a .schema-rows) (now (a .proof)) (a .proof-rows) root least (now (a .nodes)) (now (a .members)) (now (a .held))
-
 abbrev here : tie.Start → Tableau
-here c = lentAt c (c .args .root) (c .args .least)
+here c = let a = c .args in lent (now (a .schema)) (now (a .proof)) (now (a .nodes)) (now (a .members)) (a .h)
 
-element-copy-out-n : tie.Need-element-copy-out-n
-element-copy-out-n c = search needs
-
-element-copy-out-m : tie.Need-element-copy-out-m
-element-copy-out-m c = search needs
+-- the same formula rows, with other nodes and members and what a call gives
+abbrev withReply : tie.Start → List ℤ → List ℤ → Reply → Tableau
+withReply c nodes members r = let a = c .args in lent (now (a .schema)) (now (a .proof)) nodes members (headerAfter (a .h) r)
 
 turn-away-requires : tie.Need-turn-away-requires
 turn-away-requires c κs = search needs
@@ -53,73 +45,73 @@ same-length-2 c = search needs
 
 -- there is no row
 returns : tie.Need-returns
-unfolding state tableau
 returns c =
     let t = c .before .before .before in
-    let b = t .before .before .before in
+    let b = t .before in
     let e = no-row (here b) (t .if1 .taken) in (
-      turned-answer (here b) takeBack _ e _ (λ U. c .turn-away .ensures U ∙ ap₂ (λ (r l : ℤ). growthBy (heldRefusal (lentAt b r l) otherwise Found NoRow Whole) (lentAt b r l) U) (toZ-ofZ (b .fits .root)) (toZ-ofZ (b .fits .least))),
-      sym (turned-away (here b) takeBack _ _ _ e),
+      ap (λ (r : Reply). r .answer) (c .turn-away .ensures) ∙ turned-answer (here b) NoRow Whole takeBack e,
+      ap (withReply b _ _) (c .turn-away .ensures) ∙ sym (turned-left (here b) NoRow Whole takeBack e),
     )
 
 held-requires : tie.Need-held-requires
 held-requires c κs = search needs
 
--- what is found of the rows held
-found : (c : tie.After-held) → (c .held .result) ≡ heldRefusal (here (c .before .before .before .before .before .before))
-unfolding state
-found c =
-    let b = c .before .before .before .before .before .before in
-    c .held .ensures ∙ ap₂ (λ (r l : ℤ). heldRefusal (lentAt b r l)) (toZ-ofZ (b .fits .root)) (toZ-ofZ (b .fits .least))
-
 enum-known-why : tie.Need-enum-known-why
 enum-known-why c = search needs
+
+reply-requires : tie.Need-reply-requires
+reply-requires c κs = search needs
 
 enum-told : tie.Need-enum-told
 enum-told c = search needs
 
--- where they have passed
+-- where the rows held have passed
 abbrev begun : tie.After-enum-told → tie.Start
-begun c = c .before .before .before .before .before .before .before .before
+begun c = c .before .before .before .before .before .before
 
-nothing : (c : tie.After-enum-told) → heldRefusal (here (begun c)) ≡ Nothing
-nothing c = sym (found (c .before .before)) ∙ (c .enum-told .given .1)
+nothing : (c : tie.After-enum-told) → refusal heldMode (here (begun c)) ≡ Nothing
+nothing c = sym (c .before .before .held .ensures) ∙ c .enum-told .given .1
 
 holds : (c : tie.After-enum-told) → Holds (here (begun c))
 holds c = held-clears (here (begun c)) .0 (nothing c)
 
 some-row : (c : tie.After-enum-told) → 0 < here (begun c) .nodeRows
-unfolding state tableau
 some-row c = omega (arith, c .before .before .before .before .before .if1 .left)
 
 sub-natural-of : tie.Need-sub-natural-of
 sub-natural-of c = search needs
 
 natural-of-requires : tie.Need-natural-of-requires
-unfolding state tableau
 natural-of-requires c κs = (omega (arith, holds (c .before) .tables .nodeLimit), omega arith)
 
-sub-settle : tie.Need-sub-settle
-sub-settle c = search needs
+sub-holding : tie.Need-sub-holding
+sub-holding c = search needs
 
--- where its set starts
-start-is : (c : tie.After-natural-of) → c .natural-of .result ≡ nat (nodeAt (here (begun (c .before .before)) .nodes) (here (begun (c .before .before)) .nodeRows - 1) .start)
-unfolding state tableau
-start-is c = c .natural-of .ensures .0
+holding-requires : tie.Need-holding-requires
+holding-requires c κs = search needs
+
+-- the numbers of the rows without the last
+abbrev told : tie.After-holding → tie.After-enum-told
+told c = c .before .before .before .before .before
+
+fewer : (c : tie.After-holding) → c .holding .result ≡ headerOf (shortened (here (begun (told c))))
+unfolding shortened holding
+fewer c =
+    let a = begun (told c) .args in
+    c .holding .ensures ∙ ap (holdingIn (a .h) (a .h .«node_rows» - 1)) (c .before .before .before .natural-of .ensures .0)
 
 settle-requires : tie.Need-settle-requires
-unfolding state tableau shortened holding node
+unfolding shortened holding node
 settle-requires c κs =
-    let k = c .before .before .before in
-    let e = k .before .before in
-    let b = begun e in
-    let T = here b in
+    let e = told c in
+    let T = here (begun e) in
     let H = holds e in
     let n = T .nodeRows in
-    let l = set-within T (H .sets) (n - 1) (omega (arith, some-row e)) in (
+    let l = set-within T (H .sets) (n - 1) (omega (arith, some-row e)) in
+    rw (fewer c) (
       omega (arith, H .tables .nodesHeld),
-      omega (arith, start-is k, l, H .tables .membersHeld),
-      subst (Countable (shortened T .nodes) (n - 1)) (sym (toZ-ofZ (b .fits .least))) (countable (shortened T) (holds-shortened T H (some-row e))),
+      omega (arith, l, H .tables .membersHeld),
+      countable (shortened T) (holds-shortened T H (some-row e)),
     )
 
 same-length-3 : tie.Need-same-length-3
@@ -131,11 +123,13 @@ same-length-4 c = search needs
 -- they are refused
 returns-2 : tie.Need-returns-2
 returns-2 c =
-    let f = c .before .before .before in
-    let b = f .before .before .before .before .before .before in
-    let h = sym (found f) ∙ (c .before .why .given .1) in
-    let e = back-refused (here b) _ _ h in
-    (turned-answer (here b) takeBack _ e _ (λ U. refused-growth (here b) U _ _ h), sym (refused-leaves (here b) takeBack _ _ e))
+    let f = c .before .before .before .before in
+    let b = f .before .before .before .before in
+    let h = sym (f .held .ensures) ∙ c .before .before .why .given .1 in
+    let e = back-refused (here b) _ _ h in (
+      ap (λ (r : Reply). r .answer) (c .reply .ensures) ∙ refused-answer (here b) takeBack _ _ h e,
+      ap (withReply b _ _) (c .reply .ensures) ∙ sym (refused-leaves (here b) takeBack _ _ e),
+    )
 
 same-length-5 : tie.Need-same-length-5
 same-length-5 c = search needs
@@ -144,21 +138,20 @@ same-length-6 : tie.Need-same-length-6
 same-length-6 c = search needs
 
 returns-3 : tie.Need-returns-3
-unfolding state tableau callRefusal changed shortened holding
+unfolding changed shortened holding
 returns-3 c =
     let s = c .before .before in
-    let k = s .before .before .before .before in
-    let e = k .before .before in
-    let b = begun e in
+    let k = s .before in
+    let b = begun (told k) in
     let a = b .args in
     let T = here b in
-    let n = T .nodeRows in
-    let ok = back-accepted T (nothing e) (some-row e) in (
-      s .settle .ensures .0
-          ∙ ap (λ (ns : List ℤ). Held (n - 1) (count (isLink ns) (n - 1)) (complete (nodesOnly ns (n - 1)))) (s .settle .ensures .1 .0)
-          ∙ sym (accepted-answer T takeBack ok),
-      (λ i. state (now (a .schema)) (a .schema-rows) (now (a .proof)) (a .proof-rows) (a .root) (a .least) (s .settle .ensures .1 .0 i) (s .settle .ensures .1 .1 .0 i) (s .settle .ensures .1 .1 .1 i))
-          ∙ ap (λ (m : ℕ). tableau (now (a .schema)) (a .schema-rows) (now (a .proof)) (a .proof-rows) (a .root) (a .least) (shortened T .nodes) (n - 1) (padded (pos 0) (length (T .members)) (take m (T .members))) m) (start-is k)
+    let M = fewer k in
+    let ok = back-accepted T (nothing (told k)) (some-row (told k)) in
+    let nodes = s .settle .ensures .1 .0 ∙ ap (λ (h : Header). padded (pos 0) (length (T .nodes)) (take (9 * h .«node_rows») (T .nodes))) M in
+    let members = s .settle .ensures .1 .1 ∙ ap (λ (h : Header). padded (pos 0) (length (T .members)) (take (h .«member_count») (T .members))) M in (
+      ap (λ (r : Reply). r .answer) (s .settle .ensures .0) ∙ (λ i. shown (nodes i) (M i .«node_rows»)) ∙ accepted-answer T takeBack ok,
+      ap (withReply b _ _) (s .settle .ensures .0)
+          ∙ (λ i. lent (now (a .schema)) (now (a .proof)) (nodes i) (members i) (holdingIn (a .h) (M i .«node_rows») (M i .«member_count»)))
           ∙ sym (accepted-left T takeBack ok),
     )
 
@@ -166,18 +159,18 @@ pub take-back-spec : {M : Type 1} → statement M
 take-back-spec =
     tie.close
     (tie.spec
-    element-copy-out-n
-    element-copy-out-m
     turn-away-requires
     same-length
     same-length-2
     returns
     held-requires
     enum-known-why
+    reply-requires
     enum-told
     sub-natural-of
     natural-of-requires
-    sub-settle
+    sub-holding
+    holding-requires
     settle-requires
     same-length-3
     same-length-4

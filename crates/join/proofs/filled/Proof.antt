@@ -1,52 +1,42 @@
-use Rattle.join.proofs.Answers.{four, full-room, joinable, few-folded, rows-over, members-over, all-fit, too-large, record-made}
-use Rattle.join.proofs.Placed.{readable, of-plain, members-are, nodes-are}
-use Rattle.join.specs.Kept.{rooms}
-use Rattle.jointrows.specs.Kept.{plain, Joinable, RowsFilled}
-use Rattle.jointrefusal.proofs.Before.{first-keeps, second-keeps, few-rows, few-schema, few-nodes, small-or}
-use Rattle.stab.specs.Keeps.{Keeps}
-use Rattle.joint.specs.declared.Joined.the-variants.{Record}
-use Rattle.joint.specs.Joint.{schemaCount, orRow, joint}
-use Rattle.signed.proofs.Signs.{read-back}
-use Rattle.stab.proofs.Bools.{if-true}
-use Rattle.stab.specs.Text.{padded}
-use lib.ListN.{length}
-use mathlib.Core.Path.{_≡_, sym, _∙_, ap, subst}
 use Prim.Native.Nat.{ℕ, suc, _+_, _≤_}
-use Rattle.joint.specs.Joint.{Rooms}
-use Rattle.branch.specs.Work.{tableau}
-use Rattle.stab.specs.Node.{Tableau}
-use mir.Facts.{toZ-ofZ}
+use native.Mathlib.Omega.{arith}
+use mathlib.Core.Path.{_≡_, sym, _∙_, ap, subst}
 use mathlib.Core.List.{List, []}
 use lib.IntN.{ℤ, pos}
-use native.Mathlib.Omega.{arith}
-use borrow.Author.Tests.{le-leb}
+use lib.ListN.{length}
+use mir.Syntax.{w32}
+use mir.Val.{ofZ, toZ}
 use borrow.Author.Needs.{needs}
+use borrow.Author.Tests.{le-leb}
+use Rattle.stab.specs.Node.{Tableau}
+use Rattle.stab.specs.Lent.{lent}
+use Rattle.stab.specs.Text.{padded}
+use Rattle.stab.specs.Keeps.{Keeps}
+use Rattle.stab.proofs.Bools.{if-true}
+use Rattle.signed.proofs.Signs.{read-back}
+use Rattle.joint.specs.Joint.{schemaCount, orRow, joint, Rooms}
+use Rattle.joint.specs.declared.Joined.the-variants.{Record}
+use Rattle.jointrefusal.proofs.Before.{first-keeps, second-keeps, few-rows, few-schema, few-nodes, small-or}
+use Rattle.jointrows.specs.Kept.{plain, Joinable, RowsFilled}
+use Rattle.join.specs.Kept.{rooms}
+use Rattle.join.proofs.Placed.{readable, of-plain, members-are, nodes-are}
+use Rattle.join.proofs.Answers.{full-room, joinable, few-folded, rows-over, members-over, all-fit, too-large, record-made}
 use Rattle.join.proofs.filled.Statement.{statement}
 use Rattle.join.proofs.filled.Tie as tie
 
 -- the two records, and the rooms that are lent
-abbrev A : tie.Start → ℤ → ℤ → Tableau
-A b root least =
-    let a = b .args in
-    tableau (a .first-schema .now) (a .first-schema-rows) (a .first-proof .now) (a .first-proof-rows) root least (a .first-nodes .now) (a .first-node-rows) (a .first-members .now) (a .first-member-count)
+abbrev A : tie.Start → Tableau
+A b = let a = b .args in lent (a .first-schema .now) (a .first-proof .now) (a .first-nodes .now) (a .first-members .now) (a .first)
 
-abbrev B : tie.Start → ℤ → ℤ → Tableau
-B b root least =
-    let a = b .args in
-    tableau (a .second-schema .now) (a .second-schema-rows) (a .second-proof .now) (a .second-proof-rows) root least (a .second-nodes .now) (a .second-node-rows) (a .second-members .now) (a .second-member-count)
-
-abbrev TA : tie.Start → Tableau
-TA b = A b (b .args .first-root) (b .args .first-least)
-
-abbrev TB : tie.Start → Tableau
-TB b = B b (b .args .second-root) (b .args .second-least)
+abbrev B : tie.Start → Tableau
+B b = let a = b .args in lent (a .second-schema .now) (a .second-proof .now) (a .second-nodes .now) (a .second-members .now) (a .second)
 
 abbrev R : tie.Start → Rooms
 R b = let a = b .args in rooms (a .out-schema .now) (a .out-proof .now) (a .out-nodes .now) (a .out-members .now)
 
 -- where the rows are filled, and where the nodes are
 abbrev start : tie.After-fill-rows → tie.Start
-start c = c .before .before .before .before .before
+start c = c .before .before .before .before .before .before .before .before .before
 
 abbrev rows-of : tie.After-fill-nodes → tie.After-fill-rows
 rows-of c = c .before .before .before .before .before .before .before .before .before .before
@@ -59,38 +49,44 @@ second-numbers c = c .fill-rows .last .1 .1 .1 .1 .1 .1 .1 .1 .1 .1 .1 .0
 
 -- the formula rows alone
 abbrev PA : tie.Start → ℤ → Tableau
-PA b root = let a = b .args in plain (a .first-schema .now) (a .first-schema-rows) (a .first-proof .now) (a .first-proof-rows) root
+PA b root = let a = b .args in plain (a .first-schema .now) (a .first .«schema_rows») (a .first-proof .now) (a .first .«proof_rows») root
 
 abbrev PB : tie.Start → ℤ → Tableau
-PB b root = let a = b .args in plain (a .second-schema .now) (a .second-schema-rows) (a .second-proof .now) (a .second-proof-rows) root
+PB b root = let a = b .args in plain (a .second-schema .now) (a .second .«schema_rows») (a .second-proof .now) (a .second .«proof_rows») root
+
+-- the roots as they are passed on
+first-root : (c : tie.After-struct-told2) → let z = c .before .before .before .before .before .before .before .before .args .first .root in toZ w32 (ofZ w32 z) ≡ z
+first-root c = read-back _ (c .before .struct-told .given .1 .1 .0 .1)
+
+second-root : (c : tie.After-struct-told2) → let z = c .before .before .before .before .before .before .before .before .args .second .root in toZ w32 (ofZ w32 z) ≡ z
+second-root c = read-back _ (c .struct-told2 .given .1 .1 .0 .1)
 
 rows-are : (c : tie.After-fill-rows) →
     let b = start c in
-    RowsFilled (TA b) (TB b) (b .args .out-schema .now) (b .args .out-proof .now) (c .fill-rows .result) (first-numbers c) (second-numbers c) (c .fill-rows .last .1 .1 .1 .1 .1 .1 .1 .1 .1 .1 .1 .1 .0) (c .fill-rows .last .1 .1 .1 .1 .1 .1 .1 .1 .1 .1 .1 .1 .1 .0)
-unfolding tableau
+    RowsFilled (A b) (B b) (b .args .out-schema .now) (b .args .out-proof .now) (c .fill-rows .result) (first-numbers c) (second-numbers c) (c .fill-rows .last .1 .1 .1 .1 .1 .1 .1 .1 .1 .1 .1 .1 .0) (c .fill-rows .last .1 .1 .1 .1 .1 .1 .1 .1 .1 .1 .1 .1 .1 .0)
 rows-are c =
     let b = start c in
-    of-plain (TA b) (TB b)
-    (four (λ x y z w. RowsFilled (PA b x) (PB b z) (b .args .out-schema .now) (b .args .out-proof .now) (c .fill-rows .result) (first-numbers c) (second-numbers c) (c .fill-rows .last .1 .1 .1 .1 .1 .1 .1 .1 .1 .1 .1 .1 .0) (c .fill-rows .last .1 .1 .1 .1 .1 .1 .1 .1 .1 .1 .1 .1 .1 .0)) (toZ-ofZ (b .fits .first-root)) (toZ-ofZ (b .fits .first-least)) (toZ-ofZ (b .fits .second-root)) (toZ-ofZ (b .fits .second-least)) (c .fill-rows .ensures))
+    of-plain (A b) (B b)
+    (subst (λ (z : ℤ). RowsFilled (PA b (b .args .first .root)) (PB b z) (b .args .out-schema .now) (b .args .out-proof .now) (c .fill-rows .result) (first-numbers c) (second-numbers c) (c .fill-rows .last .1 .1 .1 .1 .1 .1 .1 .1 .1 .1 .1 .1 .0) (c .fill-rows .last .1 .1 .1 .1 .1 .1 .1 .1 .1 .1 .1 .1 .1 .0)) (second-root (c .before))
+    (subst (λ (z : ℤ). RowsFilled (PA b z) (PB b (toZ w32 (ofZ w32 (b .args .second .root)))) (b .args .out-schema .now) (b .args .out-proof .now) (c .fill-rows .result) (first-numbers c) (second-numbers c) (c .fill-rows .last .1 .1 .1 .1 .1 .1 .1 .1 .1 .1 .1 .1 .0) (c .fill-rows .last .1 .1 .1 .1 .1 .1 .1 .1 .1 .1 .1 .1 .1 .0)) (first-root (c .before)) (c .fill-rows .ensures)))
 
 -- both keep the rules
-keepsA : (b : tie.Start) → Keeps (TA b)
-keepsA b = first-keeps (TA b) (TB b) (b .pre .1)
+keepsA : (b : tie.Start) → Keeps (A b)
+keepsA b = first-keeps (A b) (B b) (b .pre .1)
 
-keepsB : (b : tie.Start) → Keeps (TB b)
-keepsB b = second-keeps (TA b) (TB b) (b .pre .1)
+keepsB : (b : tie.Start) → Keeps (B b)
+keepsB b = second-keeps (A b) (B b) (b .pre .1)
 
-member-count : (c : tie.After-fill-nodes) → let b = start (rows-of c) in c .fill-nodes .result ≡ length (joint (TA b) (TB b) .members)
-unfolding tableau orRow
+member-count : (c : tie.After-fill-nodes) → let b = start (rows-of c) in c .fill-nodes .result ≡ length (joint (A b) (B b) .members)
+unfolding orRow
 member-count c =
     let f = rows-of c in
     let b = start f in
     c .fill-nodes .ensures .0
-    ∙ ap length (members-are (TA b) (TB b) (keepsA b) (keepsB b) (first-numbers f) (second-numbers f) (rows-are f .firstNumbers) (rows-are f .secondNumbers))
+    ∙ ap length (members-are (A b) (B b) (keepsA b) (keepsB b) (first-numbers f) (second-numbers f) (rows-are f .firstNumbers) (rows-are f .secondNumbers))
 
 add-or-row : tie.Need-add-or-row
-unfolding tableau
-add-or-row b = omega (arith, few-schema (TA b) (TB b) (b .pre .1))
+add-or-row c = let b = c .before .before in omega (arith, few-schema (A b) (B b) (b .pre .1))
 
 slice-aggregate-fill-rows : tie.Need-slice-aggregate-fill-rows
 slice-aggregate-fill-rows c = search needs
@@ -99,28 +95,25 @@ slice-aggregate-fill-rows-2 : tie.Need-slice-aggregate-fill-rows-2
 slice-aggregate-fill-rows-2 c = search needs
 
 fill-rows-requires : tie.Need-fill-rows-requires
-unfolding tableau
 fill-rows-requires c κs =
-    let b = c .before .before .before .before in
+    let b = c .before .before .before .before .before .before .before .before in
     let room = full-room (R b) (b .pre .0) in (
       (
-        subst (λ (x : ℤ). Joinable (PA b x)) (sym (toZ-ofZ (b .fits .first-root))) (joinable (TA b) (keepsA b .older)),
-        subst (λ (x : ℤ). Joinable (PB b x)) (sym (toZ-ofZ (b .fits .second-root))) (joinable (TB b) (keepsB b .older)),
-        few-schema (TA b) (TB b) (b .pre .1),
+        subst (λ (x : ℤ). Joinable (PA b x)) (sym (first-root c)) (joinable (A b) (keepsA b .older)),
+        subst (λ (x : ℤ). Joinable (PB b x)) (sym (second-root c)) (joinable (B b) (keepsB b .older)),
+        few-schema (A b) (B b) (b .pre .1),
       ),
       (omega arith, omega arith, room .0, room .1),
     )
 
 add-if1 : tie.Need-add-if1
-unfolding tableau
-add-if1 c = let b = start (c .before .before .before .before) in omega (arith, few-schema (TA b) (TB b) (b .pre .1))
+add-if1 c = let b = start (c .before .before .before .before) in omega (arith, few-schema (A b) (B b) (b .pre .1))
 
 add-if1-2 : tie.Need-add-if1-2
-unfolding tableau
 add-if1-2 c =
     let f = c .before .before .before .before in
     let b = start f in
-    omega (arith, rows-are f .counted, few-folded (TA b) (TB b), few-rows (TA b) (keepsA b .older), few-rows (TB b) (keepsB b .older))
+    omega (arith, rows-are f .counted, few-folded (A b) (B b), few-rows (A b) (keepsA b .older), few-rows (B b) (keepsB b .older))
 
 refuse-requires : tie.Need-refuse-requires
 refuse-requires c κs = search needs
@@ -138,14 +131,14 @@ same-length-4 : tie.Need-same-length-4
 same-length-4 c = search needs
 
 returns : tie.Need-returns
-unfolding tableau schemaCount
+unfolding schemaCount
 returns c =
     let r = c .before .before .before .before in
     let i = c .before .before .before .before .before .before .before .before .before in
     let f = i .before .before .before .before .before in
     let b = start f in
     let e = r .refuse .ensures in
-    too-large (R b) (TA b) (TB b) (b .pre .0) (b .pre .1) (rows-over (TA b) (TB b) (omega (arith, i .if1 .taken, rows-are f .counted))) (e .0) (e .1 .0 ∙ ap (λ (n : ℕ). padded (pos 0) n []) (f .fill-rows .kept .1 .1 .1 .1 .1 .1 .1 .1 .1 .1 .1 .1 .0)) (e .1 .1 .0 ∙ ap (λ (n : ℕ). padded (pos 0) n []) (f .fill-rows .kept .1 .1 .1 .1 .1 .1 .1 .1 .1 .1 .1 .1 .1 .0)) (e .1 .1 .1 .0) (e .1 .1 .1 .1)
+    too-large (R b) (A b) (B b) (b .pre .0) (b .pre .1) (rows-over (A b) (B b) (omega (arith, i .if1 .taken, rows-are f .counted))) (e .0) (e .1 .0 ∙ ap (λ (n : ℕ). padded (pos 0) n []) (f .fill-rows .kept .1 .1 .1 .1 .1 .1 .1 .1 .1 .1 .1 .1 .0)) (e .1 .1 .0 ∙ ap (λ (n : ℕ). padded (pos 0) n []) (f .fill-rows .kept .1 .1 .1 .1 .1 .1 .1 .1 .1 .1 .1 .1 .1 .0)) (e .1 .1 .1 .0) (e .1 .1 .1 .1)
 
 slice-aggregate-fill-nodes : tie.Need-slice-aggregate-fill-nodes
 slice-aggregate-fill-nodes c = search needs
@@ -154,14 +147,13 @@ slice-aggregate-fill-nodes-2 : tie.Need-slice-aggregate-fill-nodes-2
 slice-aggregate-fill-nodes-2 c = search needs
 
 fill-nodes-requires : tie.Need-fill-nodes-requires
-unfolding tableau
 fill-nodes-requires c κs =
     let f = c .before .before .before .before .before .before .before .before .before in
     let b = start f in
     let room = full-room (R b) (b .pre .0) in
     let P = rows-are f in (
-      (few-schema (TA b) (TB b) (b .pre .1), few-nodes (TA b) (TB b) (b .pre .1), room .2, room .3, P .firstSmall, P .secondSmall),
-      (readable (TA b) (keepsA b .older), readable (TB b) (keepsB b .older)),
+      (few-schema (A b) (B b) (b .pre .1), few-nodes (A b) (B b) (b .pre .1), room .2, room .3, P .firstSmall, P .secondSmall),
+      (readable (A b) (keepsA b .older), readable (B b) (keepsB b .older)),
     )
 
 refuse-requires-2 : tie.Need-refuse-requires-2
@@ -180,7 +172,6 @@ same-length-8 : tie.Need-same-length-8
 same-length-8 c = search needs
 
 returns-2 : tie.Need-returns-2
-unfolding tableau
 returns-2 c =
     let r = c .before .before .before .before in
     let i = c .before .before .before .before .before .before .before .before .before in
@@ -188,21 +179,19 @@ returns-2 c =
     let f = rows-of n in
     let b = start f in
     let e = r .refuse2 .ensures in
-    too-large (R b) (TA b) (TB b) (b .pre .0) (b .pre .1) (members-over (TA b) (TB b) (omega (arith, i .if2 .taken, member-count n))) (e .0) (e .1 .0 ∙ ap (λ (n : ℕ). padded (pos 0) n []) (f .fill-rows .kept .1 .1 .1 .1 .1 .1 .1 .1 .1 .1 .1 .1 .0)) (e .1 .1 .0 ∙ ap (λ (n : ℕ). padded (pos 0) n []) (f .fill-rows .kept .1 .1 .1 .1 .1 .1 .1 .1 .1 .1 .1 .1 .1 .0)) (e .1 .1 .1 .0 ∙ ap (λ (n : ℕ). padded (pos 0) n []) (n .fill-nodes .kept .1 .1 .1 .1 .1 .1 .1 .1 .1 .0)) (e .1 .1 .1 .1 ∙ ap (λ (n : ℕ). padded (pos 0) n []) (n .fill-nodes .kept .1 .1 .1 .1 .1 .1 .1 .1 .1 .1 .0))
+    too-large (R b) (A b) (B b) (b .pre .0) (b .pre .1) (members-over (A b) (B b) (omega (arith, i .if2 .taken, member-count n))) (e .0) (e .1 .0 ∙ ap (λ (n : ℕ). padded (pos 0) n []) (f .fill-rows .kept .1 .1 .1 .1 .1 .1 .1 .1 .1 .1 .1 .1 .0)) (e .1 .1 .0 ∙ ap (λ (n : ℕ). padded (pos 0) n []) (f .fill-rows .kept .1 .1 .1 .1 .1 .1 .1 .1 .1 .1 .1 .1 .1 .0)) (e .1 .1 .1 .0 ∙ ap (λ (n : ℕ). padded (pos 0) n []) (n .fill-nodes .kept .1 .1 .1 .1 .1 .1 .1 .1 .1 .0)) (e .1 .1 .1 .1 ∙ ap (λ (n : ℕ). padded (pos 0) n []) (n .fill-nodes .kept .1 .1 .1 .1 .1 .1 .1 .1 .1 .1 .0))
 
 of-requires : tie.Need-of-requires
 of-requires c κs = search needs
 
-add-t38 : tie.Need-add-t38
-add-t38 c = search needs
+add-t28 : tie.Need-add-t28
+add-t28 c = search needs
 
-add-t39 : tie.Need-add-t39
-unfolding tableau
-add-t39 c = let b = c .before .before .before .before .before .before .before .before .before .before .before .before .before .before .before .before .before .before .before in omega (arith, few-nodes (TA b) (TB b) (b .pre .1))
+add-t29 : tie.Need-add-t29
+add-t29 c = let b = start (rows-of (c .before .before .before .before .before)) in omega (arith, few-nodes (A b) (B b) (b .pre .1))
 
-add-t70 : tie.Need-add-t70
-unfolding tableau
-add-t70 c = let b = c .before .before .before .before .before .before .before .before .before .before .before .before .before .before .before .before .before .before .before in omega (arith, few-nodes (TA b) (TB b) (b .pre .1))
+add-t60 : tie.Need-add-t60
+add-t60 c = let b = start (rows-of (c .before .before .before .before .before .before)) in omega (arith, few-nodes (A b) (B b) (b .pre .1))
 
 same-length-9 : tie.Need-same-length-9
 same-length-9 c = search needs
@@ -217,25 +206,25 @@ same-length-12 : tie.Need-same-length-12
 same-length-12 c = search needs
 
 returns-3 : tie.Need-returns-3
-unfolding tableau schemaCount orRow
+unfolding schemaCount orRow
 returns-3 c =
-    let i = c .before in
+    let i = c .before .before .before .before in
     let n = i .before .before .before in
     let f = rows-of n in
     let b = start f in
     let a = b .args in
-    let fits : a .first-schema-rows + a .second-schema-rows + 1 + f .fill-rows .result ≤ 1024 = omega (arith, n .before .before .before .before .before .if1 .left) in
+    let fits : a .first .«schema_rows» + a .second .«schema_rows» + 1 + f .fill-rows .result ≤ 1024 = omega (arith, n .before .before .before .before .before .if1 .left) in
     let few = i .if2 .left in
     let P = rows-are f in
-    let e : a .first-schema-rows + a .second-schema-rows + 1 ≡ suc (a .first-schema-rows + a .second-schema-rows) = omega arith in
-    let k : 1 + a .first-node-rows + a .second-node-rows ≡ suc (a .first-node-rows + a .second-node-rows) = omega arith in
-    record-made (R b) (TA b) (TB b) (b .pre .0) (b .pre .1)
-    (all-fit (TA b) (TB b) (omega (arith, fits, P .counted)) (few-nodes (TA b) (TB b) (b .pre .1)) (omega (arith, few, member-count n)) (small-or (TA b) (TB b) (b .pre .1)))
-    (λ x. Record ((read-back _ (c .of .ok) ∙ c .of .ensures) x) (toZ-ofZ (b .fits .first-least) x) (e x) (P .counted x) (k x) (member-count n x))
+    let e : a .first .«schema_rows» + a .second .«schema_rows» + 1 ≡ suc (a .first .«schema_rows» + a .second .«schema_rows») = omega arith in
+    let k : 1 + a .first .«node_rows» + a .second .«node_rows» ≡ suc (a .first .«node_rows» + a .second .«node_rows») = omega arith in
+    record-made (R b) (A b) (B b) (b .pre .0) (b .pre .1)
+    (all-fit (A b) (B b) (omega (arith, fits, P .counted)) (few-nodes (A b) (B b) (b .pre .1)) (omega (arith, few, member-count n)) (small-or (A b) (B b) (b .pre .1)))
+    (λ x. Record ((read-back _ (c .before .before .before .of .ok) ∙ c .before .before .before .of .ensures) x) (read-back (a .first .least) (c .struct-told3 .given .1 .1 .1 .0 .1) x) (e x) (P .counted x) (k x) (member-count n x))
     (P .schemaTable)
     (P .proofTable ∙ ap (padded (pos 0) (length (a .out-proof .now))) (if-true _ _ [] (le-leb _ 1024 fits)))
-    (n .fill-nodes .ensures .1 .0 ∙ ap (padded (pos 0) (length (a .out-nodes .now))) (if-true _ _ [] (le-leb _ 8192 few) ∙ nodes-are (TA b) (TB b) (keepsA b) (keepsB b) (first-numbers f) (second-numbers f) (rows-are f .firstNumbers) (rows-are f .secondNumbers)))
-    (n .fill-nodes .ensures .1 .1 ∙ ap (padded (pos 0) (length (a .out-members .now))) (if-true _ _ [] (le-leb _ 8192 few) ∙ members-are (TA b) (TB b) (keepsA b) (keepsB b) (first-numbers f) (second-numbers f) (rows-are f .firstNumbers) (rows-are f .secondNumbers)))
+    (n .fill-nodes .ensures .1 .0 ∙ ap (padded (pos 0) (length (a .out-nodes .now))) (if-true _ _ [] (le-leb _ 8192 few) ∙ nodes-are (A b) (B b) (keepsA b) (keepsB b) (first-numbers f) (second-numbers f) (rows-are f .firstNumbers) (rows-are f .secondNumbers)))
+    (n .fill-nodes .ensures .1 .1 ∙ ap (padded (pos 0) (length (a .out-members .now))) (if-true _ _ [] (le-leb _ 8192 few) ∙ members-are (A b) (B b) (keepsA b) (keepsB b) (first-numbers f) (second-numbers f) (rows-are f .firstNumbers) (rows-are f .secondNumbers)))
 
 pub filled-spec : {M : Type 1} → statement M
 filled-spec =
@@ -263,9 +252,9 @@ filled-spec =
     same-length-8
     returns-2
     of-requires
-    add-t38
-    add-t39
-    add-t70
+    add-t28
+    add-t29
+    add-t60
     same-length-9
     same-length-10
     same-length-11

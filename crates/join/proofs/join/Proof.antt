@@ -1,36 +1,23 @@
-use Rattle.join.proofs.Answers.{four, short-found, found-before, refused-by, answers}
-use Rattle.join.specs.Kept.{rooms, roomy, Answers}
-use Rattle.jointrefusal.specs.Before.{foundBefore}
-use Rattle.joint.specs.Joint.{Rooms}
-use Rattle.branch.specs.Work.{tableau}
-use Rattle.stab.proofs.Findings.{nothing-found}
-use Rattle.stab.proofs.Bools.{asked-false, asked-true}
-use Rattle.stab.specs.Node.{Tableau}
-use Rattle.stab.specs.declared.Finding.the-variants.{Nothing}
-use mir.Facts.{toZ-ofZ}
-use lib.IntN.{ℤ}
+use mathlib.Core.Path.{_≡_, sym, _∙_}
 use mathlib.Core.Bool.{true}
-use mathlib.Core.Path.{_≡_, sym, _∙_, ap}
 use borrow.Author.Needs.{needs}
+use Rattle.stab.specs.Node.{Tableau}
+use Rattle.stab.specs.Lent.{lent}
+use Rattle.stab.proofs.Bools.{asked-false, asked-true}
+use Rattle.stab.proofs.Findings.{nothing-found}
+use Rattle.joint.specs.Joint.{Rooms}
+use Rattle.jointrefusal.specs.Before.{foundBefore}
+use Rattle.join.specs.Kept.{rooms, roomy}
+use Rattle.join.proofs.Answers.{short-found, found-before, refused-by, answers}
 use Rattle.join.proofs.join.Statement.{statement}
 use Rattle.join.proofs.join.Tie as tie
 
 -- the two records, and the rooms that are lent
-abbrev A : tie.Start → ℤ → ℤ → Tableau
-A b root least =
-    let a = b .args in
-    tableau (a .first-schema .now) (a .first-schema-rows) (a .first-proof .now) (a .first-proof-rows) root least (a .first-nodes .now) (a .first-node-rows) (a .first-members .now) (a .first-member-count)
+abbrev A : tie.Start → Tableau
+A b = let a = b .args in lent (a .first-schema .now) (a .first-proof .now) (a .first-nodes .now) (a .first-members .now) (a .first)
 
-abbrev B : tie.Start → ℤ → ℤ → Tableau
-B b root least =
-    let a = b .args in
-    tableau (a .second-schema .now) (a .second-schema-rows) (a .second-proof .now) (a .second-proof-rows) root least (a .second-nodes .now) (a .second-node-rows) (a .second-members .now) (a .second-member-count)
-
-abbrev TA : tie.Start → Tableau
-TA b = A b (b .args .first-root) (b .args .first-least)
-
-abbrev TB : tie.Start → Tableau
-TB b = B b (b .args .second-root) (b .args .second-least)
+abbrev B : tie.Start → Tableau
+B b = let a = b .args in lent (a .second-schema .now) (a .second-proof .now) (a .second-nodes .now) (a .second-members .now) (a .second)
 
 abbrev R : tie.Start → Rooms
 R b = let a = b .args in rooms (a .out-schema .now) (a .out-proof .now) (a .out-nodes .now) (a .out-members .now)
@@ -42,10 +29,8 @@ start c = c .before .before .before .before .before .before .before
 has-room : (c : tie.After-refusal) → roomy (R (start c)) ≡ true
 has-room c = asked-true (c .before .before .full .ensures) (c .before .if1 .left)
 
-found-is : (c : tie.After-refusal) → let b = start c in (c .refusal .result) ≡ foundBefore (TA b) (TB b)
-found-is c =
-    let b = start c in
-    four (λ x y z w. (c .refusal .result) ≡ foundBefore (A b x y) (B b z w)) (toZ-ofZ (b .fits .first-root)) (toZ-ofZ (b .fits .first-least)) (toZ-ofZ (b .fits .second-root)) (toZ-ofZ (b .fits .second-least)) (c .refusal .ensures)
+found-is : (c : tie.After-refusal) → let b = start c in c .refusal .result ≡ foundBefore (A b) (B b)
+found-is c = c .refusal .ensures
 
 full-requires : tie.Need-full-requires
 full-requires c κs = search needs
@@ -70,8 +55,8 @@ returns c =
     let e = c .before .before .before .before .refuse .ensures in
     let i = c .before .before .before .before .before .before .before .before .before in
     let b = i .before .before .before .before .before .before in
-    answers (R b) (TA b) (TB b)
-    (refused-by (R b) (TA b) (TB b) (short-found (R b) (TA b) (TB b) (asked-false (i .before .full .ensures) (i .if1 .taken))) (e .0) (e .1 .0) (e .1 .1 .0) (e .1 .1 .1 .0) (e .1 .1 .1 .1))
+    answers (R b) (A b) (B b)
+    (refused-by (R b) (A b) (B b) (short-found (R b) (A b) (B b) (asked-false (i .before .full .ensures) (i .if1 .taken))) (e .0) (e .1 .0) (e .1 .1 .0) (e .1 .1 .1 .0) (e .1 .1 .1 .1))
 
 refusal-requires : tie.Need-refusal-requires
 refusal-requires c κs = search needs
@@ -89,8 +74,7 @@ filled-requires : tie.Need-filled-requires
 filled-requires c κs =
     let w = c .before .before .before .before in
     let d = w .before .before in
-    let b = start d in
-    (has-room d, four (λ x y z w. foundBefore (A b x y) (B b z w) ≡ Nothing) (sym (toZ-ofZ (b .fits .first-root))) (sym (toZ-ofZ (b .fits .first-least))) (sym (toZ-ofZ (b .fits .second-root))) (sym (toZ-ofZ (b .fits .second-least))) (nothing-found _ _ (found-is d) (w .enum-told .given .1)))
+    (has-room d, nothing-found _ _ (found-is d) (w .enum-told .given .1))
 
 same-length-5 : tie.Need-same-length-5
 same-length-5 c = search needs
@@ -110,8 +94,8 @@ returns-2 c =
     let w = c .before .before .before .before .before .before .before .before .before .before in
     let d = w .before .before in
     let b = start d in
-    answers (R b) (TA b) (TB b)
-    (refused-by (R b) (TA b) (TB b) (found-before (R b) (TA b) (TB b) (has-room d) _ _ (sym (found-is d) ∙ (w .why .given .1))) (e .0) (e .1 .0) (e .1 .1 .0) (e .1 .1 .1 .0) (e .1 .1 .1 .1))
+    answers (R b) (A b) (B b)
+    (refused-by (R b) (A b) (B b) (found-before (R b) (A b) (B b) (has-room d) _ _ (sym (found-is d) ∙ (w .why .given .1))) (e .0) (e .1 .0) (e .1 .1 .0) (e .1 .1 .1 .0) (e .1 .1 .1 .1))
 
 same-length-9 : tie.Need-same-length-9
 same-length-9 c = search needs
@@ -130,8 +114,8 @@ returns-3 c =
     let d = c .before .before .before .before in
     let w = c .before .before .before .before .before .before .before .before .before in
     let b = start (w .before .before) in
-    answers (R b) (TA b) (TB b)
-    (four (λ x y z w. Answers (R b) (A b x y) (B b z w) (d .filled .result) (d .filled .last .1 .1 .1 .1 .1 .1 .1 .1 .1 .1 .1 .1 .1 .1 .1 .1 .1 .1 .1 .1 .0) (d .filled .last .1 .1 .1 .1 .1 .1 .1 .1 .1 .1 .1 .1 .1 .1 .1 .1 .1 .1 .1 .1 .1 .0) (d .filled .last .1 .1 .1 .1 .1 .1 .1 .1 .1 .1 .1 .1 .1 .1 .1 .1 .1 .1 .1 .1 .1 .1 .0) (d .filled .last .1 .1 .1 .1 .1 .1 .1 .1 .1 .1 .1 .1 .1 .1 .1 .1 .1 .1 .1 .1 .1 .1 .1 .0)) (toZ-ofZ (b .fits .first-root)) (toZ-ofZ (b .fits .first-least)) (toZ-ofZ (b .fits .second-root)) (toZ-ofZ (b .fits .second-least)) (d .filled .ensures))
+    answers (R b) (A b) (B b)
+    (d .filled .ensures)
 
 pub join-spec : {M : Type 1} → statement M
 join-spec =

@@ -7,7 +7,8 @@ use Rattle.stab.specs.Basic.{nat}
 use Rattle.stab.specs.Node.{Tableau, Bound, node, isExact, splitAt, bound, row, rows, rowCount}
 use Rattle.stab.specs.Rule.{splitFits, unfoldFits, clashFits, voidFits, loopFits}
 use Rattle.stab.proofs.Trees.{below-pos}
-use Rattle.branch.specs.Lent.{lent, bounded}
+use Rattle.stab.specs.Lent.{lent}
+use Rattle.branch.specs.Lent.{bounded}
 use Rattle.limits.proofs.BoundSteps.{bound-kept, split-asked, unfold-asked, clash-asked, void-asked, loop-asked, none-asked, unfold-on, void-on, clash-on, clash-with, by-natural}
 use Rattle.stab.specs.Rule.{ofRule}
 use Rattle.stab.proofs.Whole.{eqZ-of}

@@ -1,50 +1,43 @@
 use native.Mathlib.Omega.{arith}
-use mathlib.Core.Path.{_≡_, sym, _∙_, ap, ap₂}
+use mathlib.Core.Path.{_≡_, sym, _∙_, ap}
 use lib.IntN.{ℤ}
 use mir.Facts.{toZ-ofZ}
 use denote.Ref.{now}
 use borrow.Author.Needs.{needs}
-use Rattle.stab.specs.Basic.{nat, scan}
+use Rattle.stab.specs.Basic.{scan}
 use Rattle.stab.specs.Formula.{rowAt}
-use Rattle.stab.specs.Check.{formulasRefusal}
+use Rattle.stab.specs.Lent.{lentSchema}
+use Rattle.stab.specs.Check.{schemaRefusal}
 use Rattle.stab.specs.Model.{Model, pairRefusal}
 use Rattle.stab.specs.declared.Finding.the-variants.{Nothing}
 use Rattle.formula.specs.Facts.{AllFormed}
 use Rattle.model.specs.Passes.{tablesRefusal, truthRefusal}
 use Rattle.pairs.proofs.Keys.{scan-sorted}
 use Rattle.stab.proofs.Findings.{stays, nothing-found, later}
-use Rattle.model.proofs.Passes.{same₃, passed-root, model-is, schema-held, rows-few, pairs-few}
+use Rattle.model.proofs.Passes.{passed-root, model-is, schema-held, rows-few, pairs-few}
 use Rattle.model.proofs.model_pass.Statement.{statement}
 use Rattle.model.proofs.model_pass.Tie as tie
 
 abbrev model : tie.Start → Model
 model c =
-    record { schema = now (c .args .schema); schemaRows = c .args .schema-rows; root = c .args .root; least = c .args .least; n = c .args .n; pairs = now (c .args .pairs); pairRows = c .args .pair-rows }
+    record { schema = lentSchema (now (c .args .schema)) (c .args .h); n = c .args .n; pairs = now (c .args .pairs); pairRows = c .args .pair-rows }
 
 -- nothing was found in the tables' sizes, in the formula rows, in the pairs
 tables-passed : (c : tie.After-enum-told) →
     let a = c .before .before .before .args in
-    tablesRefusal (now (a .schema)) (a .schema-rows) (now (a .pairs)) (a .pair-rows) ≡ Nothing
+    tablesRefusal (now (a .schema)) (a .h .rows) (now (a .pairs)) (a .pair-rows) ≡ Nothing
 tables-passed c = nothing-found _ _ (c .before .before .tables-pass .ensures) (c .enum-told .given .1)
-
-formulas-are : (c : tie.After-formulas-pass) →
-    let start = c .before .before .before .before in
-    (c .formulas-pass .result) ≡ formulasRefusal (rowAt (now (start .args .schema))) (start .args .schema-rows) (start .args .schema-rows) (start .args .root) (start .args .least)
-formulas-are c =
-    let start = c .before .before .before .before in
-    c .formulas-pass .ensures .0
-    ∙ ap₂ (formulasRefusal (rowAt (now (start .args .schema))) (start .args .schema-rows) (start .args .schema-rows)) (toZ-ofZ (start .fits .root)) (toZ-ofZ (start .fits .least))
 
 formulas-passed : (c : tie.After-enum-told3) →
     let a = c .before .before .before .before .before .before .args in
-    formulasRefusal (rowAt (now (a .schema))) (a .schema-rows) (a .schema-rows) (a .root) (a .least) ≡ Nothing
-formulas-passed c = nothing-found _ _ (formulas-are (c .before .before)) (c .enum-told3 .given .1)
+    schemaRefusal (lentSchema (now (a .schema)) (a .h)) ≡ Nothing
+formulas-passed c = nothing-found _ _ (c .before .before .formulas-pass .ensures .0) (c .enum-told3 .given .1)
 
 all-formed : (c : tie.After-enum-told3) →
     let a = c .before .before .before .before .before .before .args in
-    AllFormed (rowAt (now (a .schema))) (a .schema-rows)
+    AllFormed (rowAt (now (a .schema))) (a .h .rows)
 all-formed c =
-    c .before .before .formulas-pass .ensures .1 (nothing-found _ _ (c .before .before .formulas-pass .ensures .0) (c .enum-told3 .given .1))
+    c .before .before .formulas-pass .ensures .1 (c .enum-told3 .given .1)
 
 pairs-passed : (c : tie.After-enum-told5) →
     let a = c .before .before .before .before .before .before .before .before .before .args in
@@ -78,7 +71,7 @@ enum-told-4 c = search needs
 returns-2 : tie.Need-returns-2
 returns-2 c =
     later _ _ _ (tables-passed (c .before .before .before))
-    (stays _ _ _ _ _ (formulas-are (c .before .before)) (c .enum-told4 .given .1))
+    (stays _ _ _ _ _ (c .before .before .formulas-pass .ensures .0) (c .enum-told4 .given .1))
     ∙ sym (model-is (model (c .before .before .before .before .before .before)))
 
 pairs-pass-requires : tie.Need-pairs-pass-requires
@@ -100,14 +93,12 @@ returns-3 c =
 
 truth-pass-requires : tie.Need-truth-pass-requires
 truth-pass-requires c κs =
-    let start = c .before .before .before .before .before .before .before .before .before in
     let tables = tables-passed (c .before .before .before .before .before .before) in
     let formulas = formulas-passed (c .before .before .before) in
-    let root = passed-root _ _ _ _ formulas in
-    let e = ap nat (toZ-ofZ (start .fits .root)) in
+    let root = passed-root _ formulas in
     record {
-      row = omega (arith, e, root, rows-few _ _ _ _ tables);
-      formed = λ r p. all-formed (c .before .before .before) r (omega (arith, e, root));
+      row = omega (arith, root, rows-few _ _ _ _ tables);
+      formed = λ r p. all-formed (c .before .before .before) r (omega (arith, root));
       few = pairs-few _ _ _ _ tables;
       sorted = scan-sorted _ _ (pairs-passed c);
     }
@@ -119,7 +110,7 @@ returns-4 c =
     (later _ _ _ (formulas-passed (c .before .before .before .before))
     (later _ _ _ (pairs-passed (c .before))
     (c .truth-pass .ensures
-    ∙ same₃ (λ (r l m : ℤ). truthRefusal (now (start .args .schema)) r l m (now (start .args .pairs)) (start .args .pair-rows)) (toZ-ofZ (start .fits .root)) (toZ-ofZ (start .fits .least)) (toZ-ofZ (start .fits .n)))))
+    ∙ ap (λ (m : ℤ). truthRefusal (lentSchema (now (start .args .schema)) (start .args .h)) m (now (start .args .pairs)) (start .args .pair-rows)) (toZ-ofZ (start .fits .n)))))
     ∙ sym (model-is (model start))
 
 pub model-pass-spec : {M : Type 1} → statement M

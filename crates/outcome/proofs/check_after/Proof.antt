@@ -1,7 +1,7 @@
 use mathlib.Core.Path.{sym, _∙_, ap}
-use mir.Facts.{toZ-ofZ}
 use Rattle.stab.specs.Read.{readProof}
 use Rattle.stab.specs.declared.Verdict.{Verdict}
+use Rattle.signed.proofs.Signs.{read-back}
 use Rattle.outcome.specs.declared.Outcome.the-variants.{Judged}
 use Rattle.outcome.proofs.Afters.{judgedTableau, proof-read, proof-refused}
 use borrow.Author.Needs.{needs}
@@ -40,20 +40,20 @@ enum-known-why c = search needs
 
 returns : tie.Need-returns
 returns c =
-    let t = c .before .before .before .before .before in
+    let told = c .before .struct-told .given in
+    let t = c .before .before .before .before .before .before in
     let b = t .before .before .before .before .before in
-    let s = b .before .before .before .before .before in
-    let a = s .args in
+    let a = b .before .before .before .before .before .args in
     let g = t .p .given .0 in
     let e = b .read-proof .ensures in
-    let root = toZ-ofZ (s .fits .root) in
-    let least = toZ-ofZ (s .fits .least) in
+    let root = read-back (a .h .root) (told .1 .0 .1) in
+    let least = read-back (a .h .least) (told .1 .1 .0 .1) in
     let rows = b .read-proof .last .1 .0 in
     let nodes = b .read-proof .last .1 .1 .0 in
     let members = b .read-proof .last .1 .1 .1 .0 in
-    ap (λ (v : Verdict). Judged v (a .rows) (g .0)) (c .check-as .ensures)
-    ∙ (λ i. judgedTableau (a .older) (a .table .now) (a .rows) (root i) (least i) rows nodes members (g .0) (g .1 .0) (g .1 .1 .0))
-    ∙ proof-read (a .older) (readProof 4096 9216 8192 (a .proof .now)) (a .table .now) (a .rows) (a .root) (a .least) rows nodes members (g .0) (g .1 .0) (g .1 .1 .0)
+    ap (λ (v : Verdict). Judged v (a .h .rows) (g .0)) (c .check-as .ensures)
+    ∙ (λ i. judgedTableau (a .older) (a .table .now) (a .h) (root i) (least i) rows nodes members (g .0) (g .1 .0) (g .1 .1 .0))
+    ∙ proof-read (a .older) (readProof 4096 9216 8192 (a .proof .now)) (a .table .now) (a .h) rows nodes members (g .0) (g .1 .0) (g .1 .1 .0)
     (sym (t .p .given .1) ∙ e .0) (e .1 .0) (e .1 .1 .0) (e .1 .1 .1)
 
 returns-2 : tie.Need-returns-2
@@ -61,7 +61,7 @@ returns-2 c =
     let b = c .before .before .before .before .before .before in
     let a = b .before .before .before .before .before .args in
     let g = c .before .why .given in
-    proof-refused (a .older) (readProof 4096 9216 8192 (a .proof .now)) (a .table .now) (a .rows) (a .root) (a .least) (g .0 .0) (g .0 .1 .0) (sym (g .1) ∙ b .read-proof .ensures .0)
+    proof-refused (a .older) (readProof 4096 9216 8192 (a .proof .now)) (a .table .now) (a .h) (g .0 .0) (g .0 .1 .0) (sym (g .1) ∙ b .read-proof .ensures .0)
 
 pub check-after-spec : {M : Type 1} → statement M
 check-after-spec =

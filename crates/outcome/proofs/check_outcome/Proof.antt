@@ -1,5 +1,6 @@
 use mathlib.Core.Path.{sym, _∙_, ap₂}
 use lib.IntN.{ℤ}
+use Rattle.stab.specs.Lent.{schemaHeader}
 use Rattle.stab.specs.Read.{readSchema, readProof}
 use Rattle.outcome.specs.Outcomes.{checkAfter, checkOutcome}
 use Rattle.outcome.proofs.Digits.{schema-back}
@@ -38,7 +39,7 @@ returns c =
     let back = schema-back (a .schema .now) (g .0) (g .1 .0) (g .1 .1 .0) told in
     let second = readProof 4096 9216 8192 (a .proof .now) in
     c .check-after .ensures
-    ∙ ap₂ (λ (x y : ℤ). checkAfter (a .older) second (b .read-schema .last .1 .0) (g .1 .1 .0) x y) (back .0) (back .1)
+    ∙ ap₂ (λ (x y : ℤ). checkAfter (a .older) second (b .read-schema .last .1 .0) (schemaHeader (g .1 .1 .0) x y)) (back .0) (back .1)
     ∙ schema-read (checkAfter (a .older) second) (readSchema 4096 (a .schema .now)) (b .read-schema .last .1 .0) (g .1 .1 .0) (g .0) (g .1 .0) told (e .1)
 
 returns-2 : tie.Need-returns-2

@@ -1,5 +1,5 @@
 use mathlib.Core.Path.{sym, _∙_, ap}
-use mir.Facts.{toZ-ofZ}
+use lib.IntN.{ℤ}
 use Rattle.stab.specs.Read.{readModel}
 use Rattle.stab.specs.declared.Verdict.{Verdict}
 use Rattle.outcome.specs.declared.Outcome.the-variants.{Judged}
@@ -31,25 +31,22 @@ returns : tie.Need-returns
 returns c =
     let t = c .before .before .before in
     let b = t .before .before .before in
-    let s = b .before .before .before in
-    let a = s .args in
+    let a = b .before .before .before .args in
     let g = t .n .given .0 in
     let e = b .read-model .ensures in
     let told = sym (t .n .given .1) ∙ e .0 in
-    let root = toZ-ofZ (s .fits .root) in
-    let least = toZ-ofZ (s .fits .least) in
     let n = model-back (a .model .now) (g .0) (g .1 .0) told in
     let pairs = b .read-model .last .1 .0 in
-    ap (λ (v : Verdict). Judged v (a .rows) 0) (c .check-model .ensures .0)
-    ∙ (λ i. judgedModel (a .table .now) (a .rows) (root i) (least i) (n i) pairs (g .1 .0))
-    ∙ model-read (readModel 8192 (a .model .now)) (a .table .now) (a .rows) (a .root) (a .least) (g .0) pairs (g .1 .0) told (e .1)
+    ap (λ (v : Verdict). Judged v (a .h .rows) 0) (c .check-model .ensures .0)
+    ∙ ap (λ (x : ℤ). judgedModel (a .table .now) (a .h) x pairs (g .1 .0)) n
+    ∙ model-read (readModel 8192 (a .model .now)) (a .table .now) (a .h) (g .0) pairs (g .1 .0) told (e .1)
 
 returns-2 : tie.Need-returns-2
 returns-2 c =
     let b = c .before .before .before .before in
     let a = b .before .before .before .args in
     let g = c .before .why .given in
-    model-refused (readModel 8192 (a .model .now)) (a .table .now) (a .rows) (a .root) (a .least) (g .0 .0) (g .0 .1 .0) (sym (g .1) ∙ b .read-model .ensures .0)
+    model-refused (readModel 8192 (a .model .now)) (a .table .now) (a .h) (g .0 .0) (g .0 .1 .0) (sym (g .1) ∙ b .read-model .ensures .0)
 
 pub model-after-spec : {M : Type 1} → statement M
 model-after-spec =

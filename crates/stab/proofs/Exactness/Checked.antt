@@ -3,10 +3,12 @@ use Prim.Native.Nat.{ℕ, _*_, _<_}
 use native.Mathlib.Omega.{arith}
 use mathlib.Core.Path.{_≡_, _∙_}
 use mathlib.Core.Logic.{Iff·trans}
+use mathlib.Core.Bool.{Bool, true, false}
 use lib.ListN.{length}
-use Rattle.stab.specs.Basic.{_otherwise_}
+use Rattle.stab.specs.Basic.{_implies_, _otherwise_}
 use Rattle.stab.specs.Node.{Tableau, rows, rowCount}
-use Rattle.stab.specs.Check.{holds, setRefusal, parentRefusal, nodeRefusal, tablesHold, withinLimits, refusalWith, olderFormulas, presentFormulas}
+use Rattle.stab.specs.Check.{holds, formulasRefusal, setRefusal, parentRefusal, nodeRefusal, tablesHold, withinLimits, enoughNodes, refusal, presentMode, olderMode}
+use Rattle.stab.specs.Before.{Tests, nodeBy, refusalBy}
 use Rattle.stab.specs.Keeps.{KeepsParent, KeepsTables, KeepsNode, KeepsOlder, Keeps}
 use Rattle.stab.specs.declared.Refusal.the-variants.{TableTooShort, TooMany, Parent}
 use Rattle.stab.specs.declared.Verdict.{Verdict}
@@ -19,16 +21,16 @@ use Rattle.stab.proofs.Exactness.Formulas.{formulas-clears, present-cle
 use Rattle.stab.proofs.Exactness.Nodes.{set-clears, parent-clears}
 use Rattle.stab.proofs.Exactness.Steps.{step-clears}
 
--- by any finding about formulas that clears a statement
-module _ (T : Tableau) (found : Tableau → Finding) (F : Type 0) (found-clears : found T clears F) where
+-- a whole record, older or not, where what is found of its formulas clears a statement
+module _ (T : Tableau) (older : Bool) (F : Type 0) (found-clears : formulasRefusal older (rows T) (rowCount T) (T .schemaRows) (T .root) (T .least) clears F) where
   record Cleared : Type 0 where
     tables : KeepsTables T
     formulas : F
     hasNode : 0 < T .nodeRows
     nodes : (j : ℕ) → j < T .nodeRows → KeepsNode T j
 
-  cleared : refusalWith found nodeRefusal T clears Cleared
-  unfolding refusalWith tablesHold holds withinLimits
+  cleared : refusal (record { older = older; whole = true }) T clears Cleared
+  unfolding refusal tablesHold holds withinLimits enoughNodes _implies_
   cleared =
       Iff·trans
       (whole-clears TableTooShort
@@ -41,7 +43,7 @@ module _ (T : Tableau) (found : Tableau → Finding) (F : Type 0) (found-clears 
       scan-clears (setRefusal T) (T .nodeRows) (λ j l. set-clears T j) then
       whole-clears Parent (lt-tests 0 (T .nodeRows)) then
       scan-clears (parentRefusal T) (T .nodeRows) (λ j l. parent-clears T j) then
-      scan-clears (nodeRefusal T) (T .nodeRows) (λ j l. step-clears T j)) (
+      scan-clears (nodeRefusal true T) (T .nodeRows) (λ j l. step-clears T j)) (
         λ p. record {
           tables = record {
             schemaHeld = p .0 .0;
@@ -82,16 +84,17 @@ module _ (T : Tableau) (found : Tableau → Finding) (F : Type 0) (found-clears 
       )
 
 -- the older check, and the check
-pub older-clears : (T : Tableau) → refusalWith olderFormulas nodeRefusal T clears KeepsOlder T
-unfolding olderFormulas
+pub older-clears : (T : Tableau) → refusal olderMode T clears KeepsOlder T
+unfolding olderMode
 older-clears T =
     Iff·trans
-    (cleared T olderFormulas _ (formulas-clears (rows T) (rowCount T) (T .schemaRows) (T .root) (T .least)))
+    (cleared T true _ (formulas-clears (rows T) (rowCount T) (T .schemaRows) (T .root) (T .least)))
     (λ c. record { tables = c .tables; formulas = c .formulas; hasNode = c .hasNode; nodes = c .nodes }, λ k. record { tables = k .tables; formulas = k .formulas; hasNode = k .hasNode; nodes = k .nodes })
 
-pub tableau-clears : (T : Tableau) → refusalWith presentFormulas nodeRefusal T clears Keeps T
+pub tableau-clears : (T : Tableau) → refusal presentMode T clears Keeps T
+unfolding presentMode
 tableau-clears T =
-    Iff·trans (cleared T presentFormulas _ (present-clears T)) (
+    Iff·trans (cleared T false _ (present-clears T)) (
       λ c. record {
         older = record { tables = c .tables; formulas = c .formulas .0; hasNode = c .hasNode; nodes = c .nodes };
         fresh = c .formulas .1;
@@ -99,32 +102,34 @@ tableau-clears T =
       λ k. record { tables = k .older .tables; formulas = (k .older .formulas, k .fresh); hasNode = k .older .hasNode; nodes = k .older .nodes },
     )
 
--- two judges of nodes find the same in a tableau if they find the same at each node before which nothing is found
-pub refusal-by-same : (judge judge′ : Tableau → ℕ → Finding) (T : Tableau) → (((k : ℕ) → k < T .nodeRows → KeepsParent T k) → (j : ℕ) → j < T .nodeRows → ((k : ℕ) → k < j → judge′ T k ≡ Nothing) → judge T j ≡ judge′ T j) → refusalWith olderFormulas judge T ≡ refusalWith olderFormulas judge′ T
-unfolding refusalWith
-refusal-by-same judge judge′ T same =
+-- ---- the check by other tests of a node
+
+-- two such checks find the same in a tableau if they find the same at each node before which nothing is found
+pub refusal-by-same : (t u : Tests) (T : Tableau) → (((k : ℕ) → k < T .nodeRows → KeepsParent T k) → (j : ℕ) → j < T .nodeRows → ((k : ℕ) → k < j → nodeBy u T k ≡ Nothing) → nodeBy t T j ≡ nodeBy u T j) → refusalBy t T ≡ refusalBy u T
+unfolding refusalBy
+refusal-by-same t u T same =
     otherwise-same _ _ _ (λ a.
     otherwise-same _ _ _ (λ b.
     otherwise-same _ _ _ (λ c.
     otherwise-same _ _ _ (λ d.
     otherwise-same _ _ _ (λ e.
     otherwise-same _ _ _ (λ p.
-    scan-same (judge T) (judge′ T) (T .nodeRows) (λ j l h.
-    same (scan-clears (parentRefusal T) (T .nodeRows) (λ i m. parent-clears T i) .0 p) j l (nothing-scan (judge′ T) j h))))))))
+    scan-same (nodeBy t T) (nodeBy u T) (T .nodeRows) (λ j l h.
+    same (scan-clears (parentRefusal T) (T .nodeRows) (λ i m. parent-clears T i) .0 p) j l (nothing-scan (nodeBy u T) j h))))))))
 
 -- nothing is found at last, where nothing is found first
 at-last : {x y z : Finding} → (x otherwise y) ≡ Nothing → (x ≡ Nothing → y ≡ Nothing → z ≡ Nothing) → (x otherwise z) ≡ Nothing
 at-last {x} {y} {z} h f = otherwise-nothing x z (otherwise-first x y h) ∙ f (otherwise-first x y h) (otherwise-second x y h)
 
--- where one judge of nodes finds nothing in a tableau, neither does another that finds nothing at any node then
-pub refusal-by-kept : (judge judge′ : Tableau → ℕ → Finding) (T : Tableau) → (((k : ℕ) → k < T .nodeRows → KeepsParent T k) → ((k : ℕ) → k < T .nodeRows → judge T k ≡ Nothing) → (j : ℕ) → j < T .nodeRows → judge′ T j ≡ Nothing) → refusalWith olderFormulas judge T ≡ Nothing → refusalWith olderFormulas judge′ T ≡ Nothing
-unfolding refusalWith
-refusal-by-kept judge judge′ T kept h =
+-- where one finds nothing in a tableau, neither does the older check if it finds nothing at any node then
+pub refusal-by-kept : (t : Tests) (T : Tableau) → (((k : ℕ) → k < T .nodeRows → KeepsParent T k) → ((k : ℕ) → k < T .nodeRows → nodeBy t T k ≡ Nothing) → (j : ℕ) → j < T .nodeRows → nodeRefusal true T j ≡ Nothing) → refusalBy t T ≡ Nothing → refusal olderMode T ≡ Nothing
+unfolding refusalBy refusal olderMode
+refusal-by-kept t T kept h =
     at-last h (λ a h₁.
     at-last h₁ (λ b h₂.
     at-last h₂ (λ c h₃.
     at-last h₃ (λ d h₄.
     at-last h₄ (λ e h₅.
     at-last h₅ (λ p h₆.
-    scan-nothing (judge′ T) (T .nodeRows)
-    (kept (scan-clears (parentRefusal T) (T .nodeRows) (λ i m. parent-clears T i) .0 p) (nothing-scan (judge T) (T .nodeRows) h₆))))))))
+    scan-nothing (nodeRefusal true T) (T .nodeRows)
+    (kept (scan-clears (parentRefusal T) (T .nodeRows) (λ i m. parent-clears T i) .0 p) (nothing-scan (nodeBy t T) (T .nodeRows) h₆))))))))

@@ -3,7 +3,7 @@ use Prim.Native.Nat.{ℕ, zero, suc, _<_, _≤_}
 use native.Mathlib.Omega.{arith}
 use mathlib.Core.Path.{_≡_, sym, _∙_, ap}
 use mathlib.Core.Logic.{Iff·trans, _≢_, inl, inr, ⊎-elim}
-use mathlib.Core.Bool.{true≢false, false≢true}
+use mathlib.Core.Bool.{true, false, true≢false, false≢true}
 use borrow.Author.Tests.{ltb-true, ltb-false}
 use lib.Dec.{ltb}
 use lib.IntN.{ℤ, pos}
@@ -11,7 +11,7 @@ use Rattle.stab.specs.Basic.{nat}
 use Rattle.stab.specs.Formula.{Row, tree, size, depth, smallEnough}
 use Rattle.stab.specs.Node.{Tableau, rowCount}
 use Rattle.stab.specs.Node.{rows as rowsOf}
-use Rattle.stab.specs.Check.{rowRefusal, standsBefore, repeatRefusal, freshRowRefusal, rootFits, formulasBy, formulasRefusal, presentFormulas}
+use Rattle.stab.specs.Check.{rowRefusal, standsBefore, repeatRefusal, formulaRefusal, rootFits, formulasRefusal}
 use Rattle.stab.specs.Keeps.{KeepsRow, KeepsFormulas, Fresh}
 use Rattle.stab.specs.declared.Refusal.the-variants.{Root, IllFormed, TooLarge, Repeated}
 use Rattle.stab.proofs.Bools.{decide}
@@ -27,12 +27,12 @@ row-clears rows r =
     at-clears TooLarge r (le-tests (size (tree rows r)) 4096 & le-tests (depth (tree rows r)) 64))
     (λ p. record { formed = p .0; small = p .1 .0; flat = p .1 .1 }, λ k. (k .formed, (k .small, k .flat)))
 
-pub formulas-clears : (rows : ℕ → Row) (n s : ℕ) (root least : ℤ) → formulasRefusal rows n s root least clears KeepsFormulas rows n s root least
-unfolding formulasRefusal formulasBy rootFits
+pub formulas-clears : (rows : ℕ → Row) (n s : ℕ) (root least : ℤ) → formulasRefusal true rows n s root least clears KeepsFormulas rows n s root least
+unfolding formulasRefusal formulaRefusal rootFits
 formulas-clears rows n s root least =
     Iff·trans
     (whole-clears Root (below-tests s root & within-tests (pos 0) (pos 9999) least) then
-    scan-clears (rowRefusal rows) n (λ r l. row-clears rows r) then
+    scan-clears (formulaRefusal true rows s) n (λ r l. row-clears rows r) then
     whole-clears Root (outer-tests (tree rows (nat root))))
     (λ p. record { rootRow = p .0 .0; leastRange = p .0 .1; each = p .1 .0; rootOuter = p .1 .1 }, λ k. ((k .rootRow, k .leastRange), (k .each, k .rootOuter)))
 
@@ -74,12 +74,12 @@ repeat-clears rows s r =
           (decide (ltb r s)),
     ))
 
-pub present-clears : (T : Tableau) → presentFormulas T clears (KeepsFormulas (rowsOf T) (rowCount T) (T .schemaRows) (T .root) (T .least) × Fresh T)
-unfolding presentFormulas formulasBy freshRowRefusal rootFits
+pub present-clears : (T : Tableau) → formulasRefusal false (rowsOf T) (rowCount T) (T .schemaRows) (T .root) (T .least) clears (KeepsFormulas (rowsOf T) (rowCount T) (T .schemaRows) (T .root) (T .least) × Fresh T)
+unfolding formulasRefusal formulaRefusal rootFits
 present-clears T =
     Iff·trans
     (whole-clears Root (below-tests (T .schemaRows) (T .root) & within-tests (pos 0) (pos 9999) (T .least)) then
-    scan-clears (freshRowRefusal (rowsOf T) (T .schemaRows)) (rowCount T) (λ r l. row-clears (rowsOf T) r then repeat-clears (rowsOf T) (T .schemaRows) r) then
+    scan-clears (formulaRefusal false (rowsOf T) (T .schemaRows)) (rowCount T) (λ r l. row-clears (rowsOf T) r then repeat-clears (rowsOf T) (T .schemaRows) r) then
     whole-clears Root (outer-tests (tree (rowsOf T) (nat (T .root))))) (
       λ p. (
         record { rootRow = p .0 .0; leastRange = p .0 .1; each = λ r l. p .1 .0 r l .0; rootOuter = p .1 .1 },

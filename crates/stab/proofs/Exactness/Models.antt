@@ -6,8 +6,8 @@ use mathlib.Core.Logic.{Iff·trans}
 use mathlib.Core.List.{List}
 use lib.IntN.{ℤ, pos, negℤ}
 use lib.ListN.{length}
-use Rattle.stab.specs.Check.{holds}
-use Rattle.stab.specs.Model.{Model, schemaRow, pairSymbol, pairIndex, pairInRange, pairBefore, pairFollows, pairRefusal, satisfied, modelRefusal}
+use Rattle.stab.specs.Check.{holds, schemaRefusal}
+use Rattle.stab.specs.Model.{Model, pairSymbol, pairIndex, pairInRange, pairBefore, pairFollows, pairRefusal, satisfied, modelRefusal}
 use Rattle.stab.specs.Keeps.{PairBefore, KeepsPair, KeepsModel}
 use Rattle.stab.specs.declared.Refusal.the-variants.{TableTooShort, TooMany, Pair, Width, False}
 use Rattle.stab.proofs.Tests.{_tests_, itself, _&_, or-tests, le-tests, leZ-tests, ltZ-tests, eqZ-tests, within-tests, _clears_, whole-clears, at-clears, _then_, scan-clears}
@@ -35,14 +35,14 @@ pair-clears t k =
     (λ p. record { symbol = p .0 .0; index = p .0 .1; follows = p .1 }, λ q. ((q .symbol, q .index), q .follows))
 
 pub model-clears : (M : Model) → modelRefusal M clears KeepsModel M
-unfolding modelRefusal holds
+unfolding modelRefusal schemaRefusal holds
 model-clears M =
     Iff·trans
-    (whole-clears TableTooShort (le-tests (4 * M .schemaRows) (length (M .schema)) & le-tests (2 * M .pairRows) (length (M .pairs))) then
-    whole-clears TooMany (le-tests (M .schemaRows) 1024 & le-tests (M .pairRows) 4096) then
-    formulas-clears (schemaRow M) (M .schemaRows) (M .schemaRows) (M .root) (M .least) then
+    (whole-clears TableTooShort (le-tests (4 * M .schema .rows) (length (M .schema .table)) & le-tests (2 * M .pairRows) (length (M .pairs))) then
+    whole-clears TooMany (le-tests (M .schema .rows) 1024 & le-tests (M .pairRows) 4096) then
+    formulas-clears _ (M .schema .rows) (M .schema .rows) (M .schema .root) (M .schema .least) then
     scan-clears (pairRefusal (M .pairs)) (M .pairRows) (λ k l. pair-clears (M .pairs) k) then
-    whole-clears Width (leZ-tests (M .least) (M .n) & leZ-tests (M .n) (pos 9999)) then
+    whole-clears Width (leZ-tests (M .schema .least) (M .n) & leZ-tests (M .n) (pos 9999)) then
     whole-clears False (itself (satisfied M))) (
       λ p. record {
         schemaHeld = p .0 .0;

@@ -7,8 +7,9 @@ use lib.IntN.{ℤ}
 use Rattle.stab.specs.Basic.{_otherwise_, scan, unless}
 use Rattle.stab.specs.Formula.{Row}
 use Rattle.stab.specs.Node.{Tableau, rows, rowCount}
-use Rattle.stab.specs.Check.{wholeUnless, atUnless, rowRefusal, repeatRefusal, freshRowRefusal, formulasBy, formulasRefusal, setRefusal, parentRefusal, stepRefusal, nodeRefusal, withinLimits, refusalWith, olderFormulas, presentFormulas, verdict, check, refusal, linkCount}
-use Rattle.stab.specs.Model.{Model, pairRefusal, schemaRow, modelRefusal}
+use Rattle.stab.specs.Check.{wholeUnless, atUnless, rowRefusal, repeatRefusal, formulaRefusal, formulasRefusal, schemaRefusal, setRefusal, parentRefusal, stepRefusal, nodeRefusal, withinLimits, refusal, presentMode, olderMode, verdict, verdictOn, check, linkCount}
+use Rattle.stab.specs.Model.{Model, pairRefusal, modelRefusal}
+use Rattle.stab.specs.declared.Mode.{Mode}
 use Rattle.stab.specs.declared.Place.{Place}
 use Rattle.stab.specs.declared.Place.the-variants.{Whole, At}
 use Rattle.stab.specs.declared.Refusal.{Refusal}
@@ -58,23 +59,17 @@ unfolding scan
 of-scan f zero l h why place e = absurd (nothing≢found e)
 of-scan f (suc n) l h why place e = _or-else_ (of-scan f n (omega arith) h) (h n (omega arith)) why place e
 
-pub of-formulas : (rows : ℕ → Row) (n s : ℕ) (root least : ℤ) → n ≤ 4096 → FindsNear (formulasRefusal rows n s root least)
-unfolding formulasRefusal formulasBy rowRefusal
-of-formulas rows n s root least l =
-    of-whole _ _ or-else
-    of-scan (rowRefusal rows) n l (λ r k. of-at _ _ r k or-else of-at _ _ r k) or-else
-    of-whole _ _
+of-row : (older : Bool) (rows : ℕ → Row) (s r : ℕ) → r < 4096 → FindsNear (formulaRefusal older rows s r)
+unfolding formulaRefusal rowRefusal repeatRefusal
+of-row true rows s r k = of-at _ _ r k or-else of-at _ _ r k
+of-row false rows s r k = (of-at _ _ r k or-else of-at _ _ r k) or-else of-at _ _ r k
 
-of-present : (T : Tableau) → rowCount T ≤ 4096 → FindsNear (presentFormulas T)
-unfolding presentFormulas formulasBy freshRowRefusal rowRefusal repeatRefusal
-of-present T l =
+pub of-formulas : (older : Bool) (rows : ℕ → Row) (n s : ℕ) (root least : ℤ) → n ≤ 4096 → FindsNear (formulasRefusal older rows n s root least)
+unfolding formulasRefusal
+of-formulas older rows n s root least l =
     of-whole _ _ or-else
-    of-scan (freshRowRefusal (rows T) (T .schemaRows)) (rowCount T) l (λ r k. (of-at _ _ r k or-else of-at _ _ r k) or-else of-at _ _ r k) or-else
+    of-scan (formulaRefusal older rows s) n l (of-row older rows s) or-else
     of-whole _ _
-
-of-older : (T : Tableau) → rowCount T ≤ 4096 → FindsNear (olderFormulas T)
-unfolding olderFormulas
-of-older T l = of-formulas (rows T) (rowCount T) (T .schemaRows) (T .root) (T .least) l
 
 -- 11 to 17, by any tests
 of-tests : (j : ℕ) (drawn fields target bound partners lowered children : Bool) → j < 4096 → FindsNear ((atUnless drawn Drawn j otherwise atUnless fields Fields j otherwise atUnless target Target j otherwise atUnless bound Bound j otherwise atUnless partners Partner j otherwise atUnless lowered Lowered j) otherwise atUnless children Children j)
@@ -82,38 +77,29 @@ of-tests j drawn fields target bound partners lowered children l =
     (of-at _ _ j l or-else of-at _ _ j l or-else of-at _ _ j l or-else of-at _ _ j l or-else of-at _ _ j l or-else of-at _ _ j l) or-else
     of-at _ _ j l
 
--- the check, with any findings about formulas and nodes that are refusals
-of-refusal-with : (formulas : Tableau → Finding) (judge : Tableau → ℕ → Finding) (T : Tableau) → (rowCount T ≤ 4096 → FindsNear (formulas T)) → ((j : ℕ) → j < 4096 → FindsNear (judge T j)) → FindsNear (refusalWith formulas judge T)
-unfolding refusalWith setRefusal parentRefusal withinLimits
-of-refusal-with formulas judge T of-rows each =
+pub of-refusal : (m : Mode) (T : Tableau) → FindsNear (refusal m T)
+unfolding refusal setRefusal parentRefusal nodeRefusal stepRefusal withinLimits
+of-refusal m T =
     of-whole _ _ or-else
     once (of-whole _ TooMany)
     (λ h.
     let limits = whole-clears TooMany (le-tests (rowCount T) 1024 & le-tests (T .nodeRows) 1024 & le-tests (T .memberCount) 8192) .0 h in
     let few : rowCount T ≤ 4096 = omega (arith, limits .0) in
     let nodes : T .nodeRows ≤ 4096 = omega (arith, limits .1 .0) in
-    of-rows few or-else
+    of-formulas (m .older) (rows T) (rowCount T) (T .schemaRows) (T .root) (T .least) few or-else
     of-scan (setRefusal T) (T .nodeRows) nodes (λ j l. of-at _ _ j l) or-else
     of-whole _ _ or-else
     of-scan (parentRefusal T) (T .nodeRows) nodes (λ j l. of-at _ _ j l) or-else
-    of-scan (judge T) (T .nodeRows) nodes each)
-
-pub of-older-refusal : (T : Tableau) → FindsNear (refusalWith olderFormulas nodeRefusal T)
-unfolding nodeRefusal stepRefusal
-of-older-refusal T = of-refusal-with olderFormulas nodeRefusal T (of-older T) (λ j. of-tests j _ _ _ _ _ _ _)
-
-pub of-refusal : (T : Tableau) → FindsNear (refusal T)
-unfolding refusal nodeRefusal stepRefusal
-of-refusal T = of-refusal-with presentFormulas nodeRefusal T (of-present T) (λ j. of-tests j _ _ _ _ _ _ _)
+    of-scan (nodeRefusal (m .whole) T) (T .nodeRows) nodes (λ j. of-tests j _ _ _ _ _ _ _))
 
 pub of-model-refusal : (M : Model) → FindsNear (modelRefusal M)
-unfolding modelRefusal pairRefusal
+unfolding modelRefusal schemaRefusal pairRefusal
 of-model-refusal M =
     of-whole _ _ or-else
     once (of-whole _ TooMany)
     (λ h.
-    let limits = whole-clears TooMany (le-tests (M .schemaRows) 1024 & le-tests (M .pairRows) 4096) .0 h in
-    of-formulas (schemaRow M) (M .schemaRows) (M .schemaRows) (M .root) (M .least) (omega (arith, limits .0)) or-else
+    let limits = whole-clears TooMany (le-tests (M .schema .rows) 1024 & le-tests (M .pairRows) 4096) .0 h in
+    of-formulas true _ (M .schema .rows) (M .schema .rows) (M .schema .root) (M .schema .least) (omega (arith, limits .0)) or-else
     of-scan (pairRefusal (M .pairs)) (M .pairRows) (omega (arith, limits .1)) (λ k l. of-at _ _ k l) or-else
     of-whole _ _ or-else
     of-whole _ _)
@@ -134,14 +120,14 @@ refused Nothing m k why p h =
     absurd (omega arith)
 refused (Found w q) m k why p h = cc
 
-pub accepted-finds : (T : Tableau) (n l : ℕ) → check T ≡ Accepted n l → refusal T ≡ Nothing
-unfolding check
-accepted-finds T n l h = accepted (refusal T) (T .nodeRows) (linkCount T) n l h .0
+pub accepted-finds : (T : Tableau) (n l : ℕ) → check T ≡ Accepted n l → refusal presentMode T ≡ Nothing
+unfolding check verdictOn
+accepted-finds T n l h = accepted (refusal presentMode T) (T .nodeRows) (linkCount T) n l h .0
 
-pub refused-finds : (T : Tableau) (why : Refusal) (p : Place) → check T ≡ Refused why p → refusal T ≡ Found why p
-unfolding check
-refused-finds T why p h = refused (refusal T) (T .nodeRows) (linkCount T) why p h
+pub refused-finds : (T : Tableau) (why : Refusal) (p : Place) → check T ≡ Refused why p → refusal presentMode T ≡ Found why p
+unfolding check verdictOn
+refused-finds T why p h = refused (refusal presentMode T) (T .nodeRows) (linkCount T) why p h
 
-pub finds-accepted : (T : Tableau) → refusal T ≡ Nothing → check T ≡ Accepted (T .nodeRows) (linkCount T)
-unfolding check verdict
+pub finds-accepted : (T : Tableau) → refusal presentMode T ≡ Nothing → check T ≡ Accepted (T .nodeRows) (linkCount T)
+unfolding check verdictOn verdict
 finds-accepted T h = ap (λ (x : Finding). verdict x (Accepted (T .nodeRows) (linkCount T))) h

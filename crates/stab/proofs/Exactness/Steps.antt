@@ -13,7 +13,7 @@ use Rattle.stab.specs.Basic.{_or_, eqZ, nat, below}
 use Rattle.stab.specs.Formula.{Row}
 use Rattle.stab.specs.Alike.{lower, instance}
 use Rattle.stab.specs.Node.{Tableau, Node, Bound, rowCount, isRow, row, formula, node, set, isUpper, isExact, splitAt, bound, childCount}
-use Rattle.stab.specs.Rule.{unused, rule, ofRule, kindFits, onStands, otherFits, linkFits, symbolFits, fieldsFit, targetFits, staysBelow, splitFits, unfoldFits, indexAt, clashFits, voidFits, upperFits, loopFits, boundFits, shortened, isInstance, partnersFit, isLowered, hasLowered, loweredFits, childrenFit}
+use Rattle.stab.specs.Rule.{unused, rule, ofRule, kindFits, onStands, otherFits, linkFits, symbolFits, fieldsFit, targetFits, staysBelow, splitFits, unfoldFits, indexAt, clashFits, voidFits, upperFits, loopFits, boundFits, shortened, isInstance, partnersFit, isLowered, hasLowered, loweredFits, childrenFit, childrenAs}
 use Rattle.stab.specs.Check.{stepRefusal, nodeRefusal}
 use Rattle.stab.specs.Keeps.{Below, Alike, KeepsDrawn, KeepsKind, Splits, SameIndex, Loops, KeepsStep}
 use Rattle.stab.specs.declared.Refusal.the-variants.{Drawn, Fields as FieldsWrong, Target, Bound as BoundWrong, Partner, Lowered, Children}
@@ -244,8 +244,8 @@ record Judged (T : Tableau) (j : ℕ) : Type 0 where
   lowered : node T j .rule ≡ pos 8 → (z : ℤ) → List·Memᴰ z (set T (nat (node T j .to))) → Lowers T (node T j .by) (set T j) z
   children : childCount T j ≡ rule T j .children
 
-judged-clears : (T : Tableau) (j : ℕ) → nodeRefusal T j clears Judged T j
-unfolding nodeRefusal stepRefusal childrenFit
+judged-clears : (T : Tableau) (j : ℕ) → nodeRefusal true T j clears Judged T j
+unfolding nodeRefusal stepRefusal childrenAs childrenFit
 judged-clears T j =
     Iff·trans
     ((at-clears Drawn j (drawn-tests T j) then
@@ -349,6 +349,6 @@ judged-keeps T j d k = record {
   children = k .children;
 }
 
-pub step-clears : (T : Tableau) (j : ℕ) → nodeRefusal T j clears (KeepsDrawn T j × KeepsStep T j)
+pub step-clears : (T : Tableau) (j : ℕ) → nodeRefusal true T j clears (KeepsDrawn T j × KeepsStep T j)
 step-clears T j =
     Iff·trans (judged-clears T j) (λ k. (k .drawn, keeps-judged T j k), λ p. judged-keeps T j (p .0) (p .1))

@@ -8,9 +8,13 @@ use lib.ListN.{length}
 use Rattle.stab.specs.Text.{padded}
 use Rattle.stab.specs.declared.ProofRead.the-variants.{Proof}
 use Rattle.signed.proofs.Tables.{cleared-padded}
-use Rattle.tidied.specs.Tidied.{newNumber, folding}
+use Rattle.stab.specs.Node.{Tableau}
+use Rattle.stab.specs.Lent.{lent}
+use Rattle.tidied.specs.Tidied.{newNumber, foldingOf, newOf, tidied}
+use Rattle.tidied.specs.Tidy.{tidyAnswer}
 use Rattle.folds.proofs.Numbers.{new-padded}
 use Rattle.tidy.specs.Kept.{AllFit, Tidies}
+use Rattle.tidy.proofs.Fitting.{bare-members, bare-nodes}
 use Rattle.tidy.proofs.tidied.Statement.{statement}
 use Rattle.tidy.proofs.tidied.Tie as tie
 
@@ -21,11 +25,12 @@ start c = c .before .before .before
 abbrev numbers : tie.After-fold → List ℕ
 numbers c = c .fold .last .1 .1 .1 .1 .1 .0
 
-abbrev new : tie.Start → ℕ → ℕ
-new b = let a = b .args in newNumber (a .s) (folding (a .schema .now) (a .s) (a .proof .now) (a .p) .numbers)
+abbrev Lent : tie.Start → Tableau
+Lent b = let a = b .args in lent (a .schema .now) (a .proof .now) (a .nodes .now) (a .members .now) (a .h)
 
-same-numbers : (c : tie.After-fold) → newNumber (start c .args .s) (numbers c) ≡ new (start c)
-same-numbers c = ap (newNumber (start c .args .s)) (c .fold .ensures .1 .1 .0) ∙ new-padded (start c .args .s) _ _
+same-numbers : (c : tie.After-fold) → newNumber (start c .args .h .«schema_rows») (numbers c) ≡ newOf (Lent (start c))
+unfolding newOf foldingOf
+same-numbers c = ap (newNumber (start c .args .h .«schema_rows»)) (c .fold .ensures .1 .1 .0) ∙ new-padded (start c .args .h .«schema_rows») _ _
 
 -- where the nodes are put
 abbrev fold-of : tie.After-each-node → tie.After-fold
@@ -33,11 +38,11 @@ fold-of c = c .before .before .before .before .before .before
 
 kept : (c : tie.After-each-node) →
     let b = start (fold-of c) in
-    Tidies (b .args .nodes .now) (b .args .members .now) (new b) (b .args .k) (c .each-node .result) (c .each-node .last .1 .1 .1 .1 .1 .0) (c .each-node .last .1 .1 .1 .1 .1 .1 .0)
+    Tidies (b .args .nodes .now) (b .args .members .now) (newOf (Lent b)) (b .args .h .«node_rows») (c .each-node .result) (c .each-node .last .1 .1 .1 .1 .1 .0) (c .each-node .last .1 .1 .1 .1 .1 .1 .0)
 kept c =
     let f = fold-of c in
     let b = start f in
-    subst (λ (g : ℕ → ℕ). Tidies (b .args .nodes .now) (b .args .members .now) g (b .args .k) (c .each-node .result) (c .each-node .last .1 .1 .1 .1 .1 .0) (c .each-node .last .1 .1 .1 .1 .1 .1 .0)) (same-numbers f) (c .each-node .ensures .0)
+    subst (λ (g : ℕ → ℕ). Tidies (b .args .nodes .now) (b .args .members .now) g (b .args .h .«node_rows») (c .each-node .result) (c .each-node .last .1 .1 .1 .1 .1 .0) (c .each-node .last .1 .1 .1 .1 .1 .1 .0)) (same-numbers f) (c .each-node .ensures .0)
 
 slice-aggregate-fold : tie.Need-slice-aggregate-fold
 slice-aggregate-fold c = search needs
@@ -53,7 +58,7 @@ each-node-requires c κs =
     let f = c .before .before .before .before .before in
     let b = start f in (
       (b .pre .0 .1, b .pre .0 .3, b .pre .0 .4, f .fold .ensures .1 .1 .1),
-      subst (λ (g : ℕ → ℕ). AllFit (b .args .nodes .now) (b .args .members .now) g (b .args .k)) (sym (same-numbers f)) (b .pre .1),
+      subst (λ (g : ℕ → ℕ). AllFit (b .args .nodes .now) (b .args .members .now) g (b .args .h .«node_rows»)) (sym (same-numbers f)) (b .pre .1),
     )
 
 mul-clear : tie.Need-mul-clear
@@ -77,20 +82,23 @@ same-length-3 : tie.Need-same-length-3
 same-length-3 c = search needs
 
 returns : tie.Need-returns
+unfolding tidyAnswer tidied foldingOf
 returns c =
     let q = c .before in
     let p = q .before .before .before in
     let d = p .before .before .before .before in
     let f = fold-of d in
     let b = start f in
+    let k = b .args .h .«node_rows» in
     let same = d .each-node .kept .1 .1 .1 .1 .1 in
-    let i = kept d in (
-      ap₂ (λ (n m : ℕ). Proof n (b .args .k) m) (f .fold .ensures .0) (i .counted),
+    let i = kept d in
+    let members = bare-members (Lent b) (newOf (Lent b)) k in (
+      ap₂ (λ (n m : ℕ). Proof n k m) (f .fold .ensures .0) (i .counted ∙ ap length members),
       (
         f .fold .ensures .1 .0,
         (
-          p .clear .ensures ∙ cleared-padded _ (9 * b .args .k) (length (b .args .out-nodes .now)) (omega (arith, same .0, b .pre .0 .3)) (same .0) ∙ ap (padded (pos 0) (length (b .args .out-nodes .now))) (i .rows),
-          q .clear2 .ensures ∙ cleared-padded _ (d .each-node .result) (length (b .args .out-members .now)) (omega (arith, d .each-node .ensures .1, same .1 .0, b .pre .0 .4)) (same .1 .0) ∙ ap (padded (pos 0) (length (b .args .out-members .now))) (i .sets),
+          p .clear .ensures ∙ cleared-padded _ (9 * k) (length (b .args .out-nodes .now)) (omega (arith, same .0, b .pre .0 .3)) (same .0) ∙ ap (padded (pos 0) (length (b .args .out-nodes .now))) (i .rows ∙ bare-nodes (Lent b) (newOf (Lent b)) k),
+          q .clear2 .ensures ∙ cleared-padded _ (d .each-node .result) (length (b .args .out-members .now)) (omega (arith, d .each-node .ensures .1, same .1 .0, b .pre .0 .4)) (same .1 .0) ∙ ap (padded (pos 0) (length (b .args .out-members .now))) (i .sets ∙ members),
         ),
       ),
     )

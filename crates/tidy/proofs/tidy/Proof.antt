@@ -1,12 +1,10 @@
 use borrow.Author.Needs.{needs}
 use native.Mathlib.Omega.{arith}
 use Prim.Native.Nat.{_*_, _≤_}
-use mathlib.Core.Path.{_≡_, sym, _∙_, ap, ap₂}
+use mathlib.Core.Path.{_≡_, sym, _∙_}
 use mathlib.Core.Bool.{true, false}
 use lib.Dec.{leb}
-use lib.IntN.{ℤ}
 use lib.ListN.{length}
-use mir.Facts.{toZ-ofZ}
 use borrow.Author.Tests.{leb-true}
 use Rattle.stab.specs.Basic.{_and_}
 use Rattle.stab.specs.Node.{Tableau, rowCount}
@@ -15,8 +13,8 @@ use Rattle.stab.specs.Keeps.{KeepsOlder}
 use Rattle.stab.specs.declared.Verdict.the-variants.{Accepted, Refused}
 use Rattle.stab.proofs.Bools.{and-left, and-right, asked-false, asked-true}
 use Rattle.stab.proofs.Exactness.{older-accepts-exactly}
-use Rattle.branch.specs.Work.{tableau}
-use Rattle.tidied.specs.Tidied.{foldingOf, newOf}
+use Rattle.stab.specs.Lent.{lent}
+use Rattle.tidied.specs.Tidied.{newOf}
 use Rattle.tidied.specs.Tidy.{Rooms}
 use Rattle.tidy.specs.Kept.{rooms}
 use Rattle.tidy.proofs.Fitting.{sets-fit}
@@ -25,13 +23,8 @@ use Rattle.tidy.proofs.tidy.Statement.{statement}
 use Rattle.tidy.proofs.tidy.Tie as tie
 
 -- the record and the rooms that are lent
-abbrev lent : tie.Start → ℤ → ℤ → Tableau
-lent b root least =
-    let a = b .args in
-    tableau (a .schema .now) (a .schema-rows) (a .proof .now) (a .proof-rows) root least (a .nodes .now) (a .node-rows) (a .members .now) (a .member-count)
-
 abbrev T : tie.Start → Tableau
-T b = lent b (b .args .root) (b .args .least)
+T b = let a = b .args in lent (a .schema .now) (a .proof .now) (a .nodes .now) (a .members .now) (a .h)
 
 abbrev R : tie.Start → Rooms
 R b = let a = b .args in rooms (a .out-proof .now) (a .out-nodes .now) (a .out-members .now)
@@ -43,13 +36,8 @@ start c = c .before .before .before .before .before .before
 full : (c : tie.After-check-older) → let R = R (start c) in (leb 4096 (R .rows) and leb 9216 (R .nodes) and leb 8192 (R .members)) ≡ true
 full c = asked-true (c .before .before .full .ensures) (c .before .if1 .left)
 
--- a signed number is kept as bits, and read back from them
 verdict-is : (c : tie.After-check-older) → c .check-older .result ≡ checkOlder (T (start c))
-unfolding tableau
-verdict-is c =
-    let b = start c in
-    c .check-older .ensures .0
-    ∙ ap₂ (λ (root least : ℤ). checkOlder (lent b root least)) (toZ-ofZ (b .fits .root)) (toZ-ofZ (b .fits .least))
+verdict-is c = c .check-older .ensures .0
 
 accepted : (c : tie.After-enum-told) →
     let v = c .enum-told .given .0 in
@@ -95,7 +83,7 @@ enum-told : tie.Need-enum-told
 enum-told c = search needs
 
 tidied-requires : tie.Need-tidied-requires
-unfolding tableau rowCount foldingOf newOf
+unfolding rowCount
 tidied-requires c κs =
     let d = c .before .before .before in
     let k = keeps d in
@@ -134,7 +122,6 @@ same-length-9 : tie.Need-same-length-9
 same-length-9 c = search needs
 
 returns-3 : tie.Need-returns-3
-unfolding tableau foldingOf newOf
 returns-3 c =
     let t = c .before .before .before in
     let d = t .before .before .before .before in

@@ -1,6 +1,6 @@
 use native.Mathlib.Omega.{arith}
 use Prim.Native.Nat.{ℕ, _+_, _-_, _≤_}
-use mathlib.Core.Path.{_≡_, refl, sym, _∙_, ap, subst}
+use mathlib.Core.Path.{_≡_, refl, sym, _∙_, subst}
 use mathlib.Core.List.{List}
 use borrow.Author.Needs.{needs}
 use lib.ListN.{length}
@@ -9,7 +9,7 @@ use Rattle.stab.specs.Formula.{formulaRows}
 use Rattle.stab.specs.declared.Finding.the-variants.{Nothing}
 use Rattle.stab.proofs.Scans.{scan-nothing, scan-more, scan-found}
 use Rattle.wide.specs.Convert.{wideRowRefusal}
-use Rattle.formula.proofs.RowLaws.{never, none-kept, table-none, table-more, table-stays}
+use Rattle.formula.proofs.RowLaws.{never, table-none, table-more, table-stays}
 use Rattle.widerows.specs.WideRows.{wideTable, WidePassed}
 use Rattle.widerows.proofs.WideLaws.{passed-none, passed-more}
 use Rattle.widerows.proofs.each.Statement.{statement}
@@ -28,7 +28,7 @@ abbrev μ-loop : tie.MeasureT-loop
 
 loop-holds : tie.Need-loop-holds Inv-loop μ-loop
 unfolding wideTable
-loop-holds c = (omega arith, refl, scan-nothing _ 0 (λ k l. absurd (omega arith)), passed-none _ _, table-none _ _ _)
+loop-holds c = (omega arith, refl, scan-nothing _ 0 (λ k l. absurd (omega arith)), passed-none _ _, table-none _ _ _ _)
 
 step-requires : tie.Need-step-requires Inv-loop μ-loop
 step-requires c κs = (omega arith, omega arith, c .before .before .loop .inv .3)
@@ -55,10 +55,8 @@ returns c =
       e ∙ h,
       (
         never h,
-        s .step .ensures .1
-            ∙ sym (none-kept (l .facts) _ _ (sym found))
-            ∙ l .inv .4
-            ∙ sym (table-stays _ _ _ _ _ (l .inv .2) found (omega arith)),
+        table-more _ _ _ _ _ (l .inv .2) (l .inv .4) (s .step .ensures .1)
+            ∙ sym (table-stays _ _ _ _ _ _ (scan-found _ _ _ (omega arith) (l .inv .2) found) (omega arith)),
       ),
     )
 
@@ -74,13 +72,12 @@ loop-again c =
     let s = c .before .before .before .before in
     let h = sym (s .step .ensures .0) ∙ (c .enum-told .given .1) in
     let l = s .before .before .before .loop in
-    let more = scan-more _ _ (l .inv .2) h in
     let a = s .before .before .before .before .before .args in (
       omega arith,
       s .step .kept .1 .1 .1 .1 .0 ∙ l .inv .1,
-      more,
+      scan-more _ _ (l .inv .2) h,
       subst (λ (t : List ℕ). WidePassed (formulaRows (a .schema .now) (a .s) (a .proof .now)) t (l .r + 1)) (sym (s .step .ensures .1)) (passed-more _ _ _ (l .inv .3) (omega arith) h),
-      table-more _ _ _ _ more h (l .inv .4) (s .step .ensures .1),
+      table-more _ _ _ _ _ (l .inv .2) (l .inv .4) (s .step .ensures .1),
     )
 
 same-length-2 : tie.Need-same-length-2 Inv-loop μ-loop

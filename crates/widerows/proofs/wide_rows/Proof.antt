@@ -2,12 +2,15 @@ use native.Mathlib.Omega.{arith}
 use Prim.Native.Nat.{ℕ, _<_}
 use mathlib.Core.Path.{_≡_, sym, _∙_, ap, ap₂, subst}
 use mathlib.Core.Bool.{Bool, true}
-use mir.Facts.{toZ-ofZ}
+use mir.Syntax.{w32}
+use mir.Val.{ofZ, toZ}
 use borrow.Author.Needs.{needs}
 use Rattle.stab.specs.Basic.{nat, scan}
 use Rattle.stab.specs.Check.{rootFits}
 use Rattle.stab.specs.Formula.{Row, rowAt}
 use Rattle.stab.specs.declared.Finding.the-variants.{Nothing}
+use Rattle.stab.specs.Lent.{lentSchema}
+use Rattle.signed.proofs.Signs.{read-back}
 use Rattle.stab.proofs.Bools.{and-left, if-true, if-false}
 use Rattle.stab.proofs.Trees.{below-nat}
 use Rattle.wide.specs.WideFormula.{wideTree, wideLoose, isWideOuter}
@@ -28,19 +31,24 @@ rows s = rowAt (s .args .wide .now)
 
 -- a literal on i stands in the root outside an iteration
 abbrev root-loose : tie.Start → Bool
-root-loose s = wideLoose (wideTree (rows s) (nat (s .args .root)))
+root-loose s = wideLoose (wideTree (rows s) (nat (s .args .h .root)))
+
+abbrev lent : tie.After-root-fits → tie.Start
+lent c = c .before .before .before .before
+
+root-read : (c : tie.After-root-fits) → toZ w32 (ofZ w32 (lent c .args .h .root)) ≡ lent c .args .h .root
+root-read c = read-back _ (c .before .before .struct-told .given .1 .0 .1)
 
 -- what was said of the root and the least value
-said : (c : tie.After-root-fits) → let a = c .before .before .args in c .root-fits .result ≡ rootFits (a .n) (a .root) (a .least)
+said : (c : tie.After-root-fits) → let h = lent c .args .h in c .root-fits .result ≡ rootFits (h .rows) (h .root) (h .least)
 said c =
-    let a = c .before .before in
-    c .root-fits .ensures ∙ ap₂ (rootFits (a .args .n)) (toZ-ofZ (a .fits .root)) (toZ-ofZ (a .fits .least))
+    c .root-fits .ensures ∙ ap₂ (rootFits (lent c .args .h .rows)) (root-read c) (read-back _ (c .before .before .struct-told .given .1 .1 .0 .1))
 
 returns : tie.Need-returns
 unfolding wideRefusal isWideOuter wideRowsTable
 returns c =
     let unfit = fails _ (said (c .before)) (c .if1 .taken) in
-    (formulas-root _ _ _ _ _ (root-loose (c .before .before .before)) unfit, sym (if-false _ _ _ unfit))
+    (formulas-root _ _ _ _ _ (root-loose (lent (c .before))) unfit, sym (if-false _ _ _ unfit))
 
 mul-end : tie.Need-mul-end
 mul-end c = search needs
@@ -70,23 +78,23 @@ same-length : tie.Need-same-length
 same-length c = search needs
 
 abbrev start : tie.After-each → tie.Start
-start c = c .before .before .before .before .before .before
+start c = lent (c .before .before .before .before)
 
-fits : (c : tie.After-each) → let a = start c .args in rootFits (a .n) (a .root) (a .least) ≡ true
+fits : (c : tie.After-each) → let h = start c .args .h in rootFits (h .rows) (h .root) (h .least) ≡ true
 fits c = let e = c .before .before .before in passes _ (said (e .before)) (e .if1 .left)
 
 -- what was found among the rows, and what is kept of them
-found : (c : tie.After-each) → (c .each .result) ≡ scan (wideRowRefusal (rows (start c))) (start c .args .n)
+found : (c : tie.After-each) → (c .each .result) ≡ scan (wideRowRefusal (rows (start c))) (start c .args .h .rows)
 found c =
     let a = start c .args in
-    c .each .ensures .0 ∙ ap (λ (w : ℕ → Row). scan (wideRowRefusal w) (a .n)) (formula-rows-part (a .wide .now) (a .n))
+    c .each .ensures .0 ∙ ap (λ (w : ℕ → Row). scan (wideRowRefusal w) (a .h .rows)) (formula-rows-part (a .wide .now) (a .h .rows))
 
-table-is : (c : tie.After-each) → let a = start c .args in c .each .last .1 .1 .1 .1 .0 ≡ wideRowsTable (rows (start c)) (a .facts .now) (a .n) (a .root) (a .least)
+table-is : (c : tie.After-each) → let a = start c .args in c .each .last .1 .1 .1 .1 .0 ≡ wideRowsTable (lentSchema (a .wide .now) (a .h)) (a .facts .now)
 unfolding wideRowsTable
 table-is c =
     let a = start c .args in
     c .each .ensures .1 .1
-    ∙ ap (λ (w : ℕ → Row). wideTable w (a .facts .now) (a .n)) (formula-rows-part (a .wide .now) (a .n))
+    ∙ ap (λ (w : ℕ → Row). wideTable w (a .facts .now) (a .h .rows)) (formula-rows-part (a .wide .now) (a .h .rows))
     ∙ sym (if-true _ _ _ (fits c))
 
 returns-2 : tie.Need-returns-2
@@ -101,22 +109,22 @@ natural-requires c κs = search needs
 
 -- where the rows passed
 abbrev passed : tie.After-natural → tie.After-each
-passed c = c .before .before .before .before .before .before
+passed c = c .before .before .before .before .before .before .before
 
-nothing : (c : tie.After-natural) → let s = start (passed c) in scan (wideRowRefusal (rows s)) (s .args .n) ≡ Nothing
-nothing c = sym (found (passed c)) ∙ (c .before .before .enum-told .given .1)
+nothing : (c : tie.After-natural) → let s = start (passed c) in scan (wideRowRefusal (rows s)) (s .args .h .rows) ≡ Nothing
+nothing c = sym (found (passed c)) ∙ (c .before .before .before .enum-told .given .1)
 
-rows-passed : (c : tie.After-natural) → let s = start (passed c) in WidePassed (rows s) (passed c .each .last .1 .1 .1 .1 .0) (s .args .n)
+rows-passed : (c : tie.After-natural) → let s = start (passed c) in WidePassed (rows s) (passed c .each .last .1 .1 .1 .1 .0) (s .args .h .rows)
 rows-passed c =
     let e = passed c .each .ensures in
     let a = start (passed c) .args in
-    subst (λ (w : ℕ → Row). WidePassed w (passed c .each .last .1 .1 .1 .1 .0) (a .n)) (formula-rows-part (a .wide .now) (a .n))
-    (e .1 .0 (sym (e .0) ∙ (c .before .before .enum-told .given .1)))
+    subst (λ (w : ℕ → Row). WidePassed w (passed c .each .last .1 .1 .1 .1 .0) (a .h .rows)) (formula-rows-part (a .wide .now) (a .h .rows))
+    (e .1 .0 (sym (e .0) ∙ (c .before .before .before .enum-told .given .1)))
 
-root-is : (c : tie.After-natural) → c .natural .result ≡ nat (start (passed c) .args .root)
-root-is c = c .natural .ensures ∙ ap nat (toZ-ofZ (start (passed c) .fits .root))
+root-is : (c : tie.After-natural) → c .natural .result ≡ nat (start (passed c) .args .h .root)
+root-is c = c .natural .ensures ∙ ap nat (root-read (passed c .before .before .before .before))
 
-root-less : (c : tie.After-natural) → let a = start (passed c) .args in nat (a .root) < a .n
+root-less : (c : tie.After-natural) → let h = start (passed c) .args .h in nat (h .root) < h .rows
 unfolding rootFits
 root-less c = below-nat _ _ (and-left _ _ (fits (passed c)))
 
@@ -124,7 +132,7 @@ known-requires : tie.Need-known-requires
 known-requires c κs = omega (arith, root-is c, root-less c, rows-passed c .room)
 
 -- the root's numbers
-known : (c : tie.After-known) → let s = start (passed (c .before)) in c .known .result ≡ wideFactsOf (wideTree (rows s) (nat (s .args .root)))
+known : (c : tie.After-known) → let s = start (passed (c .before)) in c .known .result ≡ wideFactsOf (wideTree (rows s) (nat (s .args .h .root)))
 known c =
     let b = c .before in
     c .known .ensures ∙ ap (factsAt _) (root-is b) ∙ rows-passed b .known _ (root-less b)

@@ -4,7 +4,6 @@ use Rattle.stab.specs.Basic.{if_then_else_}
 use Rattle.stab.specs.Check.{checkAs}
 use Rattle.stab.specs.Answer.{Packs}
 use Rattle.stab.proofs.Packed.{checked-packs}
-use Rattle.branch.specs.Work.{tableau}
 use Rattle.told.proofs.Says.{older-told}
 use Rattle.zorambi.proofs.zorambi_check_older.Statement.{statement}
 use Rattle.zorambi.proofs.zorambi_check_older.Tie as tie
@@ -17,7 +16,7 @@ pack-requires c κs = subst Packs (sym (c .check-as .ensures)) (checked-packs _ 
 
 -- a signed number is kept as bits, and read back from them
 returns : tie.Need-returns
-unfolding tableau checkAs if_then_else_
+unfolding checkAs if_then_else_
 returns c =
     let start = c .before .before in
     older-told (rw (toZ-ofZ (start .fits .root), toZ-ofZ (start .fits .least)) at (c .before .check-as .ensures)) (c .pack .ensures)

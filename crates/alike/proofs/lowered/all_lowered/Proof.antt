@@ -17,7 +17,7 @@ use Rattle.stab.specs.Rule.{hasLowered}
 use Rattle.stab.proofs.Trees.{below-nat, below-pos}
 use Rattle.classes.proofs.Twins.{twins-alike}
 use Rattle.classes.specs.Agreed.{Remembers}
-use Rattle.branch.specs.Lent.{lent}
+use Rattle.stab.specs.Lent.{lent}
 use Rattle.branch.proofs.HeldLaws.{part-set, set-length, member-nat}
 use Rattle.sets.proofs.SetLaws.{all-at, at-all, fails}
 use Rattle.alike.proofs.LoweredLaws.{all-past, OneForm, twins-lowered}

@@ -4,7 +4,7 @@ use mathlib.Core.Path.{_≡_, _∙_}
 use mir.Facts.{toZ-ofZ}
 use Rattle.stab.specs.Basic.{nat}
 use Rattle.stab.specs.Node.{Tableau, node, nodeAt, set, setOf}
-use Rattle.branch.specs.Lent.{lent}
+use Rattle.stab.specs.Lent.{lent}
 use Rattle.branch.proofs.HeldLaws.{set-length}
 use Rattle.alike.proofs.LoweredLaws.{all-round, lowered-at, lowered-nowhere}
 use Rattle.alike.proofs.lowered.partner.Statement.{statement}

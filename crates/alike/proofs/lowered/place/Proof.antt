@@ -16,7 +16,7 @@ use Rattle.stab.specs.Node.{Tableau, nodeAt, setOf, formula, rows}
 use Rattle.stab.specs.Rule.{isLowered}
 use Rattle.stab.proofs.Trees.{below-nat}
 use Rattle.classes.specs.Agreed.{Remembers}
-use Rattle.branch.specs.Lent.{lent}
+use Rattle.stab.specs.Lent.{lent}
 use Rattle.branch.proofs.HeldLaws.{member-nat}
 use Rattle.alike.proofs.lowered.place.Statement.{statement}
 use Rattle.alike.proofs.lowered.place.Tie as tie

@@ -1,4 +1,3 @@
-use borrow.Author.Needs.{needs}
 use Prim.Native.Nat.{ℕ, _-_, _≤_}
 use native.Mathlib.Omega.{arith}
 use mathlib.Core.Path.{_≡_, refl, sym, _∙_, ap}
@@ -8,7 +7,6 @@ use Rattle.stab.specs.Basic.{if_then_else_}
 use Rattle.stab.specs.Node.{childCount, node, nodeAt}
 use Rattle.stab.specs.Rule.{rule, ruleOf, childrenFit}
 use Rattle.stab.proofs.Bools.{asked-false, asked-true}
-use Rattle.branch.specs.Work.{tableau}
 use Rattle.growing.specs.Complete.{childrenAll}
 use Rattle.grow.specs.State.{nodesOnly}
 use Rattle.grow.proofs.Counted.{all-more, all-stops}
@@ -16,10 +14,10 @@ use Rattle.grow.proofs.children.all_fit.Statement.{statement}
 use Rattle.grow.proofs.children.all_fit.Tie as tie
 
 abbrev Inv-loop : tie.InvT-loop
-Inv-loop nodes work k least j₀ j = (j ≤ k) × (childrenAll (nodesOnly nodes k) j ≡ true)
+Inv-loop nodes work k j₀ j = (j ≤ k) × (childrenAll (nodesOnly nodes k) j ≡ true)
 
 abbrev μ-loop : tie.MeasureT-loop
-μ-loop nodes work k least j₀ j = k - j
+μ-loop nodes work k j₀ j = k - j
 
 loop-holds : tie.Need-loop-holds Inv-loop μ-loop
 unfolding childrenAll
@@ -27,15 +25,15 @@ loop-holds c = (omega arith, refl)
 
 children-fit-requires : tie.Need-children-fit-requires Inv-loop μ-loop
 children-fit-requires c κs =
-    let k = c .before .before .before .pre .0 in
-    (omega (arith, c .loop-test .taken, k .few), k .rules (c .before .loop .j) (c .loop-test .taken))
+    let p = c .before .before .before .pre .0 in
+    (omega (arith, c .loop-test .taken, p .0), p .1 (c .before .loop .j) (c .loop-test .taken))
 
 -- whether node j has its children
 fits : (c : tie.After-children-fit Inv-loop μ-loop) →
     let l = c .before .before in
     let a = l .before .before .args in
     c .children-fit .result ≡ childrenFit (nodesOnly (a .nodes .now) (a .k)) (l .loop .j)
-unfolding childrenFit childCount rule node nodesOnly tableau if_then_else_
+unfolding childrenFit childCount rule node if_then_else_
 fits c =
     let l = c .before .before in
     let b = l .before .before in
@@ -48,7 +46,7 @@ returns c =
     sym (all-stops _ (l .before .before .args .k) (l .loop .j) (d .before .loop-test .taken) (asked-false (fits d) (c .if1 .taken)))
 
 add-j : tie.Need-add-j Inv-loop μ-loop
-add-j c = omega (arith, c .before .before .loop-test .taken, c .before .before .before .before .before .pre .0 .few)
+add-j c = omega (arith, c .before .before .loop-test .taken, c .before .before .before .before .before .pre .0 .0)
 
 loop-less : tie.Need-loop-less Inv-loop μ-loop
 loop-less c = omega arith

@@ -23,11 +23,11 @@ same-length-2 c = search needs
 
 returns : tie.Need-returns
 returns c =
-    let q = c .before .before in
+    let q = c .before in
     let p = q .before .before .before in
     let b = p .before .before in (
       p .clear .ensures ∙ cleared-padded (b .args .nodes .now) (9 * b .args .k) (length (b .args .nodes .now)) (b .pre .1) refl,
-      (q .clear2 .ensures ∙ cleared-padded (b .args .members .now) (b .args .m) (length (b .args .members .now)) (b .pre .2) refl, refl),
+      q .clear2 .ensures ∙ cleared-padded (b .args .members .now) (b .args .m) (length (b .args .members .now)) (b .pre .2) refl,
     )
 
 pub hold-spec : {M : Type 1} → statement M

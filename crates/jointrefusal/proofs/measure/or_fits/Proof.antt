@@ -1,11 +1,10 @@
 use Rattle.stab.proofs.Bools.{and-first-false}
-use Rattle.stab.specs.Formula.{Formula, formulaRows, tree, disj}
+use Rattle.stab.specs.Formula.{Formula, schemaFormula, disj}
 use Rattle.stab.specs.Formula as F
-use Rattle.stab.specs.Basic.{_and_, nat}
-use mir.Facts.{toZ-ofZ}
+use Rattle.stab.specs.Lent.{lentSchema}
+use Rattle.stab.specs.Basic.{_and_}
 use borrow.Author.Tests.{lt-leb, le-leb}
 use lib.Dec.{leb}
-use lib.IntN.{ℤ}
 use mathlib.Core.Bool.{Bool}
 use mathlib.Core.Path.{_≡_, sym, _∙_, ap, ap₂}
 use Prim.Native.Nat.{ℕ, _+_, max}
@@ -20,20 +19,16 @@ abbrev start : tie.After-root-facts2 → tie.Start
 start c = c .before .before
 
 abbrev first : tie.Start → Formula
-first b = let a = b .args in tree (formulaRows (a .first-schema .now) (a .first-rows) (a .first-proof .now)) (nat (a .first-root))
+first b = schemaFormula (lentSchema (b .args .first-schema .now) (b .args .first))
 
 abbrev second : tie.Start → Formula
-second b = let a = b .args in tree (formulaRows (a .second-schema .now) (a .second-rows) (a .second-proof .now)) (nat (a .second-root))
+second b = schemaFormula (lentSchema (b .args .second-schema .now) (b .args .second))
 
 first-size : (c : tie.After-root-facts2) → c .before .root-facts .result .size ≡ F.size (first (start c))
-first-size c =
-    let b = start c in
-    c .before .root-facts .ensures .0 .0 ∙ ap (λ (z : ℤ). F.size (tree (formulaRows (b .args .first-schema .now) (b .args .first-rows) (b .args .first-proof .now)) (nat z))) (toZ-ofZ (b .fits .first-root))
+first-size c = c .before .root-facts .ensures .0
 
 second-size : (c : tie.After-root-facts2) → c .root-facts2 .result .size ≡ F.size (second (start c))
-second-size c =
-    let b = start c in
-    c .root-facts2 .ensures .0 .0 ∙ ap (λ (z : ℤ). F.size (tree (formulaRows (b .args .second-schema .now) (b .args .second-rows) (b .args .second-proof .now)) (nat z))) (toZ-ofZ (b .fits .second-root))
+second-size c = c .root-facts2 .ensures .0
 
 root-facts-requires : tie.Need-root-facts-requires
 root-facts-requires c κs = search needs
@@ -68,10 +63,7 @@ returns-2 c =
     let b = start g in
     let f = g .before in
     ap (λ (d : ℕ). leb (1 + d) 64)
-    (c .larger .ensures
-    ∙ ap₂ max
-    (f .root-facts .ensures .0 .1 ∙ ap (λ (z : ℤ). F.depth (tree (formulaRows (b .args .first-schema .now) (b .args .first-rows) (b .args .first-proof .now)) (nat z))) (toZ-ofZ (b .fits .first-root)))
-    (g .root-facts2 .ensures .0 .1 ∙ ap (λ (z : ℤ). F.depth (tree (formulaRows (b .args .second-schema .now) (b .args .second-rows) (b .args .second-proof .now)) (nat z))) (toZ-ofZ (b .fits .second-root))))
+    (c .larger .ensures ∙ ap₂ max (f .root-facts .ensures .1 .0) (g .root-facts2 .ensures .1 .0))
     ∙ sym (ap (λ (x : Bool). x and leb (F.depth (F.join disj (first b) (second b))) 64) (le-leb (F.size (F.join disj (first b) (second b))) 4096 (omega (arith, i .if1 .left, first-size g, second-size g))))
 
 pub or-fits-spec : {M : Type 1} → statement M

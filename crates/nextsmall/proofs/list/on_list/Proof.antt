@@ -1,33 +1,24 @@
-use Prim.Native.Nat.{ℕ, _-_}
-use mathlib.Core.Path.{_≡_, sym, _∙_, ap, ap₂}
+use mathlib.Core.Path.{_≡_, sym, _∙_, ap}
 use lib.IntN.{ℤ, pos}
 use denote.Ref.{now}
 use borrow.Author.Needs.{needs}
-use Rattle.stab.specs.Formula.{Row}
-use Rattle.stab.specs.Check.{formulasRefusal}
+use Rattle.stab.specs.Check.{schemaRefusal}
+use Rattle.stab.specs.Lent.{lentSchema, schemaHeader}
 use Rattle.stab.proofs.Findings.{nothing-found}
 use Rattle.signed.proofs.Signs.{read-back}
-use Rattle.formula.proofs.Columns.{formula-rows-part}
 use Rattle.nextsmall.proofs.Judging.{passes, passes-listed, fails-unlisted}
 use Rattle.nextsmall.proofs.list.on_list.Statement.{statement}
 use Rattle.nextsmall.proofs.list.on_list.Tie as tie
 
-abbrev start : tie.After-formulas → tie.Start
-start c = c .before .before .before .before
+abbrev start : tie.After-schema-formulas → tie.Start
+start c = c .before .before .before
 
--- the rest of the table stands where a proof's rows would
-formulas-are : (c : tie.After-formulas) → let s = start c in (c .formulas .result) ≡ passes (s .args .n) (now (s .args .table)) (s .pre .0) (s .pre .1)
+formulas-are : (c : tie.After-schema-formulas) → let s = start c in (c .schema-formulas .result) ≡ passes (s .args .n) (now (s .args .table)) (s .pre .0) (s .pre .1)
 formulas-are c =
     let s = start c in
-    let t = now (s .args .table) in
-    let n = s .args .n in
-    let o = c .before .before .before in
-    let e = read-back _ (o .of .ok) in
-    c .formulas .ensures .0
-    ∙ ap₂ (λ (r : ℕ → Row) (z : ℤ). formulasRefusal r n n z (pos 0)) (formula-rows-part t n) (e ∙ o .of .ensures)
-
-mul-end : tie.Need-mul-end
-mul-end c = search needs
+    let o = c .before .before in
+    c .schema-formulas .ensures .0
+    ∙ ap (λ (z : ℤ). schemaRefusal (lentSchema (now (s .args .table)) (schemaHeader (s .args .n) z (pos 0)))) (read-back _ (o .of .ok) ∙ o .of .ensures)
 
 sub-of : tie.Need-sub-of
 sub-of c = search needs
@@ -35,23 +26,11 @@ sub-of c = search needs
 of-requires : tie.Need-of-requires
 of-requires c κs = search needs
 
-mul-formulas : tie.Need-mul-formulas
-mul-formulas c = search needs
+slice-aggregate-schema-formulas : tie.Need-slice-aggregate-schema-formulas
+slice-aggregate-schema-formulas c = search needs
 
-sub-formulas : tie.Need-sub-formulas
-sub-formulas c = search needs
-
-part-formulas-start : tie.Need-part-formulas-start
-part-formulas-start c = search needs
-
-part-formulas-end : tie.Need-part-formulas-end
-part-formulas-end c = search needs
-
-slice-aggregate-formulas : tie.Need-slice-aggregate-formulas
-slice-aggregate-formulas c = search needs
-
-formulas-requires : tie.Need-formulas-requires
-formulas-requires c κs = search needs
+schema-formulas-requires : tie.Need-schema-formulas-requires
+schema-formulas-requires c κs = search needs
 
 enum-told : tie.Need-enum-told
 enum-told c = search needs
@@ -75,15 +54,10 @@ pub on-list-spec : {M : Type 1} → statement M
 on-list-spec =
     tie.close
     (tie.spec
-    mul-end
     sub-of
     of-requires
-    mul-formulas
-    sub-formulas
-    part-formulas-start
-    part-formulas-end
-    slice-aggregate-formulas
-    formulas-requires
+    slice-aggregate-schema-formulas
+    schema-formulas-requires
     enum-told
     enum-told-2
     returns

@@ -6,7 +6,7 @@ use mathlib.Core.List.{[]}
 use lib.IntN.{pos}
 use Rattle.stab.specs.Node.{Tableau, node, row, rows, rowCount, formula}
 use Rattle.stab.specs.Rule.{isInstance}
-use Rattle.branch.specs.Lent.{lent}
+use Rattle.stab.specs.Lent.{lent}
 use Rattle.limits.proofs.BoundSteps.{unfold-on, unfold-with, unfold-kind, unfold-other}
 use Rattle.steps.proofs.PartnerLaws.{unfolding-number, no-partners, not-shortened, instance-decides}
 use Rattle.steps.proofs.partners.partners_fit.Statement.{statement}

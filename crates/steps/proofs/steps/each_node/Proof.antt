@@ -8,15 +8,15 @@ use Rattle.stab.specs.Formula.{formulaRows}
 use Rattle.stab.specs.declared.Finding.the-variants.{Nothing}
 use Rattle.stab.proofs.Scans.{scan-nothing, scan-more, scan-found}
 use Rattle.classes.specs.Agreed.{Remembers}
-use Rattle.branch.specs.Lent.{lent}
-use Rattle.steps.specs.Judged.{nodeRefusalAs}
+use Rattle.stab.specs.Lent.{lent}
+use Rattle.stab.specs.Check.{nodeRefusal}
 use Rattle.steps.proofs.steps.each_node.Statement.{statement}
 use Rattle.steps.proofs.steps.each_node.Tie as tie
 
 abbrev Inv-loop : tie.InvT-loop
 Inv-loop whole schema proof nodes members facts forms work h agreed₀ j₀ agreed j =
     (j ≤ h .«node_rows»)
-    × (scan (nodeRefusalAs whole (lent schema proof nodes members h)) j ≡ Nothing)
+    × (scan (nodeRefusal whole (lent schema proof nodes members h)) j ≡ Nothing)
     × Remembers (formulaRows schema (h .«schema_rows») proof) agreed
     × (length agreed ≡ length agreed₀)
 
@@ -76,7 +76,7 @@ returns-2 c =
     let l = c .before .before in
     let s = begin l in
     let e : l .loop .j ≡ s .args .h .«node_rows» = omega arith in
-    (sym (subst (λ (n : ℕ). scan (nodeRefusalAs (s .args .whole) (lent (s .args .schema .now) (s .args .proof .now) (s .args .nodes .now) (s .args .members .now) (s .args .h))) n ≡ Nothing) e (l .loop .inv .1)), l .loop .inv .2)
+    (sym (subst (λ (n : ℕ). scan (nodeRefusal (s .args .whole) (lent (s .args .schema .now) (s .args .proof .now) (s .args .nodes .now) (s .args .members .now) (s .args .h))) n ≡ Nothing) e (l .loop .inv .1)), l .loop .inv .2)
 
 pub each-node-spec : {M : Type 1} → statement M
 each-node-spec =

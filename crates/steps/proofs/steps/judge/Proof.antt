@@ -1,18 +1,13 @@
 use borrow.Author.Needs.{needs}
 use native.Mathlib.Omega.{arith}
-use Prim.Native.Nat.{ℕ}
-use mathlib.Core.Path.{_≡_, sym, _∙_, ap}
-use mathlib.Core.Bool.{Bool}
-use lib.Dec.{eqb, leb}
-use Rattle.stab.specs.Basic.{if_then_else_}
-use Rattle.stab.specs.Node.{Tableau, node, nodeAt, childCount}
-use Rattle.stab.specs.Rule.{ruleOf, rule, childrenFit}
+use mathlib.Core.Path.{_≡_, sym, _∙_}
+use Rattle.stab.specs.Node.{Tableau, node, childCount}
+use Rattle.stab.specs.Rule.{rule, childrenAs}
 use Rattle.stab.specs.Check.{stepRefusal}
 use Rattle.stab.specs.declared.Finding.the-variants.{Nothing}
-use Rattle.branch.specs.Lent.{lent}
-use Rattle.steps.specs.Judged.{childrenAs}
+use Rattle.stab.specs.Lent.{lent}
 use Rattle.fields.proofs.FieldParts.{fields-known}
-use Rattle.steps.proofs.StepLaws.{fields-passed, step-found, children-found, node-passes}
+use Rattle.steps.proofs.StepLaws.{fields-passed, step-found, children-found, node-passes, children-are}
 use Rattle.steps.proofs.steps.judge.Statement.{statement}
 use Rattle.steps.proofs.steps.judge.Tie as tie
 use Rattle.stab.proofs.Bools.{asked-false, asked-true}
@@ -55,10 +50,10 @@ children-fit-requires c κs =
     (omega (arith, s .pre .0, s .pre .1 .0 .nodeLimit), fields-known (Lent s) _ (fields-passed (Lent s) _ (stepped c)) .rule)
 
 counted : (c : tie.After-children-fit) → c .children-fit .result ≡ childrenAs (Begin (c .before) .args .whole) (Lent (Begin (c .before))) (Begin (c .before) .args .j)
-unfolding childrenAs childrenFit childCount rule node
+unfolding childCount rule node
 counted c =
     let s = Begin (c .before) in
-    c .children-fit .ensures ∙ ap (λ (n : ℕ). if s .args .whole then eqb n (ruleOf (nodeAt (s .args .nodes .now) (s .args .j) .rule) .children) else leb n (ruleOf (nodeAt (s .args .nodes .now) (s .args .j) .rule) .children)) (s .pre .1 .0 .worked _ (s .pre .0) .children)
+    c .children-fit .ensures ∙ children-are (s .args .whole) (Lent s) (s .args .j) (s .pre .1 .0 .worked _ (s .pre .0) .children)
 
 same-length-2 : tie.Need-same-length-2
 same-length-2 c = told (c .before .before) .step .kept .1 .1 .1 .1 .1 .1 .1 .1 .1 .0

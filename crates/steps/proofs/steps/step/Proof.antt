@@ -8,7 +8,8 @@ use Rattle.stab.specs.Formula.{formulaRows}
 use Rattle.stab.specs.Node.{Tableau, node, row, rows, rowCount, bound, formula}
 use Rattle.stab.specs.Rule.{drawn, fieldsFit, targetFits, boundFits, partnersFit, isInstance}
 use Rattle.classes.specs.Agreed.{Remembers}
-use Rattle.branch.specs.Lent.{lent, FieldsKnown}
+use Rattle.stab.specs.Lent.{lent}
+use Rattle.branch.specs.Lent.{FieldsKnown}
 use Rattle.fields.proofs.FieldParts.{fields-known, fields-bare}
 use Rattle.steps.proofs.ReadyLaws.{set-held, set-of-rows, child-known, target-less}
 use Rattle.steps.proofs.StepLaws.{drawn-found, fields-found, target-found, bound-found, partner-found, lowered-found, nothing-found}

@@ -5,45 +5,50 @@ use lib.IntN.{ℤ, pos}
 use mir.Facts.{toZ-ofZ}
 use denote.Ref.{now}
 use Rattle.stab.specs.Answer.{Packs}
+use Rattle.stab.specs.Lent.{lent, header}
 use Rattle.growing.specs.Growing.{growthPacked, shownNumber}
-use Rattle.growing.specs.Enquiry.{Editor, commit, editorAnswer, edited}
+use Rattle.growing.specs.Enquiry.{Editor, editor, commit, editorAnswer, edited}
+use Rattle.growing.specs.Lent.{heldHeader}
 use Rattle.growing.specs.declared.Growth.{Growth}
 use Rattle.grow.specs.Packed.{asVerdict}
-use Rattle.enquire.specs.Editing.{editor}
 use Rattle.enquire.proofs.EditPacks.{commit-packs}
 use Rattle.zorambi.proofs.enquirer.zorambi_commit.Statement.{statement}
 use Rattle.zorambi.proofs.enquirer.zorambi_commit.Tie as tie
 
 -- the state at entry
-abbrev editorAt : tie.Start → ℤ → ℤ → Editor
-editorAt c root least =
+abbrev E : tie.Start → ℤ → ℤ → Editor
+E c root least =
     let a = c .args in
-    editor (now (a .schema)) (a .schema-rows) (now (a .proof)) (a .proof-rows) root least (now (a .nodes)) (now (a .members)) (now (a .held)) (now (a .waiting))
+    editor (lent (now (a .schema)) (now (a .proof)) (now (a .nodes)) (now (a .members)) (heldHeader (a .schema-rows) (a .proof-rows) root least (now (a .held)))) (now (a .waiting))
+
+-- a signed number is kept as bits, and read back from them
+answer-is : (c : tie.After-commit) → let b = c .before .before .before .before .before .before in c .commit .result .answer ≡ editorAnswer (E b (b .args .root) (b .args .least)) commit
+answer-is c =
+    let b = c .before .before .before .before .before .before in
+    c .commit .ensures .0 ∙ ap₂ (λ (r l : ℤ). editorAnswer (E b r l) commit) (toZ-ofZ (b .fits .root)) (toZ-ofZ (b .fits .least))
+
+left-is : (c : tie.After-commit) →
+    let b = c .before .before .before .before .before .before in
+    let a = b .args in
+    editor (lent (now (a .schema)) (now (a .proof)) (c .commit .last .1 .1 .0) (c .commit .last .1 .1 .1 .0) (header (a .schema-rows) (a .proof-rows) (a .root) (a .least) (c .commit .result .«node_rows») (c .commit .result .«member_count»))) (c .commit .last .1 .1 .1 .1 .1 .0) ≡ edited (E b (a .root) (a .least)) commit
+left-is c =
+    let b = c .before .before .before .before .before .before in
+    let a = b .args in
+    sym (ap₂ (λ (r l : ℤ). editor (lent (now (a .schema)) (now (a .proof)) (c .commit .last .1 .1 .0) (c .commit .last .1 .1 .1 .0) (header (a .schema-rows) (a .proof-rows) r l (c .commit .result .«node_rows») (c .commit .result .«member_count»))) (c .commit .last .1 .1 .1 .1 .1 .0)) (toZ-ofZ (b .fits .root)) (toZ-ofZ (b .fits .least)))
+    ∙ c .commit .ensures .1
+    ∙ ap₂ (λ (r l : ℤ). edited (E b r l) commit) (toZ-ofZ (b .fits .root)) (toZ-ofZ (b .fits .least))
+
+element-copy-out-t17 : tie.Need-element-copy-out-t17
+element-copy-out-t17 c = search needs
+
+element-copy-out-t20 : tie.Need-element-copy-out-t20
+element-copy-out-t20 c = search needs
 
 commit-requires : tie.Need-commit-requires
 commit-requires c κs = search needs
 
--- a signed number is kept as bits, and read back from them
-answer-is : (c : tie.After-commit) → let b = c .before .before .before .before .before in c .commit .result ≡ editorAnswer (editorAt b (b .args .root) (b .args .least)) commit
-answer-is c =
-    let b = c .before .before .before .before .before in
-    c .commit .ensures .0 ∙ ap₂ (λ (r l : ℤ). editorAnswer (editorAt b r l) commit) (toZ-ofZ (b .fits .root)) (toZ-ofZ (b .fits .least))
-
-left-is : (c : tie.After-commit) →
-    let b = c .before .before .before .before .before in
-    let a = b .args in
-    editor (now (a .schema)) (a .schema-rows) (now (a .proof)) (a .proof-rows) (a .root) (a .least) (c .commit .last .1 .1 .1 .1 .1 .1 .0) (c .commit .last .1 .1 .1 .1 .1 .1 .1 .0) (c .commit .last .1 .1 .1 .1 .1 .1 .1 .1 .0) (c .commit .last .1 .1 .1 .1 .1 .1 .1 .1 .1 .0) ≡ edited (editorAt b (a .root) (a .least)) commit
-left-is c =
-    let b = c .before .before .before .before .before in
-    let a = b .args in
-    sym (ap₂ (λ (r l : ℤ). editor (now (a .schema)) (a .schema-rows) (now (a .proof)) (a .proof-rows) r l (c .commit .last .1 .1 .1 .1 .1 .1 .0) (c .commit .last .1 .1 .1 .1 .1 .1 .1 .0) (c .commit .last .1 .1 .1 .1 .1 .1 .1 .1 .0) (c .commit .last .1 .1 .1 .1 .1 .1 .1 .1 .1 .0)) (toZ-ofZ (b .fits .root)) (toZ-ofZ (b .fits .least)))
-    ∙ c .commit .ensures .1
-    ∙ ap₂ (λ (r l : ℤ). edited (editorAt b r l) commit) (toZ-ofZ (b .fits .root)) (toZ-ofZ (b .fits .least))
-
 growth-requires : tie.Need-growth-requires
-growth-requires c κs =
-    let k = c .before .before .before in
-    subst (λ (r : Growth). Packs (asVerdict r)) (sym (answer-is k)) (commit-packs _)
+growth-requires c κs = subst (λ (r : Growth). Packs (asVerdict r)) (sym (answer-is (c .before .before .before .before))) (commit-packs _)
 
 same-length : tie.Need-same-length
 same-length c = search needs
@@ -53,8 +58,17 @@ same-length-2 c = search needs
 
 returns : tie.Need-returns
 returns c =
-    let k = c .before .before .before .before in
+    let k = c .before .before .before .before .before in
     (c .growth .ensures .0 ∙ ap growthPacked (answer-is k), (c .growth .ensures .1 ∙ ap (λ (r : Growth). pos (shownNumber r) ∷ []) (answer-is k), left-is k))
 
 pub zorambi-commit-spec : {M : Type 1} → statement M
-zorambi-commit-spec = tie.close (tie.spec commit-requires growth-requires same-length same-length-2 returns)
+zorambi-commit-spec =
+    tie.close
+    (tie.spec
+    element-copy-out-t17
+    element-copy-out-t20
+    commit-requires
+    growth-requires
+    same-length
+    same-length-2
+    returns)

@@ -4,7 +4,7 @@ use mir.Facts.{toZ-ofZ}
 use denote.Ref.{now}
 use borrow.Author.Needs.{needs}
 use Rattle.stab.specs.Node.{Tableau}
-use Rattle.branch.specs.Work.{tableau}
+use Rattle.stab.specs.Lent.{lent, header}
 use Rattle.joint.specs.Joint.{JoinedFits}
 use Rattle.joint.proofs.Lent.{join-fits}
 use Rattle.zorambi.proofs.Gives.{join-gives}
@@ -32,12 +32,12 @@ same-length-4 c = search needs
 abbrev first : tie.Start → ℤ → ℤ → Tableau
 first s root least =
     let a = s .args in
-    tableau (now (a .first-schema)) (a .first-schema-rows) (now (a .first-proof)) (a .first-proof-rows) root least (now (a .first-nodes)) (a .first-node-rows) (now (a .first-members)) (a .first-member-count)
+    lent (now (a .first-schema)) (now (a .first-proof)) (now (a .first-nodes)) (now (a .first-members)) (header (a .first-schema-rows) (a .first-proof-rows) root least (a .first-node-rows) (a .first-member-count))
 
 abbrev second : tie.Start → ℤ → ℤ → Tableau
 second s root least =
     let a = s .args in
-    tableau (now (a .second-schema)) (a .second-schema-rows) (now (a .second-proof)) (a .second-proof-rows) root least (now (a .second-nodes)) (a .second-node-rows) (now (a .second-members)) (a .second-member-count)
+    lent (now (a .second-schema)) (now (a .second-proof)) (now (a .second-nodes)) (now (a .second-members)) (header (a .second-schema-rows) (a .second-proof-rows) root least (a .second-node-rows) (a .second-member-count))
 
 -- a signed number is kept as bits, and read back from them
 returns : tie.Need-returns

@@ -5,7 +5,7 @@ use denote.Ref.{now}
 use borrow.Author.Needs.{needs}
 use Rattle.stab.specs.Node.{Tableau}
 use Rattle.stab.specs.Entry.{ProofFits}
-use Rattle.branch.specs.Work.{tableau}
+use Rattle.stab.specs.Lent.{lent, header}
 use Rattle.tidied.proofs.Lent.{tidy-fits}
 use Rattle.zorambi.proofs.Gives.{tidy-gives}
 use Rattle.zorambi.proofs.tidier.zorambi_tidy.Statement.{statement}
@@ -26,17 +26,17 @@ same-length-2 c = search needs
 same-length-3 : tie.Need-same-length-3
 same-length-3 c = search needs
 
-abbrev lent : tie.Start → ℤ → ℤ → Tableau
-lent s root least =
+abbrev Lent : tie.Start → ℤ → ℤ → Tableau
+Lent s root least =
     let a = s .args in
-    tableau (now (a .schema)) (a .schema-rows) (now (a .proof)) (a .proof-rows) root least (now (a .nodes)) (a .node-rows) (now (a .members)) (a .member-count)
+    lent (now (a .schema)) (now (a .proof)) (now (a .nodes)) (now (a .members)) (header (a .schema-rows) (a .proof-rows) root least (a .node-rows) (a .member-count))
 
 -- a signed number is kept as bits, and read back from them
 returns : tie.Need-returns
 returns c =
     let k = c .before .before .before .before .before in
     let s = k .before .before .before .before in
-    tidy-gives (ap₂ (lent s) (toZ-ofZ (s .fits .root)) (toZ-ofZ (s .fits .least))) (k .tidy .ensures) (c .proof .ensures)
+    tidy-gives (ap₂ (Lent s) (toZ-ofZ (s .fits .root)) (toZ-ofZ (s .fits .least))) (k .tidy .ensures) (c .proof .ensures)
 
 pub zorambi-tidy-spec : {M : Type 1} → statement M
 zorambi-tidy-spec =
