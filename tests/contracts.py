@@ -141,10 +141,44 @@ def mentions(text, wanted):
     return re.search(rf"(?<!{edge}){re.escape(wanted)}(?!{edge})", text) is not None
 
 
+class Both:
+    """A right side, whose names are of its own file, with arguments, whose names are of the file that wrote them."""
+
+    def __init__(self, inner, outer):
+        self.inner, self.outer = inner, outer
+
+    def meaning(self, name):
+        return self.inner.meaning(name) or self.outer.meaning(name)
+
+
 def put(text, names, values):
     """A right side with arguments for its parameters."""
     held = dict(zip(names, values))
     return re.sub(r"[^\s(){};,]+", lambda m: held.get(m[0], m[0]), text)
+
+
+def opened(file, side, depth=4):
+    """A record that is written out, or that a definition makes, with the file of its names."""
+    side = bare(side)
+    if side.startswith("record {"):
+        return side
+    head, *arguments = words(side)
+    meaning = file.meaning(head) if depth else None
+    if not meaning or len(meaning[1]) != len(arguments) or len(meaning[2]) != 1:
+        return None
+    inner, names, (right,) = meaning
+    return opened(Both(inner, file), put(right, names, arguments), depth - 1)
+
+
+def field_of(file, value):
+    """What a field of a record is, where the record is told; else the value itself."""
+    base, dot, name = bare(value).rpartition(" .")
+    record = opened(file, base) if dot and re.fullmatch(r"[\w«»]+", name) else None
+    for field in split(record[8:-1], ";") if record else []:
+        label, _, told = field.partition("=")
+        if label.strip() == name:
+            return bare(told)
+    return bare(value)
 
 
 def holds_whole(file, side, wanted, size, depth=4):
@@ -153,7 +187,7 @@ def holds_whole(file, side, wanted, size, depth=4):
     if side == wanted:
         return True
     if side.startswith("record {"):
-        values = [bare(field.partition("=")[2]) for field in split(side[8:-1], ";")]
+        values = [field_of(file, field.partition("=")[2]) for field in split(side[8:-1], ";")]
         numbers = [f"getD ({wanted}) {k} 0" for k in range(size)]
         if size and all(number in values for number in numbers):
             return True
@@ -162,8 +196,8 @@ def holds_whole(file, side, wanted, size, depth=4):
     meaning = file.meaning(head) if depth else None
     if not meaning or len(meaning[1]) != len(arguments) or len(meaning[2]) != 1:
         return False
-    file, names, (right,) = meaning
-    return holds_whole(file, put(right, names, arguments), wanted, size, depth - 1)
+    inner, names, (right,) = meaning
+    return holds_whole(Both(inner, file), put(right, names, arguments), wanted, size, depth - 1)
 
 
 def says(file, clause, wanted, size):

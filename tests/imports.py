@@ -28,7 +28,6 @@ UNUSED = {
     ("find", "value"),
     ("grow", "formula"),
     ("small", "signed"),
-    ("tableau", "tidied"),
     ("tidy", "formula"),
 }
 
