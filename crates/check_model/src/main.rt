@@ -10,10 +10,11 @@ fn main() {
     let told = program::model_texts(&schema[..s], &model[..m], &mut out);
     let n = told.bytes;
     io::write_all(STDOUT_FILENO, &out[..n]);
-    let fault = told.fault;
-    if fault.second {
-        files::show(b"model.txt", &schema[..s], &model[..m], fault);
-    } else {
-        files::show(b"schema.txt", &schema[..s], &model[..m], fault);
-    }
+    files::show(
+        b"schema.txt",
+        b"model.txt",
+        &schema[..s],
+        &model[..m],
+        told.fault,
+    );
 }

@@ -10,10 +10,11 @@ fn main() {
     let told = program::check_texts(true, &schema[..s], &proof[..p], &mut out);
     let n = told.bytes;
     io::write_all(STDOUT_FILENO, &out[..n]);
-    let fault = told.fault;
-    if fault.second {
-        files::show(b"proof.txt", &schema[..s], &proof[..p], fault);
-    } else {
-        files::show(b"schema.txt", &schema[..s], &proof[..p], fault);
-    }
+    files::show(
+        b"schema.txt",
+        b"proof.txt",
+        &schema[..s],
+        &proof[..p],
+        told.fault,
+    );
 }

@@ -4,6 +4,7 @@ use stab::Fault;
 ghost use mathlib.Core.Path.{_≡_};
 ghost use lib.ListN.{length, replicate};
 ghost use Rattle.io.specs.Counts.{Counts};
+ghost use Rattle.line.specs.LineParts.{named};
 ghost use Rattle.shown.specs.Told.{toldAt};
 ghost use Rattle.files.specs.Loaded.{Loaded};
 
@@ -47,11 +48,17 @@ pub fn load(path: &[u8], buf: &mut [u8]) -> usize
 
 // The line at fault to standard error, and how many bytes it takes. Its room is made here, after the check has returned, so that the stack of
 // the one and of the other do not add up.
-pub fn show<'a>(name: &[u8], schema: &'a [u8], proof: &'a [u8], fault: Fault) -> usize
-    ensures { λ r. ⌜ r ≡ length (toldAt 65600 (now (name .entry)) (now (schema .entry)) (now (proof .entry)) fault) ⌝ }
+pub fn show<'a>(
+    first: &[u8],
+    second: &[u8],
+    schema: &'a [u8],
+    proof: &'a [u8],
+    fault: Fault,
+) -> usize
+    ensures { λ r. ⌜ r ≡ length (toldAt 65600 (named (fault .second) (now (first .entry)) (now (second .entry))) (now (schema .entry)) (now (proof .entry)) fault) ⌝ }
 {
     let mut out = room();
-    let n = shown::tell(name, schema, proof, fault, &mut out);
+    let n = shown::tell(first, second, schema, proof, fault, &mut out);
     io::write_all(STDERR_FILENO, &out[..n]);
     n
 }

@@ -1,8 +1,8 @@
 -- What is told of a line, part by part; and where nothing is told.
 use Prim.Native.Nat.{ℕ, _+_, _-_, _<_, _≤_}
 use native.Mathlib.Omega.{arith}
-use mathlib.Core.Path.{_≡_, refl, sym, _∙_, ap}
-use mathlib.Core.Bool.{Bool, true, false}
+use mathlib.Core.Path.{_≡_, sym, _∙_, ap}
+use mathlib.Core.Bool.{true, false}
 use mathlib.Core.List.{List, [], _∷_, _++_, append-assoc}
 use lib.Dec.{leb}
 use lib.IntN.{pos}
@@ -12,8 +12,6 @@ use borrow.Author.Tests.{le-leb, lt-leb, leb-true}
 use Rattle.stab.specs.Basic.{_and_}
 use Rattle.stab.specs.Text.{bytes, newline, decimal, headingLine, padded}
 use Rattle.stab.proofs.Bools.{and-both, and-first-false, and-second-false, if-true, if-false, same-test}
-use denote.Ref.{RefT, now}
-use Rattle.line.specs.LineParts.{named}
 use Rattle.digits.specs.Over.{over}
 use Rattle.digits.proofs.Overs.{over-next, padded-none}
 use Rattle.output.proofs.HeadedTexts.{heading-length}
@@ -107,8 +105,3 @@ room-left n a b c h k =
 -- nothing, in an output that is all 0
 pub nothing : (n : ℕ) (t out : List ℕ) → t ≡ [] → out ≡ replicate n 0 → (0 ≡ length t) × (out ≡ padded 0 n t)
 nothing n t out e o = (ap length (sym e), o ∙ padded-none n ∙ ap (padded 0 n) (sym e))
-
--- the bytes of the text that is meant
-pub named-now : (b : Bool) (schema proof : RefT (List ℕ)) → now (named b schema proof) ≡ named b (now schema) (now proof)
-named-now true schema proof = refl
-named-now false schema proof = refl

@@ -13,6 +13,7 @@ ghost use lib.IntN.{pos};
 ghost use lib.ListN.{length};
 ghost use Rattle.stab.specs.Text.{bytes, decimal, padded};
 ghost use Rattle.digits.specs.Over.{over};
+ghost use Rattle.line.specs.LineParts.{named};
 ghost use Rattle.printing.specs.Printing.{Counts};
 ghost use Rattle.shown.specs.Told.{told, toldIn, toldAt};
 
@@ -79,18 +80,22 @@ fn tell_line(name: &[u8], k: usize, line: &[u8], out: &mut [u8]) -> usize
     put_told(out, name, k, line)
 }
 
-// The line at fault in either text, as that of the file with this name: how many bytes, and those, with 0 past them.
+// The line at fault in either text, as that of the first file or of the second: how many bytes, and those, with 0 past them.
 pub fn tell<'a>(
-    name: &[u8],
+    first: &[u8],
+    second: &[u8],
     schema: &'a [u8],
     proof: &'a [u8],
     fault: Fault,
     out: &mut [u8],
 ) -> usize
-    ensures count { λ r. ⌜ r ≡ length (toldAt (length (now (out .entry))) (now (name .entry)) (now (schema .entry)) (now (proof .entry)) fault) ⌝ }
-    ensures text { λ r. ⌜ now (out .exit) ≡ padded 0 (length (now (out .entry))) (toldAt (length (now (out .entry))) (now (name .entry)) (now (schema .entry)) (now (proof .entry)) fault) ⌝ }
+    ensures count { λ r. ⌜ r ≡ length (toldAt (length (now (out .entry))) (named (fault .second) (now (first .entry)) (now (second .entry))) (now (schema .entry)) (now (proof .entry)) fault) ⌝ }
+    ensures text { λ r. ⌜ now (out .exit) ≡ padded 0 (length (now (out .entry))) (toldAt (length (now (out .entry))) (named (fault .second) (now (first .entry)) (now (second .entry))) (now (schema .entry)) (now (proof .entry)) fault) ⌝ }
     ensures within { λ r. ⌜ Counts r (now (out .exit)) ⌝ }
 {
     let k = fault.line;
-    tell_line(name, k, line(schema, proof, fault.second, k), out)
+    if fault.second {
+        return tell_line(second, k, line(schema, proof, true, k), out);
+    }
+    tell_line(first, k, line(schema, proof, false, k), out)
 }

@@ -2,6 +2,7 @@ use Prim.Native.Nat.{ℕ}
 use mathlib.Core.Path.{_∙_, ap}
 use borrow.Author.Needs.{needs}
 use lib.ListN.{length, length-replicate}
+use Rattle.line.specs.LineParts.{named}
 use Rattle.shown.specs.Told.{toldAt}
 use Rattle.files.proofs.show.Statement.{statement}
 use Rattle.files.proofs.show.Tie as tie
@@ -27,9 +28,9 @@ write-all-requires c κs = search needs
 returns : tie.Need-returns
 returns c =
     let t = c .before .before .before in
-    let a = c .before .before .before .before .before .before .before .before .before .args in
+    let a = c .before .before .before .before .before .before .before .before .before .before .args in
     let size = ap length (t .before .before .room .ensures) ∙ length-replicate {A = ℕ} 65600 0 in
-    t .tell .ensures .0 ∙ ap (λ (n : ℕ). length (toldAt n (a .name .now) (a .schema .now) (a .proof .now) (a .fault))) size
+    t .tell .ensures .0 ∙ ap (λ (n : ℕ). length (toldAt n (named (a .fault .second) (a .first .now) (a .second .now)) (a .schema .now) (a .proof .now) (a .fault))) size
 
 pub show-spec : {M : Type 1} → statement M
 show-spec =
