@@ -1,14 +1,13 @@
 -- Two formulas are alike exactly if swaps of sides, one after another, lead from one to the other; so alike is reflexive,
 -- symmetric and transitive, its formulas have one value, and lowering keeps it.
-use Prim.Native.Nat.{ℕ, _+_, max}
-use native.Mathlib.Nat.{max-comm}
+use Prim.Native.Nat.{ℕ}
 use native.Mathlib.Omega.{arith}
 use mathlib.Core.Path.{_≡_, refl, _∙_, ap, ap₂}
 use mathlib.Core.Logic.{⊎-elim}
 use mathlib.Core.Bool.{Bool, true, false, false≢true}
 use lib.IntN.{ℤ, pos, _+ℤ_, _-ℤ_}
 use Rattle.stab.specs.Basic.{_and_, _or_, eqZ}
-use Rattle.stab.specs.Formula.{Op, conj, disj, Base, nothing, parameter, index, Formula, const, lit, join, iter, size, depth, loose, fixed}
+use Rattle.stab.specs.Formula.{Op, conj, disj, Base, nothing, parameter, index, Formula, const, lit, join, iter, loose}
 use Rattle.stab.specs.Meaning.{Assignment, op, rangeSize, value}
 use Rattle.stab.specs.Alike.{lowerBase, lower, eqBool, eqOp, eqBase, alike}
 use Rattle.stab.specs.Keeps.{Alike, itself, sides, left, right, inside, next}
@@ -172,24 +171,6 @@ alike-trans f g h p q = alike-tests f h .1 (next (alike-tests f g .0 p) (alike-t
 
 -- ---- what swaps keep
 
-size-kept : {f g : Formula} → Alike f g → size f ≡ size g
-unfolding size
-size-kept itself = refl
-size-kept sides = omega arith
-size-kept (left p) = omega (arith, size-kept p)
-size-kept (right p) = omega (arith, size-kept p)
-size-kept (inside p) = omega (arith, size-kept p)
-size-kept (next p q) = size-kept p ∙ size-kept q
-
-depth-kept : {f g : Formula} → Alike f g → depth f ≡ depth g
-unfolding depth
-depth-kept itself = refl
-depth-kept (sides {f = f} {g = g}) = ap (λ (n : ℕ). 1 + n) (max-comm (depth f) (depth g))
-depth-kept (left {g = g} p) = ap (λ (n : ℕ). 1 + max n (depth g)) (depth-kept p)
-depth-kept (right {f = f} p) = ap (λ (n : ℕ). 1 + max (depth f) n) (depth-kept p)
-depth-kept (inside p) = ap (λ (n : ℕ). 1 + n) (depth-kept p)
-depth-kept (next p q) = depth-kept p ∙ depth-kept q
-
 loose-kept : {f g : Formula} → Alike f g → loose f ≡ loose g
 unfolding loose
 loose-kept itself = refl
@@ -199,26 +180,8 @@ loose-kept (right {f = f} p) = ap (λ (v : Bool). loose f or v) (loose-kept p)
 loose-kept (inside p) = refl
 loose-kept (next p q) = loose-kept p ∙ loose-kept q
 
-fixed-kept : {f g : Formula} → Alike f g → fixed f ≡ fixed g
-unfolding fixed
-fixed-kept itself = refl
-fixed-kept (sides {f = f} {g = g}) = or-comm (fixed f) (fixed g)
-fixed-kept (left {g = g} p) = ap (λ (v : Bool). v or fixed g) (fixed-kept p)
-fixed-kept (right {f = f} p) = ap (λ (v : Bool). fixed f or v) (fixed-kept p)
-fixed-kept (inside p) = refl
-fixed-kept (next p q) = fixed-kept p ∙ fixed-kept q
-
-pub alike-size : (f g : Formula) → alike f g ≡ true → size f ≡ size g
-alike-size f g h = size-kept (alike-tests f g .0 h)
-
-pub alike-depth : (f g : Formula) → alike f g ≡ true → depth f ≡ depth g
-alike-depth f g h = depth-kept (alike-tests f g .0 h)
-
 pub alike-loose : (f g : Formula) → alike f g ≡ true → loose f ≡ loose g
 alike-loose f g h = loose-kept (alike-tests f g .0 h)
-
-pub alike-fixed : (f g : Formula) → alike f g ≡ true → fixed f ≡ fixed g
-alike-fixed f g h = fixed-kept (alike-tests f g .0 h)
 
 -- ---- meaning
 

@@ -5,7 +5,7 @@ use mathlib.Core.Path.{_≡_, refl, sym, _∙_, ap}
 use mathlib.Core.Logic.{⊎-elim, _↔_}
 use mathlib.Core.Bool.{Bool, true, false≢true}
 use lib.IntN.{ℤ, pos, _+ℤ_, _-ℤ_}
-use lib.Signed.{leZ, _≤ℤ_}
+use lib.Signed.{_≤ℤ_}
 use Rattle.stab.specs.Basic.{nat}
 use Rattle.stab.specs.Formula.{Row, conj, disj, Formula, iter, tree, isBody, wellFormed}
 use Rattle.stab.specs.Meaning.{Assignment, op, empty, over, rangeSize, value}

@@ -13,7 +13,6 @@ use Rattle.stab.specs.Rule.{shortened, isInstance, partnersFit, isLowere
 use Rattle.stab.specs.Check.{atUnless, stepRefusal, nodeRefusal, refusal, olderMode, verdict, verdictOn, checkOlder, linkCount}
 use Rattle.stab.specs.Before.{stepBy, nodeBy, refusalBy, checkBy, agree, partnersInOrder, hasLoweredInOrder, loweredInOrder, testsInOrder}
 use Rattle.stab.specs.declared.Refusal.{Refusal}
-use Rattle.stab.specs.declared.Verdict.{Verdict}
 use Rattle.stab.specs.declared.Verdict.the-variants.{Accepted}
 use Rattle.stab.specs.declared.Finding.{Finding}
 use Rattle.stab.specs.declared.Finding.the-variants.{Nothing}

@@ -16,10 +16,8 @@ use Rattle.stab.specs.Check.{atUnless, verdictOn}
 use Rattle.stab.specs.Before.{stepBy, nodeBy, checkBy, targetAbove, loopAbove, boundAbove, testsAbove, OpenOrExact, splitOne, childOne, firstOne, boundOne, fieldsFitOne, splitFitsOne, voidFitsOne, boundFitsOne, testsOne}
 use Rattle.stab.specs.Keeps.{KeepsParent, Splits}
 use Rattle.stab.specs.declared.Refusal.the-variants.{Bound as BoundWrong, Fields, Target}
-use Rattle.stab.specs.declared.Verdict.{Verdict}
 use Rattle.stab.specs.declared.Finding.{Finding}
 use Rattle.stab.specs.declared.Finding.the-variants.{Nothing}
-use Rattle.stab.specs.declared.Verdict.the-variants.{Accepted}
 use borrow.Author.Tests.{le-leb, eq-eqb}
 use Rattle.stab.proofs.Bools.{decide, if-true, if-false, and-first-true, and-left, and-both, same-test, otherwise-same, otherwise-first-same}
 use Rattle.stab.proofs.Whole.{num, _⊖_, of-le, eqZ-true, eqZ-of}

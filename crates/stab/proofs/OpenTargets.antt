@@ -8,17 +8,15 @@ use mathlib.Core.Bool.{Bool, true, false}
 use mathlib.Core.Option.{Option, some}
 use lib.IntN.{ℤ, pos, _-ℤ_}
 use lib.Signed.{leZ, _≤ℤ_}
-use Rattle.stab.specs.Basic.{_and_, nat}
+use Rattle.stab.specs.Basic.{nat}
 use Rattle.stab.specs.Node.{Tableau, Bound, node, isExact, bound}
 use Rattle.stab.specs.Rule.{fieldsFit}
 use Rattle.stab.specs.Check.{atUnless, verdictOn}
 use Rattle.stab.specs.Before.{stepBy, nodeBy, checkBy, Ancestor, targetAbove, loopAbove, boundAbove, testsAbove, targetOpen, boundOpen, testsOpen}
 use Rattle.stab.specs.Keeps.{KeepsParent, KeepsStep}
 use Rattle.stab.specs.declared.Refusal.the-variants.{Bound as BoundWrong, Fields, Target}
-use Rattle.stab.specs.declared.Verdict.{Verdict}
 use Rattle.stab.specs.declared.Finding.{Finding}
 use Rattle.stab.specs.declared.Finding.the-variants.{Nothing}
-use Rattle.stab.specs.declared.Verdict.the-variants.{Accepted}
 use Rattle.stab.proofs.Bools.{decide, and-first-true, and-first-false, otherwise-same, otherwise-first-same}
 use Rattle.stab.proofs.Whole.{atom, num, _⊖_, of-le, leZ-of, of-leZ}
 use Rattle.stab.proofs.Tests.{_⇒_, not-tests, at-clears, itself}

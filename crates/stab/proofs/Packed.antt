@@ -2,7 +2,7 @@
 -- and demand 3 holds of it.
 use Prim.Native.Nat.{ℕ, _+_, _*_, _/_, _%_, _<_, _≤_}
 use native.Mathlib.Omega.{arith}
-use mathlib.Core.Path.{_≡_, refl, sym, _∙_, ap, subst}
+use mathlib.Core.Path.{_≡_, refl, _∙_, ap}
 use mathlib.Core.Bool.{Bool, true, false}
 use lib.IntN.{pos, _+ℤ_, _-ℤ_}
 use Rattle.stab.specs.Basic.{if_then_else_, nat}

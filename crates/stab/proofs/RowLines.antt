@@ -1,5 +1,5 @@
 -- A line is its row: in a text that is read, the line with a row's number is the text of that row as writing gives it.
-use Prim.Native.Nat.{ℕ, zero, suc, _+_, _-_, _*_, _/_, _<_, _≤_}
+use Prim.Native.Nat.{ℕ, zero, suc, _+_, _-_, _*_, _/_, _<_}
 use native.Mathlib.Omega.{arith}
 use native.Mathlib.Nat.{add-zero, zero-add, mul-zero}
 use mathlib.Core.Path.{_≡_, refl, sym, _∙_, ap, ap₂, subst}

@@ -11,7 +11,6 @@ use Rattle.stab.specs.Check.{holds, formulasRefusal, setRefusal, parentR
 use Rattle.stab.specs.Before.{Tests, nodeBy, refusalBy}
 use Rattle.stab.specs.Keeps.{KeepsParent, KeepsTables, KeepsNode, KeepsOlder, Keeps}
 use Rattle.stab.specs.declared.Refusal.the-variants.{TableTooShort, TooMany, Parent}
-use Rattle.stab.specs.declared.Verdict.{Verdict}
 use Rattle.stab.specs.declared.Finding.{Finding}
 use Rattle.stab.specs.declared.Finding.the-variants.{Nothing}
 use Rattle.stab.proofs.Bools.{otherwise-same, otherwise-first, otherwise-second, otherwise-nothing}

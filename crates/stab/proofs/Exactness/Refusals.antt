@@ -7,7 +7,7 @@ use lib.IntN.{ℤ}
 use Rattle.stab.specs.Basic.{_otherwise_, scan, unless}
 use Rattle.stab.specs.Formula.{Row}
 use Rattle.stab.specs.Node.{Tableau, rows, rowCount}
-use Rattle.stab.specs.Check.{wholeUnless, atUnless, rowRefusal, repeatRefusal, formulaRefusal, formulasRefusal, schemaRefusal, setRefusal, parentRefusal, stepRefusal, nodeRefusal, withinLimits, refusal, presentMode, olderMode, verdict, verdictOn, check, linkCount}
+use Rattle.stab.specs.Check.{wholeUnless, atUnless, rowRefusal, repeatRefusal, formulaRefusal, formulasRefusal, schemaRefusal, setRefusal, parentRefusal, stepRefusal, nodeRefusal, withinLimits, refusal, presentMode, verdict, verdictOn, check, linkCount}
 use Rattle.stab.specs.Model.{Model, pairRefusal, modelRefusal}
 use Rattle.stab.specs.declared.Mode.{Mode}
 use Rattle.stab.specs.declared.Place.{Place}
