@@ -10,7 +10,6 @@ use mathlib.Core.Option.{Option}
 use lib.IntN.{pos}
 use lib.ListN.{length, getD}
 use borrow.Author.Tests.{ltb-true, eq-eqb, ne-eqb}
-use Rattle.stab.specs.Basic.{_and_}
 use Rattle.stab.specs.Formula.{Row, tree, size, depth, smallEnough}
 use Rattle.stab.specs.Meaning.{truth}
 use Rattle.stab.specs.Model.{pairBefore}

@@ -17,7 +17,7 @@ use Rattle.stab.proofs.Whole.{atom, num, _⊕_, _⊖_, less, eq-of, eqZ-true, e
 use Rattle.stab.proofs.Decoded.{tree-constant, tree-literal, tree-junction, tree-iteration}
 use Rattle.stab.proofs.Alikes.{eqOp-refl, alike-refl, alike-tests, lower-zero}
 use Rattle.formula.specs.Facts.{AllFormed}
-use Rattle.classes.specs.Class.{ground, lesser, offLit, off, orZero, level, akin, classOf, shiftCode, shiftOf, partCode, leftCode, rightCode, leadAs, leadOf, besides, otherOf}
+use Rattle.classes.specs.Class.{ground, offLit, off, orZero, level, akin, classOf, shiftCode, shiftOf, partCode, leftCode, rightCode, leadAs, leadOf, besides, otherOf}
 use Rattle.classes.specs.Key.{addedOf, lowAs, highAs, lowOf, highOf, smaller}
 use Rattle.classes.proofs.Slides.{down, alike-off, alike-ground, bodies-back, lesser-none, shifts-fit, alike-akin, akin-alike}
 use Rattle.classes.proofs.Least.{akin-refl, class-small, class-same, class-akin}

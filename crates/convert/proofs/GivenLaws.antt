@@ -14,7 +14,7 @@ use Rattle.stab.proofs.Bools.{decide, and-left, and-right}
 use Rattle.stab.proofs.Whole.{eqZ-true}
 use Rattle.stab.proofs.Scans.{below-suc}
 use Rattle.stab.proofs.Trees.{below-nat}
-use Rattle.wide.specs.WideFormula.{WideKind, plain, wideKindOf, wideFormedAs, wideFormed, twoParts}
+use Rattle.wide.specs.WideFormula.{WideKind, wideKindOf, wideFormedAs, wideFormed, twoParts}
 use Rattle.wide.specs.Plain.{rowsGiven, startOf, image, row, constantRow, literalRow, joinRow, iterRow, other, threeRows, givenAs, given}
 use Rattle.wide.proofs.WideTrees.{wide-formed-as}
 use Rattle.widerows.proofs.WideLaws.{TwoKind, joining, implying, comparing, two-formed, other-kind}

@@ -16,7 +16,7 @@ ghost use Rattle.stab.specs.Check.{schemaRefusal};
 ghost use Rattle.stab.specs.Lent.{lentSchema, schemaHeader};
 ghost use Rattle.stab.specs.Text.{padded};
 ghost use Rattle.stab.specs.declared.SchemaRead.the-variants.{Refused};
-ghost use Rattle.stab.specs.declared.Finding.the-variants.{Nothing, Found};
+ghost use Rattle.stab.specs.declared.Finding.the-variants.{Nothing};
 ghost use Rattle.wide.specs.Convert.{lentWide, converted, convertedTable};
 ghost use Rattle.convert.specs.Emission.{inputRefusal};
 

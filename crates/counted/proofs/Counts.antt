@@ -1,5 +1,4 @@
 -- 02, No. 14: how many tables of each length are on the list, as the definitions give them.
-use Prim.Native.Nat.{ℕ}
 use mathlib.Core.Path.{_≡_, refl}
 use lib.ListN.{length}
 use Rattle.stab.specs.Basic.{if_then_else_, _and_, _or_, eqZ, within, nat, below}

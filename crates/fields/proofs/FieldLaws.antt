@@ -10,7 +10,7 @@ use borrow.Author.Tests.{le-leb, ne-eqb}
 use Rattle.stab.specs.Basic.{_and_, eqZ, nat, below}
 use Rattle.stab.specs.Formula.{Row}
 use Rattle.stab.specs.Rule.{unused}
-use Rattle.stab.proofs.Bools.{and-left, and-first-false, if-true, if-false, and-first-true}
+use Rattle.stab.proofs.Bools.{and-first-false, if-true, if-false, and-first-true}
 use Rattle.branch.specs.Lent.{fitsKind}
 
 -- ---- kinds
@@ -42,8 +42,3 @@ unfolding nat
 not-negative (pos zero) = refl
 not-negative (pos (suc n)) = sym (le-leb 0 (suc n) (omega arith))
 not-negative (negsuc n) = ne-eqb (suc n) 0 (λ e. omega arith)
-
--- ---- a field that fits a kind names a row
-
-pub kind-below : (rows : ℕ → Row) (n : ℕ) (need z : ℤ) → eqZ need unused ≡ false → fitsKind rows n need z ≡ true → below n z ≡ true
-kind-below rows n need z h l = and-left _ _ (kind-used rows n need z h ∙ l)

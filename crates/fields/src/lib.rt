@@ -6,7 +6,7 @@ use branch::node;
 use stab::Header;
 use stab::Rule;
 ghost use mathlib.Core.Path.{_≡_};
-ghost use mathlib.Core.Bool.{true, false};
+ghost use mathlib.Core.Bool.{true};
 ghost use Prim.Native.Nat.{_+_, _<_, _≤_, _^_};
 ghost use Rattle.stab.specs.Basic.{_or_, eqZ, below, has};
 ghost use Rattle.stab.specs.Formula.{formulaRows};

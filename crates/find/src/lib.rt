@@ -13,7 +13,7 @@ ghost use Rattle.stab.specs.Basic.{if_then_else_};
 ghost use Rattle.stab.specs.Lent.{lentSchema};
 ghost use Rattle.stab.specs.Occurs.{table as wireTable};
 ghost use Rattle.stab.specs.Text.{padded};
-ghost use Rattle.stab.specs.declared.Finding.the-variants.{Nothing, Found};
+ghost use Rattle.stab.specs.declared.Finding.the-variants.{Nothing};
 ghost use Rattle.pairs.specs.Index.{unbiased};
 ghost use Rattle.found.specs.Find.{find, modelOr, modelPairs, foundTable};
 ghost use Rattle.found.specs.Number.{numbered};

@@ -20,7 +20,7 @@ use Rattle.stab.specs.declared.Finding.{Finding}
 use Rattle.stab.specs.declared.Finding.the-variants.{Nothing, Found}
 use Rattle.stab.specs.declared.Refusal.{Refusal}
 use Rattle.stab.specs.declared.Place.{Place}
-use Rattle.stab.proofs.Bools.{decide, and-both, and-left, and-right, and-first-false, if-true, if-false, not-of-false, not-of-true, false-of-not, true-of-not, otherwise-nothing, otherwise-found, otherwise-first, otherwise-second, nothing-unless, found-unless, unless-nothing, found≢nothing}
+use Rattle.stab.proofs.Bools.{decide, and-both, and-left, and-right, and-first-false, if-false, not-of-false, not-of-true, false-of-not, true-of-not, otherwise-nothing, otherwise-found, otherwise-first, otherwise-second, nothing-unless, found-unless, unless-nothing, found≢nothing}
 use Rattle.stab.proofs.Whole.{num, of-eq, eqZ-of, eqZ-not, nat-pos, at-least-0, below-0}
 use Rattle.stab.proofs.Scans.{below-suc, scan-longer}
 use Rattle.stab.proofs.Decoded.{decoded, junction-tree, iteration-tree}

@@ -1,17 +1,16 @@
 -- What is found of a row, with rows that may repeat and with rows that may not; and a schema's rows, with the rest of its table where a
 -- proof's rows would stand.
 use Prim.Native.Nat.{ℕ}
-use mathlib.Core.Path.{_≡_, refl, sym, _∙_}
+use mathlib.Core.Path.{_≡_, _∙_}
 use mathlib.Core.Bool.{Bool, true, false, true≢false, false≢true}
-use Rattle.stab.specs.Basic.{_otherwise_}
 use Rattle.stab.specs.Formula.{Row}
-use Rattle.stab.specs.Check.{rowRefusal, repeatRefusal, formulaRefusal}
+use Rattle.stab.specs.Check.{rowRefusal, formulaRefusal}
 use Rattle.stab.specs.declared.Place.{Place}
 use Rattle.stab.specs.declared.Place.the-variants.{At}
 use Rattle.stab.specs.declared.Refusal.{Refusal}
 use Rattle.stab.specs.declared.Refusal.the-variants.{Repeated}
 use Rattle.stab.specs.declared.Finding.the-variants.{Nothing, Found}
-use Rattle.stab.proofs.Bools.{otherwise-nothing, otherwise-found, otherwise-first}
+use Rattle.stab.proofs.Bools.{otherwise-nothing, otherwise-found}
 use Rattle.repeats.specs.Repeated.{repeated}
 use Rattle.repeats.proofs.RepeatedLaws.{repeat-found, repeat-none}
 
@@ -39,9 +38,3 @@ module _ (rows : ℕ → Row) (s r : ℕ) where
   unfolding formulaRefusal
   row-fresh true e h t = absurd (true≢false e)
   row-fresh false e h t = otherwise-nothing _ _ h ∙ repeat-none rows s r t
-
-  -- where nothing is found neither 7 nor 8 is
-  pub row-nothing : (older : Bool) → formulaRefusal older rows s r ≡ Nothing → rowRefusal rows r ≡ Nothing
-  unfolding formulaRefusal
-  row-nothing true h = h
-  row-nothing false h = otherwise-first _ _ h

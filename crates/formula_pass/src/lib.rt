@@ -14,7 +14,7 @@ ghost use Rattle.stab.specs.Basic.{scan};
 ghost use Rattle.stab.specs.Formula.{rowAt, formulaRows, tree};
 ghost use Rattle.stab.specs.Lent.{lentSchema};
 ghost use Rattle.stab.specs.Check.{rowRefusal, formulaRefusal, formulasRefusal, schemaRefusal};
-ghost use Rattle.stab.specs.declared.Finding.the-variants.{Nothing, Found};
+ghost use Rattle.stab.specs.declared.Finding.the-variants.{Nothing};
 ghost use Rattle.formula.specs.Rows.{factsOf, keptIf, factsTable, formulasTable, Passed};
 ghost use Rattle.repeats.specs.Places.{Linked};
 

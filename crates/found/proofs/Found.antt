@@ -1,5 +1,5 @@
 -- 02, No. 13: "none" says that there is no model, a given model passes the model check, and no earlier assignment makes the schema true.
-use Prim.Native.Nat.{ℕ, _-_, _≤_}
+use Prim.Native.Nat.{ℕ, _≤_}
 use native.Mathlib.Omega.{arith}
 use mathlib.Core.Path.{_≡_, refl, sym, _∙_, ap, subst}
 use mathlib.Core.Logic.{_↔_, Iff·trans}
@@ -7,7 +7,7 @@ use mathlib.Core.Bool.{true, false, true≢false}
 use mathlib.Core.List.{List, [], List·Memᴰ}
 use mathlib.Core.Option.{Option, none, some}
 use lib.IntN.{ℤ, pos}
-use lib.ListN.{length, length-append, replicate, length-replicate}
+use lib.ListN.{length, replicate}
 use Rattle.stab.specs.Basic.{nat}
 use Rattle.stab.specs.Meaning.{Assignment, truth}
 use Rattle.stab.specs.Model.{listed, checkModel}
@@ -21,14 +21,14 @@ use Rattle.stab.specs.declared.Finding.the-variants.{Found, Nothing}
 use Rattle.stab.proofs.Bools.{same-test}
 use Rattle.stab.proofs.Texts.Outcomes.{padded-none}
 use Rattle.stab.proofs.Wires.{occurring-exactly, occurring-ascends, same-listed, wires-accepted}
-use Rattle.stab.proofs.Wires.Tables.{table-length, table-tests}
+use Rattle.stab.proofs.Wires.Tables.{table-tests}
 use Rattle.found.specs.Find.{Query, formula, wires, among, holdsWith, firstModel, findRefusal, modelOr, foundBy, find, modelPairs, givenBy, given, foundTable, Earlier}
 use Rattle.found.specs.Number.{numbered}
 use Rattle.found.specs.declared.ModelFound.the-variants.{Model, None}
 use Rattle.found.proofs.Numbers.{first-found, first-none, numbered-length, numbered-mem, numbered-ascends, among-tests}
 use Rattle.found.proofs.Assignments.{numberOf, number-below, number-agrees, number-back, number-earlier}
 use Rattle.found.proofs.Tables.{model-front}
-use Rattle.found.proofs.Refusals.{find-clears, found-model, none-searched, none-given, given-few}
+use Rattle.found.proofs.Refusals.{find-clears, found-model, none-searched, none-given}
 
 -- ---- every assignment is one of those that are tried
 
@@ -101,17 +101,6 @@ none-zeros Q h = zeros Q (go (findRefusal Q) h)
     go : (x : Finding) → foundBy x Q ≡ None → givenBy x Q ≡ []
     go Nothing e = searched (firstModel Q) e
     go (Found why p) e = none-given Q why p
-
--- the table keeps its size
-pub table-room : (Q : Query) → length (foundTable Q) ≡ Q .room
-unfolding foundTable padded
-table-room Q = go (findRefusal Q) refl
-  where
-    go : (x : Finding) → findRefusal Q ≡ x → length (foundTable Q) ≡ Q .room
-    go Nothing e =
-        let xs = table (given Q) in
-        omega (arith, length-append xs (replicate (Q .room - length xs) (pos 0)), length-replicate (Q .room - length xs) (pos 0), table-length (given Q), given-few Q, find-clears Q .0 e .tableHeld)
-    go (Found why p) e = ap length (refused-zeros Q why p e) ∙ length-replicate (Q .room) (pos 0)
 
 -- ---- the model check
 

@@ -88,11 +88,6 @@ is-least p k m h =
       λ j l. unpassed (p j) j (none-search _ (r .0) (r .2) j (omega (arith, here .1))),
     )
 
--- two tests that agree below k
-pub least-same : (p q : ℕ → Bool) (k : ℕ) → ((m : ℕ) → m < k → p m ≡ q m) → leastBelow p k ≡ leastBelow q k
-unfolding leastBelow
-least-same p q k h = search-same _ _ k (λ m l. ap (λ (t : Bool). if t then some m else none) (h m l))
-
 -- what the least number gives
 least-gives : {A : Type 0} (p : ℕ → Bool) (g : ℕ → A) (k : ℕ) → first (λ m. if p m then some (g m) else none) k ≡ Option·map g (leastBelow p k)
 unfolding leastBelow first if_then_else_ orElse
@@ -216,10 +211,6 @@ among-tests (x ∷ ws) w =
 -- a pair that is not listed is false
 pub among-elsewhere : (ws : List Wire) (w : Wire) → (List·Memᴰ w ws → ⊥) → among ws (w .symbol) (w .index) ≡ false
 among-elsewhere ws w h = ⊎-elim (λ t. absurd (h (among-tests ws w .0 t))) (λ f. f) (decide (among ws (w .symbol) (w .index)))
-
--- "every other pair is false", also in the assignment of a number
-pub numbered-elsewhere : (ws : List Wire) (m : ℕ) (w : Wire) → (List·Memᴰ w ws → ⊥) → among (numbered ws m) (w .symbol) (w .index) ≡ false
-numbered-elsewhere ws m w h = among-elsewhere (numbered ws m) w (λ t. h (numbered-mem ws m w t))
 
 -- with one pair more, or not: its value is which, and no other's changes
 pub its-value : (w : Wire) (vs : List Wire) → (List·Memᴰ w vs → ⊥) → (b : Bool) → among (if b then w ∷ vs else vs) (w .symbol) (w .index) ≡ b

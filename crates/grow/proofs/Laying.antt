@@ -7,7 +7,7 @@ use mathlib.Core.Bool.{true, false}
 use mathlib.Core.List.{List, _++_}
 use lib.IntN.{ℤ}
 use lib.ListN.{length, take, drop, length-append}
-use lib.Seq.{sets, sets-eq, length-sets, length-take-le}
+use lib.Seq.{sets-eq, length-sets, length-take-le}
 use Rattle.stab.specs.Basic.{nat, _otherwise_}
 use Rattle.stab.specs.Node.{Tableau, Node, nodeAt, node, setOf, set}
 use Rattle.stab.specs.Check.{wholeUnless, refusal, heldMode}

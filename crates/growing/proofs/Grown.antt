@@ -11,7 +11,7 @@ use lib.ListN.{length, take, length-append}
 use lib.Seq.{take-append-seam}
 use borrow.Author.Tests.{le-leb, ltb-true, lt-ltb, eq-eqb}
 use Rattle.stab.specs.Basic.{if_then_else_}
-use Rattle.stab.specs.Node.{Tableau, Node, node, set, childCount}
+use Rattle.stab.specs.Node.{Tableau, Node, set, childCount}
 use Rattle.stab.specs.Rule.{rule, childrenFit, childrenHeld, childrenAs}
 use Rattle.stab.specs.Check.{wholeUnless, atUnless, stepRefusal, nodeRefusal, refusal, heldMode, linkCount, check}
 use Rattle.stab.specs.Keeps.{KeepsNode}
@@ -41,11 +41,6 @@ rows-alike {T} {U} A (suc n) h = ap₂ (λ (ws : List NodeRow) (w : NodeRow). ws
   where
     row : rowOf U n ≡ rowOf T n
     row = ap₂ (λ (w : Node) (s : List ℤ). record { up = w .up; rule = w .rule; on = w .on; with = w .with; other = w .other; to = w .to; by = w .by; members = s }) (A .node n (omega arith)) (A .set n (omega arith))
-
-firstRows-length : (T : Tableau) (n : ℕ) → length (firstRows T n) ≡ n
-unfolding firstRows
-firstRows-length T zero = refl
-firstRows-length T (suc n) = length-append (firstRows T n) (rowOf T n ∷ []) ∙ omega (arith, firstRows-length T n)
 
 -- ---- accepted calls
 

@@ -1,21 +1,21 @@
 -- 02, No. 11: the join is accepted, and its root is true exactly where the first's or the second's is.
-use Prim.Native.Nat.{ℕ, zero, suc, _+_, _*_, _<_, _≤_}
+use Prim.Native.Nat.{ℕ, suc, _+_, _<_, _≤_}
 use native.Mathlib.Omega.{arith}
-use mathlib.Core.Path.{_≡_, refl, sym, _∙_, ap, ap₂, subst}
-use mathlib.Core.Bool.{Bool, true, false}
+use mathlib.Core.Path.{_≡_, sym, _∙_, ap, ap₂}
+use mathlib.Core.Bool.{Bool, true}
 use mathlib.Core.List.{List}
 use lib.Dec.{leb}
 use lib.IntN.{ℤ, pos}
 use lib.ListN.{length, take}
 use borrow.Author.Tests.{leb-true}
-use Rattle.stab.specs.Basic.{eqZ, _and_, _or_, nat, count}
-use Rattle.stab.specs.Formula.{Row, rowAt, formulaRows, disj, Formula, join, tree, size, depth, smallEnough}
+use Rattle.stab.specs.Basic.{eqZ, _or_, nat, count}
+use Rattle.stab.specs.Formula.{rowAt, formulaRows, disj, Formula, join, tree, size, depth, smallEnough}
 use Rattle.stab.specs.Meaning.{Assignment, op, value, truth}
-use Rattle.stab.specs.Node.{Tableau, Node, rows, rowCount, formula, nodeAt, node}
+use Rattle.stab.specs.Node.{Tableau, Node, rows, rowCount, formula, node}
 use Rattle.stab.specs.Rule.{ofRule}
 use Rattle.stab.specs.Text.{padded}
-use Rattle.stab.specs.Check.{wholeUnless, atUnless, check, isLink, linkCount, refusal, presentMode}
-use Rattle.stab.specs.Keeps.{KeepsTables, KeepsOlder, Keeps}
+use Rattle.stab.specs.Check.{wholeUnless, check, isLink, linkCount, refusal, presentMode}
+use Rattle.stab.specs.Keeps.{KeepsTables, Keeps}
 use Rattle.stab.specs.declared.Verdict.the-variants.{Accepted}
 use Rattle.stab.specs.declared.Finding.the-variants.{Nothing}
 use Rattle.stab.proofs.Bools.{and-left, and-right, otherwise-first, otherwise-second, unless-nothing}

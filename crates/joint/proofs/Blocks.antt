@@ -1,17 +1,17 @@
 -- The nodes of one record as a block of the joined one, d nodes further on: ranks, children and bounds are those they were.
 use Prim.Native.Nat.{ℕ, zero, suc, _+_, _-_, _<_, _≤_}
 use native.Mathlib.Omega.{arith}
-use mathlib.Core.Path.{_≡_, refl, sym, _∙_, ap, ap₂, subst}
+use mathlib.Core.Path.{_≡_, refl, sym, _∙_, ap, ap₂}
 use mathlib.Core.Logic.{_⊎_, inl, inr, ⊎-elim}
-use mathlib.Core.Bool.{Bool, true, false}
+use mathlib.Core.Bool.{false}
 use mathlib.Core.List.{List}
-use lib.IntN.{ℤ, pos, _+ℤ_, pos-ne-negsuc}
+use lib.IntN.{ℤ, pos, pos-ne-negsuc}
 use lib.Signed.{leZ}
 use Rattle.stab.specs.Basic.{if_then_else_, _and_, eqZ, nat, below, count}
 use Rattle.stab.specs.Node.{Tableau, Node, Bound, nodeAt, node, names, childCountOf, rank, splitAt, splitBound, childBound, firstBound, boundOf}
 use Rattle.stab.specs.Rule.{unused}
-use Rattle.stab.specs.Keeps.{Below, KeepsParent}
-use Rattle.stab.proofs.Bools.{decide, if-true, if-false, same-test}
+use Rattle.stab.specs.Keeps.{KeepsParent}
+use Rattle.stab.proofs.Bools.{if-true, if-false, same-test}
 use Rattle.stab.proofs.Whole.{num, le-of, eqZ-true, eqZ-of, eqZ-not, pos-injective}
 use Rattle.stab.proofs.Trees.{below-nat, below-pos, below-of}
 use Rattle.stab.proofs.Tests.{below-tests}

@@ -1,34 +1,32 @@
 -- 02, No. 11: what the check accepts of either record, it accepts of the join, with the links of both.
-use Prim.Native.Nat.{ℕ, zero, suc, _+_, _*_, _-_, _<_, _≤_}
+use Prim.Native.Nat.{ℕ, zero, suc, _+_, _-_, _<_, _≤_}
 use native.Mathlib.Omega.{arith}
 use mathlib.Core.Path.{_≡_, refl, sym, _∙_, ap, ap₂, subst}
-use mathlib.Core.Logic.{_⊎_, inl, inr, ⊎-elim, _≢_}
-use mathlib.Core.Bool.{Bool, true, false, false≢true}
-use mathlib.Core.List.{List, [], _∷_, _++_, List·Memᴰ, List·Memᴰ·cases-cons, List·Memᴰ·not-nil, List·Memᴰ·eq-of-singleton, List·Memᴰ·head, List·Memᴰ·tail}
-use lib.IntN.{ℤ, pos, negℤ, _+ℤ_, pos-ne-negsuc}
-use lib.Signed.{leZ, ltZ, _<ℤ_}
+use mathlib.Core.Logic.{_⊎_, inl, inr, ⊎-elim}
+use mathlib.Core.Bool.{true, false, false≢true}
+use mathlib.Core.List.{List, [], _∷_, List·Memᴰ, List·Memᴰ·eq-of-singleton, List·Memᴰ·head, List·Memᴰ·tail}
+use lib.IntN.{ℤ, pos, _+ℤ_, pos-ne-negsuc}
 use lib.ListN.{length, take, drop}
 use Rattle.stab.specs.Basic.{if_then_else_, eqZ, nat, below, count}
-use Rattle.stab.specs.Formula.{Row, Op, disj, kindOf, junction, Formula, join, tree, wellFormed, size, depth}
-use Rattle.stab.specs.Node.{Tableau, Node, rows, rowCount, row, formula, nodeAt, node, setOf, set, setStart, setEnd, names, childCountOf, childCount, rank, bound}
+use Rattle.stab.specs.Formula.{Row, disj, kindOf, join, tree, wellFormed, size, depth}
+use Rattle.stab.specs.Node.{Tableau, Node, rows, rowCount, row, formula, nodeAt, node, setOf, set, setStart, setEnd, names, childCountOf, childCount, rank}
 use Rattle.stab.specs.Rule.{unused, entry, ruleTable, ruleOf, rule, ofRule, oneOf, given}
-use Rattle.stab.specs.Keeps.{Below, Outer, Ascending, FormedAs, KeepsRow, KeepsFormulas, OuterRow, KeepsSet, KeepsParent, KeepsDrawn, DrawnFrom, KeepsKind, KeepsStep, KeepsNode}
+use Rattle.stab.specs.Keeps.{Below, Outer, Ascending, FormedAs, KeepsRow, OuterRow, KeepsSet, KeepsParent, KeepsDrawn, DrawnFrom, KeepsStep, KeepsNode}
 use Rattle.stab.specs.declared.Rule.{Rule}
-use Rattle.stab.proofs.Bools.{decide, if-true, if-false}
-use Rattle.stab.proofs.Whole.{atom, num, _⊕_, of-le, le-of, lt-of, of-lt, eq-of, of-eq, leZ-of, of-leZ, ltZ-of, of-ltZ, eqZ-of, eqZ-not, pos-injective, plus-nat, nonneg-minus}
+use Rattle.stab.proofs.Whole.{atom, num, _⊕_, of-le, le-of, lt-of, of-lt, eq-of, leZ-of, of-leZ, ltZ-of, of-ltZ, eqZ-not, pos-injective, plus-nat, nonneg-minus}
 use Rattle.stab.proofs.Trees.{below-nat, below-pos, below-of, below-more}
 use Rattle.stab.proofs.Tests.{below-tests}
-use Rattle.stab.proofs.Scans.{count-true, count-false}
+use Rattle.stab.proofs.Scans.{count-false}
 use Rattle.stab.proofs.Formed.{formed-tests}
 use Rattle.stab.proofs.Decoded.{kind-5, junction-tree}
 use Rattle.tidied.specs.Tidied.{through}
-use Rattle.tidied.proofs.Moves.{through-pos, through-below, tree-moved, formed-moved}
+use Rattle.tidied.proofs.Moves.{through-below, tree-moved, formed-moved}
 use Rattle.tidied.proofs.Foldings.{schema-or-proof}
 use Rattle.tidied.proofs.Tidying.{KeepsRules}
 use Rattle.tidied.proofs.Carried.{AllCarried, formula-same, outer-carried, step-carried, drawn-carried}
 use Rattle.joint.specs.Joint.{schemaCount, orRow, ofFirst, ofSecond, theOr, parentOf, movedMembers, jointMembers, untidied}
-use Rattle.joint.proofs.Lists.{movedOf, moved-source, count-add, count-one}
-use Rattle.joint.proofs.Rows.{first-schema, second-schema, first-order, second-order, first-count, or-is, Whose, first, second, theirs, whose, first-moves, second-moves}
+use Rattle.joint.proofs.Lists.{movedOf, count-add, count-one}
+use Rattle.joint.proofs.Rows.{first-schema, second-schema, first-order, second-order, or-is, Whose, first, second, theirs, whose, first-moves, second-moves}
 use Rattle.joint.proofs.Blocks.{parent-pos, parent-none, up-cases, rank-moved}
 use Rattle.joint.proofs.Nodes.{node-zero, node-first, node-second, blockA, blockB, set-first, set-second, first-carried, second-carried}
 

@@ -1,16 +1,13 @@
 -- 02, No. 11: what the tool finds packs into the one number and is read back from it, and what it gives is within the limits.
-use Prim.Native.Nat.{ℕ, _+_, _≤_}
+use Prim.Native.Nat.{_+_}
 use native.Mathlib.Omega.{arith}
 use mathlib.Core.Path.{_≡_, refl, ap}
-use mathlib.Core.Bool.{Bool, true, false}
+use mathlib.Core.Bool.{true}
 use lib.Dec.{leb}
 use borrow.Author.Tests.{leb-true}
-use Rattle.stab.specs.Basic.{_and_, eqZ}
 use Rattle.stab.specs.Node.{Tableau, rowCount}
-use Rattle.stab.specs.Check.{wholeUnless, atUnless, refusal, presentMode}
+use Rattle.stab.specs.Check.{wholeUnless, refusal, presentMode}
 use Rattle.stab.specs.Answer.{Numbers, refusedNumbers, verdictNumbers, packed, answerIn, placeIn, numbersIn, Packs}
-use Rattle.stab.specs.declared.Place.the-variants.{Whole, At}
-use Rattle.stab.specs.declared.Refusal.the-variants.{TableTooShort, Leasts, Joint}
 use Rattle.stab.specs.declared.Verdict.{Verdict}
 use Rattle.stab.specs.declared.Verdict.the-variants.{Accepted, Refused}
 use Rattle.stab.specs.declared.Finding.{Finding}

@@ -1,16 +1,15 @@
 -- Tables made of parts that follow one another; counting over such parts.
-use Prim.Native.Nat.{ℕ, zero, suc, _+_, _*_, _-_, _<_, _≤_}
+use Prim.Native.Nat.{ℕ, zero, suc, _+_, _*_, _-_, _<_}
 use native.Mathlib.Omega.{arith}
-use native.Mathlib.Numerals.{unary-clauses}
 use mathlib.Core.Path.{_≡_, refl, sym, _∙_, ap, ap₂}
-use mathlib.Core.Logic.{_⊎_, inl, inr, ⊎-elim}
+use mathlib.Core.Logic.{⊎-elim}
 use mathlib.Core.Bool.{Bool, true, false}
 use mathlib.Core.List.{List, [], _∷_, _++_, List·Memᴰ, List·Memᴰ·cases-cons, List·Memᴰ·not-nil, List·Memᴰ·head, List·Memᴰ·tail}
 use lib.IntN.{ℤ, pos, _+ℤ_}
 use lib.ListN.{length, getD, take, drop, length-append}
 use lib.Seq.{getD-append-add}
 use Rattle.stab.specs.Basic.{if_then_else_, count}
-use Rattle.stab.specs.Formula.{Row, rowAt}
+use Rattle.stab.specs.Formula.{rowAt}
 use Rattle.stab.specs.Node.{Tableau, Node, nodeAt, node}
 use Rattle.stab.proofs.Scans.{below-suc, count-true}
 use Rattle.tidied.specs.Tidied.{through, renumbered, columns}

@@ -1,29 +1,27 @@
 -- The nodes of the joined record: node 0, the first's, the second's.
 use Prim.Native.Nat.{ℕ, zero, suc, _+_, _*_, _-_, _<_, _≤_}
 use native.Mathlib.Omega.{arith}
-use mathlib.Core.Path.{_≡_, refl, sym, _∙_, ap, ap₂, subst}
+use mathlib.Core.Path.{_≡_, refl, sym, _∙_, ap}
 use mathlib.Core.Logic.{_⊎_, inl, inr, ⊎-elim}
-use mathlib.Core.Bool.{Bool, true, false}
-use mathlib.Core.List.{List, [], _∷_, _++_, List·Memᴰ}
-use lib.IntN.{ℤ, pos, negℤ, _+ℤ_, pos-ne-negsuc}
+use mathlib.Core.Bool.{false}
+use mathlib.Core.List.{List, _++_}
+use lib.IntN.{ℤ, pos, _+ℤ_, pos-ne-negsuc}
 use lib.Signed.{leZ}
 use lib.ListN.{length, take, drop, length-append}
-use Rattle.stab.specs.Basic.{if_then_else_, eqZ, nat, count}
-use Rattle.stab.specs.Formula.{wellFormed}
-use Rattle.stab.specs.Node.{Tableau, Node, rows, rowCount, nodeAt, node, setOf, set, names, childCountOf, childCount, rank, boundOf, bound}
+use Rattle.stab.specs.Basic.{if_then_else_, eqZ, nat}
+use Rattle.stab.specs.Node.{Tableau, Node, rows, nodeAt, node, setOf, set, names, childCount, boundOf, bound}
 use Rattle.stab.specs.Rule.{unused}
-use Rattle.stab.specs.Keeps.{KeepsSet, KeepsParent, KeepsNode}
+use Rattle.stab.specs.Keeps.{KeepsSet, KeepsParent}
 use Rattle.stab.proofs.Bools.{if-true}
 use Rattle.stab.proofs.Whole.{num, le-of, eqZ-not, pos-injective}
 use Rattle.stab.proofs.Formed.{formed-tests}
-use Rattle.tidied.specs.Tidied.{through}
 use Rattle.tidied.proofs.Tidying.{KeepsRules}
 use Rattle.tidied.proofs.Tables.{nodeAt-front, start-pos, set-within}
 use Rattle.tidied.proofs.Carried.{Carries, AllCarried}
 use Rattle.joint.specs.Joint.{orRow, ofFirst, ofSecond, parentOf, further, movedNodes, firstNode, jointNodes, movedMembers, jointMembers, untidied}
 use Rattle.joint.proofs.Lists.{nodeAt-after, movedOf, moved-nodes-length, moved-node, moved-member, moved-source}
 use Rattle.joint.proofs.Rows.{first-moves, second-moves, first-fits, second-fits}
-use Rattle.joint.proofs.Blocks.{parent-pos, parent-none, up-cases, Block, children-moved, rank-moved, bound-moved}
+use Rattle.joint.proofs.Blocks.{parent-pos, parent-none, up-cases, Block, children-moved, bound-moved}
 use Rattle.joint.proofs.Sets.{first-slice, second-slice}
 
 -- a node's number, d further on
@@ -47,12 +45,6 @@ module _ (A B : Tableau) where
   front-length : length (firstNode A B ++ MA) ≡ 9 * suc (A .nodeRows)
   unfolding MA firstNode
   front-length = length-append (firstNode A B) MA ∙ omega (arith, moved-nodes-length (ofFirst A B) 1 1 A (A .nodeRows))
-
-  pub nodes-length : length (jointNodes A B) ≡ 9 * suc (A .nodeRows + B .nodeRows)
-  unfolding jointNodes MA MB
-  nodes-length =
-      length-append (firstNode A B ++ MA) MB
-      ∙ omega (arith, front-length, moved-nodes-length (ofSecond A B) (suc (A .nodeRows)) (suc (A .memberCount)) B (B .nodeRows))
 
   -- rule 1 on the or
   pub node-zero : node (untidied A B) 0 ≡ record { up = unused; rule = pos 1; on = pos (orRow A B); with = unused; other = unused; to = unused; by = pos 0; start = pos 0; size = pos 1 }

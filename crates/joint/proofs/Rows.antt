@@ -1,19 +1,18 @@
 -- The formula rows of the joined record: those of either record, under new numbers, and the or.
-use Prim.Native.Nat.{ℕ, zero, suc, _+_, _*_, _-_, _<_, _≤_}
+use Prim.Native.Nat.{ℕ, zero, suc, _+_, _*_, _-_, _<_}
 use native.Mathlib.Omega.{arith}
-use mathlib.Core.Path.{_≡_, refl, sym, _∙_, ap, ap₂, subst}
+use mathlib.Core.Path.{_≡_, sym, _∙_, ap}
 use mathlib.Core.Logic.{_⊎_, inl, inr, ⊎-elim}
-use mathlib.Core.Bool.{Bool, true, false}
+use mathlib.Core.Bool.{true, false}
 use mathlib.Core.List.{List, _++_}
 use lib.Dec.{ltb}
-use lib.IntN.{ℤ, pos}
+use lib.IntN.{ℤ}
 use lib.ListN.{length, length-append}
 use borrow.Author.Tests.{lt-ltb, ltb-true}
-use Rattle.stab.specs.Basic.{if_then_else_, nat}
-use Rattle.stab.specs.Formula.{Row, rowAt, formulaRows}
+use Rattle.stab.specs.Formula.{rowAt, formulaRows}
 use Rattle.stab.specs.Node.{Tableau, rows, rowCount}
 use Rattle.stab.proofs.Bools.{decide, if-true, if-false}
-use Rattle.tidied.specs.Tidied.{through, renumbered, columns}
+use Rattle.tidied.specs.Tidied.{renumbered, columns}
 use Rattle.tidied.proofs.Moves.{Moves}
 use Rattle.tidied.proofs.Foldings.{formula-rows-below, formula-rows-above, rowAt-front, rowAt-next, columns-length, schema-or-proof}
 use Rattle.joint.specs.Joint.{schemaCount, orRow, ofFirst, ofSecond, movedRows, theOr, jointSchema, jointProof, untidied}
@@ -92,12 +91,6 @@ module _ (A B : Tableau) where
   pub schema-length : length (jointSchema A B) ≡ 4 * schemaCount A B
   unfolding jointSchema schemaCount X Y
   schema-length = length-append (X ++ Y) (columns (theOr A B)) ∙ omega (arith, both-length, columns-length (theOr A B))
-
-  pub proof-length : length (jointProof A B) ≡ 4 * (A .proofRows + B .proofRows)
-  unfolding jointProof
-  proof-length =
-      length-append (movedRows (ofFirst A B) (A .proof) (A .proofRows)) (movedRows (ofSecond A B) (B .proof) (B .proofRows))
-      ∙ omega (arith, moved-length (ofFirst A B) (A .proof) (A .proofRows), moved-length (ofSecond A B) (B .proof) (B .proofRows))
 
   schema-first : (r : ℕ) → r < A .schemaRows → rowAt (jointSchema A B) r ≡ renumbered (ofFirst A B) (rowAt (A .schema) r)
   unfolding jointSchema X Y

@@ -4,7 +4,7 @@ use native.Mathlib.Omega.{arith}
 use mathlib.Core.Path.{_≡_, _∙_, ap}
 use mathlib.Core.List.{List, _∷_}
 use lib.IntN.{ℤ, pos}
-use lib.ListN.{length, take, drop, length-append}
+use lib.ListN.{length, take, drop}
 use lib.Seq.{drop-append-add, length-take-le}
 use Rattle.stab.specs.Node.{Tableau}
 use Rattle.tidied.proofs.Tables.{slice-front, slice-take}
@@ -19,12 +19,6 @@ moved-slice new l m a c h g =
 module _ (A B : Tableau) (heldA : A .memberCount ≤ length (A .members)) (heldB : B .memberCount ≤ length (B .members)) where
   first-length : length (movedMembers (ofFirst A B) (take (A .memberCount) (A .members))) ≡ A .memberCount
   first-length = moved-members-length (ofFirst A B) (take (A .memberCount) (A .members)) ∙ length-take-le (A .memberCount) (A .members) heldA
-
-  pub members-length : length (jointMembers A B) ≡ suc (A .memberCount + B .memberCount)
-  unfolding jointMembers
-  members-length =
-      length-append (pos (orRow A B) ∷ movedMembers (ofFirst A B) (take (A .memberCount) (A .members))) (movedMembers (ofSecond A B) (take (B .memberCount) (B .members)))
-      ∙ omega (arith, first-length, moved-members-length (ofSecond A B) (take (B .memberCount) (B .members)) ∙ length-take-le (B .memberCount) (B .members) heldB)
 
   pub first-slice : (a c : ℕ) → a + c ≤ A .memberCount → take c (drop (suc a) (jointMembers A B)) ≡ movedMembers (ofFirst A B) (take c (drop a (A .members)))
   unfolding jointMembers

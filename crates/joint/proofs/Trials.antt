@@ -1,13 +1,11 @@
 -- The definitions of No. 11 computed on two small records, worked out by hand. The first's one node closes by rule 5. The second has a row
 -- and a node more, a link whose target moves; it is no closed tableau, and need not be one where only rows and nodes are moved.
-use Prim.Native.Nat.{ℕ, _+_, _-_}
 use mathlib.Core.Path.{_≡_, refl}
-use mathlib.Core.List.{List, [], _∷_, _++_}
+use mathlib.Core.List.{[], _∷_}
 use lib.IntN.{ℤ, pos, negsuc}
-use lib.ListN.{take}
-use Rattle.stab.specs.Basic.{if_then_else_, _and_, eqZ, nat, _otherwise_, scan}
-use Rattle.stab.specs.Formula.{rowAt, formulaRows, kindOf}
-use Rattle.stab.specs.Node.{Tableau, nodeAt, node, setOf, set}
+use Rattle.stab.specs.Basic.{if_then_else_, eqZ, nat}
+use Rattle.stab.specs.Formula.{rowAt, kindOf}
+use Rattle.stab.specs.Node.{Tableau, nodeAt, node}
 use Rattle.tidied.specs.Tidied.{through, renumberedAs, renumbered, columns}
 use Rattle.joint.specs.Joint.{schemaCount, orRow, ofFirst, ofSecond, movedRows, theOr, jointSchema, jointProof, further, parentOf, movedNode, movedNodes, firstNode, jointNodes, movedMembers, jointMembers, untidied}
 

@@ -1,10 +1,10 @@
 -- 02, No. 11: in which order a join is turned away, and what stands in lent memory then.
 use Prim.Native.Nat.{ℕ}
-use mathlib.Core.Path.{_≡_, refl, sym, _∙_, ap}
+use mathlib.Core.Path.{_≡_, _∙_, ap}
 use mathlib.Core.Bool.{Bool, true, false}
-use mathlib.Core.List.{List, []}
+use mathlib.Core.List.{[]}
 use lib.Dec.{leb}
-use lib.IntN.{ℤ, pos}
+use lib.IntN.{pos}
 use Rattle.stab.specs.Basic.{_and_, eqZ, _otherwise_}
 use Rattle.stab.specs.Node.{Tableau}
 use Rattle.stab.specs.Check.{wholeUnless, atUnless, check, refusal, presentMode}
@@ -18,7 +18,7 @@ use Rattle.stab.specs.declared.Finding.the-variants.{Found}
 use Rattle.stab.proofs.Bools.{nothing-unless, found-unless, otherwise-nothing, otherwise-found}
 use Rattle.stab.proofs.Exactness.Refusals.{accepted-finds, refused-finds}
 use Rattle.joint.specs.Joint.{joint, jointFits, Rooms, joinRefusal, joinedBy, join, joinedTable, joinedSchema, joinedProof, joinedNodes, joinedMembers}
-use Rattle.joint.specs.declared.Joined.the-variants.{Record, Refused as JoinRefused}
+use Rattle.joint.specs.declared.Joined.the-variants.{Refused as JoinRefused}
 
 -- the result tables have their full sizes
 abbrev full : Rooms → Bool

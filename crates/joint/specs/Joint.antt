@@ -1,11 +1,11 @@
 -- 02, No. 11: one record for either fault.
 use Prim.Native.Nat.{ℕ, zero, suc, _+_, _-_, _≤_}
-use mathlib.Core.Bool.{Bool, true, false}
+use mathlib.Core.Bool.{Bool}
 use mathlib.Core.List.{List, [], _∷_, _++_}
 use lib.Dec.{leb, ltb}
 use lib.IntN.{ℤ, pos, negℤ, _+ℤ_}
 use lib.Signed.{leZ}
-use lib.ListN.{length, take}
+use lib.ListN.{take}
 use Rattle.stab.specs.Basic.{if_then_else_, _and_, eqZ, nat, _otherwise_}
 use Rattle.stab.specs.Formula.{Row, rowAt, smallEnough}
 use Rattle.stab.specs.Node.{Tableau, Node, rows, rowCount, node}

@@ -9,7 +9,7 @@ use mathlib.Core.List.{List, [], _∷_, List·Memᴰ, List·Memᴰ·cases-cons, 
 use lib.IntN.{ℤ, pos, _-ℤ_}
 use lib.ListN.{length, getD, take, drop, length-append, drop-of-length-le, List·getD-append}
 use lib.Seq.{getD-at, getD-take, getD-drop, drop-cons}
-use Rattle.stab.specs.Basic.{_and_, eqZ}
+use Rattle.stab.specs.Basic.{eqZ}
 use Rattle.stab.specs.Formula.{Row, rowAt}
 use Rattle.stab.specs.Check.{sameRow}
 use Rattle.stab.proofs.Bools.{and-left, and-right, and-both}

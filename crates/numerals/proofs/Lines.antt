@@ -1,8 +1,8 @@
 -- The first line of a text: as the definitions have it, and by its first field.
-use Prim.Native.Nat.{ℕ, suc, _+_, _-_, _≤_}
+use Prim.Native.Nat.{ℕ, suc, _+_, _≤_}
 use native.Mathlib.Omega.{arith}
 use mathlib.Core.Path.{_≡_, refl, sym, _∙_, ap, ap₂}
-use mathlib.Core.Logic.{_⊎_, ⊎-elim}
+use mathlib.Core.Logic.{⊎-elim}
 use mathlib.Core.Bool.{Bool, true, false, true≢false}
 use mathlib.Core.List.{List, [], _∷_, _++_}
 use mathlib.Core.Option.{Option, none, some, Option·none-ne-some, Option·some-injective}
@@ -10,7 +10,7 @@ use lib.Dec.{eqb}
 use lib.IntN.{ℤ}
 use lib.ListN.{length, drop}
 use borrow.Author.Tests.{eq-eqb, ne-eqb}
-use Rattle.stab.specs.Basic.{if_then_else_, _and_, _or_}
+use Rattle.stab.specs.Basic.{if_then_else_}
 use Rattle.stab.specs.Text.{Line, newline, lines, inFront, inFrontOf, numbersIn, numbers, numberOf, isDigit, fields, space, intoField, lacks}
 use Rattle.stab.proofs.Bools.{and-both, if-true, if-false, decide, not-of-false}
 use Rattle.stab.proofs.Texts.Lines.{fields-last, fields-space}

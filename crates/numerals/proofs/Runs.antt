@@ -10,7 +10,6 @@ use lib.ListN.{length, getD, drop, drop-of-length-le, List·getD-eq-default}
 use lib.Seq.{drop-cons}
 use lib.Dec.{leb, ltb}
 use borrow.Author.Tests.{le-leb, lt-leb, ltb-true, ltb-false}
-use Rattle.stab.specs.Basic.{_and_}
 use Rattle.stab.specs.Text.{isDigit}
 use Rattle.stab.proofs.Bools.{and-both, and-first-false, and-second-false, if-true, if-false, decide}
 use Rattle.stab.proofs.Texts.Numbers.{digit-high}

@@ -10,7 +10,7 @@ use lib.Dec.{eqb}
 use lib.IntN.{ℤ}
 use lib.ListN.{length, getD, drop, set}
 use borrow.Author.Tests.{eq-eqb, ne-eqb}
-use Rattle.stab.specs.Basic.{if_then_else_, _or_}
+use Rattle.stab.specs.Basic.{if_then_else_}
 use Rattle.stab.specs.Text.{space, newline, sameBytes, isNatural, digitsValue, someIf}
 use Rattle.stab.proofs.Bools.{if-true, if-false, decide}
 use Rattle.stab.proofs.Texts.Numbers.{natural-below}

@@ -8,7 +8,7 @@ use mathlib.Core.Bool.{true, false, true≢false, false≢true}
 use mathlib.Core.List.{List, [], _∷_, List·Memᴰ, List·Memᴰ·cases-cons, List·Memᴰ·not-nil}
 use lib.IntN.{ℤ, pos, _+ℤ_, _-ℤ_}
 use lib.ListN.{length}
-use Rattle.stab.specs.Basic.{nat, _or_}
+use Rattle.stab.specs.Basic.{nat}
 use Rattle.stab.specs.Formula.{Row, Op, Formula, const, lit, join, iter, nothing, parameter, index, onIndex, loose, fixed, isBody, tree, wellFormed}
 use Rattle.stab.specs.Meaning.{base, rangeSize}
 use Rattle.stab.specs.Occurs.{Occurs, Wire, insert, gathered, inserted, Before, Ascends}

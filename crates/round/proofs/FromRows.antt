@@ -16,7 +16,6 @@ use Rattle.stab.specs.Read.{Reading, stopped, require, readText, readSchemaLine
 use Rattle.stab.specs.Check.{holds}
 use Rattle.stab.specs.Write.{Writing, wrote, refused, rowsWritable, setsWritable, schemaText, proofText, modelText, writeSchema, writeProof, writeModel, written, output}
 use Rattle.stab.specs.declared.Place.{Place}
-use Rattle.stab.specs.declared.Place.the-variants.{Whole}
 use Rattle.stab.specs.declared.Refusal.{Refusal}
 use Rattle.stab.specs.declared.Refusal.the-variants.{TextTooLong, TableTooShort}
 use Rattle.stab.specs.declared.SchemaRead.the-variants.{Schema, Refused as SchemaRefused}

@@ -7,7 +7,7 @@ use lib.ListN.{length}
 use Rattle.stab.specs.Text.{padded}
 use Rattle.stab.specs.Read.{Reading, read, stopped}
 use Rattle.stab.specs.Write.{Writing, refused, wrote, writing, written, output}
-use Rattle.stab.specs.declared.Place.the-variants.{Whole, At}
+use Rattle.stab.specs.declared.Place.the-variants.{At}
 use Rattle.stab.specs.declared.Refusal.the-variants.{TableTooShort}
 use Rattle.stab.specs.declared.SchemaRead.{SchemaRead}
 use Rattle.stab.specs.declared.SchemaRead.the-variants.{Schema, Refused as SchemaRefused}

@@ -9,7 +9,6 @@ use lib.Dec.{leb}
 use lib.IntN.{pos}
 use lib.ListN.{length, take, drop, length-append, length-drop, take-append-drop}
 use borrow.Author.Tests.{leb-true, leb-false, lt-leb}
-use Rattle.stab.specs.Basic.{_and_}
 use Rattle.stab.specs.Text.{Line, lines, textLimit}
 use Rattle.stab.specs.Read.{Reading, read, stopped, require, readText, readSchema, readProof, readModel}
 use Rattle.stab.specs.LineNumber.{lineSpan, spanned, lineOf}

@@ -3,7 +3,7 @@ use Prim.Native.Nat.{ℕ, zero, suc, _+_, _*_, _-_, _<_, _≤_}
 use native.Mathlib.Omega.{arith}
 use mathlib.Core.Path.{_≡_, refl, sym, _∙_, ap, subst}
 use mathlib.Core.Logic.{_↔_, _⊎_, inl, inr, ⊎-elim}
-use mathlib.Core.Bool.{Bool, true, false, not, false≢true}
+use mathlib.Core.Bool.{Bool, true, not, false≢true}
 use mathlib.Core.List.{List, [], _∷_, _++_, List·Memᴰ, List·Memᴰ·head, List·Memᴰ·tail, Memᴰ·cast, Memᴰ·append-left, Memᴰ·append-right}
 use lib.Dec.{leb}
 use lib.IntN.{ℤ, pos, negsuc, negℤ}
@@ -17,7 +17,7 @@ use Rattle.stab.proofs.Scans.{below-suc}
 use Rattle.stab.proofs.Trees.{below-nat, below-pos, tree-agrees}
 use Rattle.stab.proofs.Whole.{atom, num, of-le, eqZ-true, plus-nat, nat-pos, nonneg-minus}
 use Rattle.formula.proofs.RowLaws.{unknown-kind}
-use Rattle.small.specs.Small.{smallAs, isSmall, allSmall, onList, overEach, rowOf, literalRows, junctionRows, iterationRows, rowsFor, extendedAll, tables, filtered, smallTables}
+use Rattle.small.specs.Small.{smallAs, isSmall, allSmall, onList, rowOf, literalRows, junctionRows, iterationRows, rowsFor, tables, smallTables}
 use Rattle.small.specs.Fits.{columns, RowsFit}
 use Rattle.small.proofs.Lists.{filtered-in, filtered-out, extended-all-in, extended-all-out, over-each-in}
 use Rattle.small.proofs.Order.{row-length, table-length}

@@ -1,19 +1,19 @@
 -- The order of tables, and that the list is ascending by it.
-use Prim.Native.Nat.{ℕ, zero, suc, _+_, _*_, _<_, _≤_}
+use Prim.Native.Nat.{ℕ, zero, suc, _*_, _<_, _≤_}
 use native.Mathlib.Omega.{arith}
 use native.Mathlib.Decide.{decLe}
 use mathlib.Core.Path.{_≡_, refl, sym, _∙_, ap, subst}
-use mathlib.Core.Logic.{_⊎_, inl, inr, ⊎-elim}
+use mathlib.Core.Logic.{⊎-elim}
 use mathlib.Core.Bool.{Bool, true, false, true≢false, false≢true}
 use mathlib.Core.List.{List, [], _∷_, _++_, List·Memᴰ, List·Memᴰ·head, List·Memᴰ·tail, List·Memᴰ·cases-cons, List·Memᴰ·not-nil, List·Memᴰ·append-cases}
 use lib.Dec.{leb, eqb}
-use lib.IntN.{ℤ, pos, negℤ}
+use lib.IntN.{ℤ}
 use lib.ListN.{length, length-append}
 use lib.Signed.{ltZ}
 use borrow.Author.Tests.{eqb-true, lt-leb}
 use Rattle.stab.specs.Basic.{if_then_else_, _and_, _or_, eqZ, allOf}
 use Rattle.stab.proofs.Bools.{and-left, and-right, and-both, and-first-false, and-second-false, or-cases, or-left, or-right, or-false, or-first-false, and-first-true}
-use Rattle.stab.proofs.Whole.{atom, of-lt, not-lt-of, eqZ-true, eqZ-of, eqZ-refl}
+use Rattle.stab.proofs.Whole.{atom, of-lt, not-lt-of, eqZ-true, eqZ-refl}
 use Rattle.stab.proofs.Scans.{all-use}
 use Rattle.small.specs.Small.{onList, tableBefore, overEach, rowOf, literalRows, junctionRows, iterationRows, rowsFor, extended, extendedAll, tables, filtered, smallTables}
 use Rattle.small.specs.Calls.{Ascends}

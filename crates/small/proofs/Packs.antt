@@ -9,9 +9,8 @@ use lib.Dec.{leb}
 use lib.IntN.{ℤ}
 use Rattle.stab.specs.Basic.{_and_, _otherwise_, unless}
 use Rattle.stab.specs.Check.{wholeUnless, holds}
-use Rattle.stab.specs.Answer.{Numbers, refusedNumbers, verdictNumbers, oneNumber, packed, numbersIn, Packs}
+use Rattle.stab.specs.Answer.{refusedNumbers, verdictNumbers, oneNumber, packed, numbersIn, Packs}
 use Rattle.stab.specs.declared.Place.the-variants.{Whole}
-use Rattle.stab.specs.declared.Refusal.{Refusal}
 use Rattle.stab.specs.declared.Refusal.the-variants.{TableTooShort, NotListed}
 use Rattle.stab.proofs.Packed.{read-back}
 use Rattle.small.specs.Small.{onList, nextTable, nextRefusal, nextOr, nextBy, nextSmall, nextSmallNumbers, nextPacked, nextVerdict}

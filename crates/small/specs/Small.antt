@@ -6,13 +6,12 @@ use mathlib.Core.Option.{Option, none, some}
 use lib.Dec.{leb}
 use lib.IntN.{ℤ, pos, negℤ}
 use lib.Signed.{ltZ}
-use lib.ListN.{length, take}
+use lib.ListN.{take}
 use Rattle.stab.specs.Basic.{if_then_else_, _and_, _or_, eqZ, within, _otherwise_}
 use Rattle.stab.specs.Formula.{Row, rowAt, Kind, kindOf, constant, literal, junction, iteration, unknown, tree, isOuter, wellFormed}
 use Rattle.stab.specs.Check.{wholeUnless, holds}
 use Rattle.stab.specs.Text.{padded}
 use Rattle.stab.specs.Answer.{refusalNumber, placeNumber, oneNumber}
-use Rattle.stab.specs.declared.Place.the-variants.{Whole}
 use Rattle.stab.specs.declared.Refusal.the-variants.{TableTooShort, NotListed}
 use Rattle.stab.specs.declared.Verdict.{Verdict}
 use Rattle.stab.specs.declared.Verdict.the-variants.{Accepted, Refused}

@@ -6,7 +6,6 @@ use mathlib.Core.Bool.{Bool, true, false}
 use lib.Dec.{eqb, leb}
 use Rattle.stab.specs.Basic.{if_then_else_, _otherwise_, allOf, nat}
 use Rattle.stab.specs.Node.{Tableau, node, set, rank, childCount}
-use Rattle.stab.specs.Rule as R
 use Rattle.stab.specs.Rule.{drawn, drawnFrom, fieldsFit, targetFits, boundFits, partnersFit, loweredFits, rule, childrenFit, childrenHeld, childrenAs}
 use Rattle.stab.specs.Check.{atUnless, stepRefusal, nodeRefusal}
 use Rattle.stab.specs.declared.Place.the-variants.{At}

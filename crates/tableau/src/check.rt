@@ -19,7 +19,7 @@ ghost use Rattle.stab.specs.Check.{tablesHold, withinLimits, nodeRefusal, refus
 ghost use Rattle.stab.specs.Check.{check as checked};
 ghost use Rattle.stab.specs.Refuted.{Refuted};
 ghost use Rattle.stab.specs.declared.Verdict.the-variants.{Accepted};
-ghost use Rattle.stab.specs.declared.Finding.the-variants.{Nothing, Found};
+ghost use Rattle.stab.specs.declared.Finding.the-variants.{Nothing};
 ghost use Rattle.formula.specs.Facts.{AllKnown, AllFormed};
 ghost use Rattle.classes.specs.Class.{AllWorked as AllClassed};
 ghost use Rattle.classes.specs.Agreed.{Remembers};

@@ -8,7 +8,6 @@ use lib.Dec.{eqb}
 use lib.IntN.{ℤ}
 use lib.ListN.{length, take, drop}
 use lib.Seq.{sets}
-use Rattle.stab.specs.Basic.{_and_}
 use Rattle.stab.specs.Text.{someIf}
 use Rattle.stab.specs.Read.{Reading, read, _andThen_, ProofText}
 use Rattle.numerals.specs.Here.{firstLine, afterLine, row, firstNumbers}

@@ -1,23 +1,23 @@
 -- 02, No. 10: tidying again changes nothing.
-use Prim.Native.Nat.{ℕ, zero, suc, _+_, _*_, _-_, _<_, _≤_}
+use Prim.Native.Nat.{ℕ, zero, suc, _+_, _*_, _<_, _≤_}
 use native.Mathlib.Omega.{arith}
-use mathlib.Core.Path.{_≡_, refl, sym, _∙_, ap, ap₂, subst}
+use mathlib.Core.Path.{_≡_, refl, sym, _∙_, ap, ap₂}
 use mathlib.Core.Logic.{_⊎_, inl, inr, ⊎-elim, _≢_}
-use mathlib.Core.Bool.{Bool, true, false}
-use mathlib.Core.List.{List, [], _∷_, _++_, append-assoc, List·Memᴰ}
+use mathlib.Core.Bool.{true, false}
+use mathlib.Core.List.{List, [], _∷_, _++_, append-assoc}
 use mathlib.Core.Option.{none}
 use lib.IntN.{ℤ, pos}
 use lib.ListN.{length, getD, take, length-append}
 use lib.Seq.{take-suc, take-all}
-use Rattle.stab.specs.Basic.{if_then_else_, eqZ, nat}
+use Rattle.stab.specs.Basic.{eqZ, nat}
 use Rattle.stab.specs.Formula.{Row, rowAt, formulaRows, wellFormed}
 use Rattle.stab.specs.Node.{Tableau, Node, rows, rowCount, node, set}
 use Rattle.stab.specs.Rule.{unused, rule}
 use Rattle.stab.specs.Check.{sameRow, checkOlder}
-use Rattle.stab.specs.Keeps.{Below, KeepsKind, KeepsStep, Fresh, KeepsOlder}
+use Rattle.stab.specs.Keeps.{Below, KeepsKind, KeepsStep, Fresh}
 use Rattle.stab.specs.declared.Verdict.the-variants.{Accepted}
 use Rattle.stab.proofs.Bools.{decide, if-false}
-use Rattle.stab.proofs.Whole.{eqZ-true, eqZ-of, not-eqZ}
+use Rattle.stab.proofs.Whole.{eqZ-true, not-eqZ}
 use Rattle.stab.proofs.Trees.{below-nat, below-pos}
 use Rattle.stab.proofs.Tests.{below-tests, same-row-tests}
 use Rattle.stab.proofs.Scans.{below-suc}

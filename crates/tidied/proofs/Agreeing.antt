@@ -3,11 +3,11 @@ use Prim.Native.Nat.{ℕ, zero, suc, _<_}
 use native.Mathlib.Omega.{arith}
 use mathlib.Core.Path.{_≡_, refl, sym, _∙_, ap, ap₂}
 use mathlib.Core.Logic.{⊎-elim}
-use mathlib.Core.Bool.{Bool, true, false}
+use mathlib.Core.Bool.{Bool, false}
 use mathlib.Core.List.{List}
 use lib.IntN.{ℤ, pos}
 use Rattle.stab.specs.Basic.{if_then_else_, eqZ, nat, below, count}
-use Rattle.stab.specs.Node.{Node, nodeAt, names, childCountOf, rank, Bound, splitAt, splitBound, childBound, firstBound, boundOf}
+use Rattle.stab.specs.Node.{Node, nodeAt, names, childCountOf, rank, Bound, splitAt, splitBound, childBound, boundOf}
 use Rattle.stab.proofs.Bools.{decide, if-false}
 use Rattle.stab.proofs.Trees.{below-nat}
 use Rattle.stab.proofs.Bounds.{bound-first, bound-child}

@@ -1,26 +1,26 @@
 -- A record whose rows stand under new numbers in another: what a node keeps of the rules, it keeps there.
 use Prim.Native.Nat.{ℕ, zero, suc, _<_}
 use native.Mathlib.Omega.{arith}
-use mathlib.Core.Path.{_≡_, refl, sym, _∙_, ap, ap₂, subst}
+use mathlib.Core.Path.{_≡_, refl, sym, _∙_, ap, subst}
 use mathlib.Core.Logic.{_⊎_, inl, inr, ⊎-elim, _≢_}
 use mathlib.Core.Bool.{Bool, true, false}
 use mathlib.Core.List.{List, [], _∷_, List·Memᴰ, List·Memᴰ·cases-cons, List·Memᴰ·not-nil, List·Memᴰ·eq-of-singleton, List·Memᴰ·head, List·Memᴰ·tail}
-use mathlib.Core.Option.{Option, some}
-use lib.IntN.{ℤ, pos, _+ℤ_, _-ℤ_, pos-ne-negsuc}
-use lib.Signed.{leZ, _≤ℤ_, _<ℤ_}
+use mathlib.Core.Option.{some}
+use lib.IntN.{ℤ, pos, _+ℤ_, pos-ne-negsuc}
+use lib.Signed.{_<ℤ_}
 use Rattle.stab.specs.Basic.{if_then_else_, eqZ, nat, below}
-use Rattle.stab.specs.Formula.{Row, Op, conj, disj, Kind, literal, junction, iteration, kindOf, Formula, tree, wellFormed}
-use Rattle.stab.specs.Alike.{lower, instance}
-use Rattle.stab.specs.Node.{Tableau, Node, Bound, rows, rowCount, row, formula, node, set, splitAt, bound, rank, childCount}
-use Rattle.stab.specs.Rule.{unused, entry, ruleTable, ruleOf, rule, ofRule, oneOf, given, indexAt}
-use Rattle.stab.specs.Keeps.{Below, Alike, OuterRow, DrawnFrom, KeepsKind, Splits, Unfolds, SameIndex, Clashes, Loops, KeepsStep}
+use Rattle.stab.specs.Formula.{Row, Op, conj, disj, Kind, literal, junction, iteration, kindOf, tree, wellFormed}
+use Rattle.stab.specs.Alike.{lower}
+use Rattle.stab.specs.Node.{Tableau, Bound, rows, rowCount, row, formula, node, set, bound, childCount}
+use Rattle.stab.specs.Rule.{unused, entry, ruleTable, ruleOf, rule, ofRule, oneOf, given}
+use Rattle.stab.specs.Keeps.{Below, Alike, OuterRow, DrawnFrom, KeepsKind, Unfolds, Clashes, Loops, KeepsStep}
 use Rattle.stab.specs.declared.Rule.{Rule}
-use Rattle.stab.proofs.Trees.{below-nat, below-pos, below-of, below-more}
+use Rattle.stab.proofs.Trees.{below-nat, below-of, below-more}
 use Rattle.stab.proofs.Tests.{below-tests}
 use Rattle.stab.proofs.Whole.{eqZ-true}
 use Rattle.stab.proofs.Decoded as D
 use Rattle.stab.proofs.Decoded.{kind-2, kind-3, kind-4, kind-5, kind-6, kind-7}
-use Rattle.tidied.specs.Tidied.{through, renumberedAs, renumbered}
+use Rattle.tidied.specs.Tidied.{through, renumberedAs}
 use Rattle.tidied.proofs.Moves.{Moves, through-below, through-negative, moved-kind, moved-as, tree-moved}
 
 -- ---- the table's entries
@@ -154,9 +154,6 @@ module _ {T U : Tableau} {new at : ℕ → ℕ} (C : AllCarried T U new at) wher
   -- ---- one node
 
   module _ (j : ℕ) (h : j < T .nodeRows) (K : KeepsStep T j) where
-    N : Carries T U new j (at j)
-    N = C .each j h
-
     same-rule : rule U (at j) ≡ rule T j
     unfolding rule
     same-rule = ap ruleOf (C .each j h .rule)

@@ -3,7 +3,7 @@ use Prim.Native.Nat.{ℕ, zero, suc, _+_, _*_, _-_, _<_, _≤_}
 use native.Mathlib.Omega.{arith}
 use mathlib.Core.Path.{_≡_, refl, sym, _∙_, ap, ap₂, subst}
 use mathlib.Core.Logic.{_⊎_, inl, inr, ⊎-elim, _≢_}
-use mathlib.Core.Bool.{Bool, true, false, false≢true, true≢false}
+use mathlib.Core.Bool.{Bool, true, false}
 use mathlib.Core.List.{List, [], _∷_, _++_}
 use mathlib.Core.Option.{Option, none, some, orElse, Option·none-ne-some}
 use lib.Dec.{ltb}
@@ -12,7 +12,7 @@ use lib.ListN.{length, getD, take, length-append, List·getD-append}
 use lib.Seq.{getD-append-add, getD-at, getD-take}
 use borrow.Author.Tests.{lt-ltb, ltb-true, ltb-false}
 use Rattle.stab.specs.Basic.{if_then_else_, nat, below, first}
-use Rattle.stab.specs.Formula.{Row, rowAt, formulaRows, Op, Kind, constant, literal, junction, iteration, unknown, kindOf, wellFormedAs, wellFormed}
+use Rattle.stab.specs.Formula.{Row, rowAt, formulaRows, Kind, constant, literal, junction, iteration, unknown, kindOf, wellFormedAs, wellFormed}
 use Rattle.stab.specs.Check.{sameRow}
 use Rattle.stab.proofs.Bools.{decide, and-left, and-right, if-true, if-false}
 use Rattle.stab.proofs.Trees.{below-nat}

@@ -1,5 +1,5 @@
 -- 02, No. 10: what stands in lent memory is accepted, and stays as it is when it is tidied again; refusals, and what stands there after them.
-use Prim.Native.Nat.{ℕ, _*_, _≤_, _<_}
+use Prim.Native.Nat.{ℕ, _*_, _≤_}
 use native.Mathlib.Omega.{arith}
 use mathlib.Core.Path.{_≡_, refl, sym, _∙_, ap, ap₂}
 use mathlib.Core.Bool.{Bool, true, false}

@@ -3,11 +3,11 @@ use Prim.Native.Nat.{ℕ, zero, suc, _<_}
 use native.Mathlib.Omega.{arith}
 use mathlib.Core.Path.{_≡_, refl, sym, _∙_, ap, ap₂, subst}
 use mathlib.Core.Logic.{_⊎_, inl, inr, ⊎-elim}
-use mathlib.Core.Bool.{Bool, true, false, false≢true}
+use mathlib.Core.Bool.{true, false}
 use lib.IntN.{ℤ, pos}
 use lib.Signed.{leZ}
-use Rattle.stab.specs.Basic.{if_then_else_, nat, below}
-use Rattle.stab.specs.Formula.{Row, Op, Kind, constant, literal, junction, iteration, unknown, kindOf, Formula, const, join, iter, part, decode, tree, wellFormedAs, wellFormed}
+use Rattle.stab.specs.Basic.{nat, below}
+use Rattle.stab.specs.Formula.{Row, Op, Kind, constant, literal, junction, iteration, unknown, kindOf, Formula, join, iter, part, decode, tree, wellFormedAs, wellFormed}
 use Rattle.stab.specs.Keeps.{FormedAs}
 use Rattle.stab.proofs.Bools.{decide, and-left, and-right, if-true, if-false}
 use Rattle.stab.proofs.Whole.{num, le-of, nat-pos}

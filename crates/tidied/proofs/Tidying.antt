@@ -1,19 +1,19 @@
 -- 02, No. 10: what the older check accepts, the check accepts after tidying, with the same nodes and links.
-use Prim.Native.Nat.{ℕ, zero, suc, _+_, _*_, _<_, _≤_}
+use Prim.Native.Nat.{ℕ, zero, suc, _<_, _≤_}
 use native.Mathlib.Omega.{arith}
 use mathlib.Core.Path.{_≡_, refl, sym, _∙_, ap, ap₂, subst}
 use mathlib.Core.Logic.{⊎-elim}
-use mathlib.Core.Bool.{Bool, true, false}
-use mathlib.Core.List.{List, [], _∷_, List·Memᴰ}
+use mathlib.Core.Bool.{true}
+use mathlib.Core.List.{[], _∷_, List·Memᴰ}
 use lib.IntN.{ℤ, pos, _+ℤ_}
 use lib.Signed.{leZ}
 use lib.ListN.{length, take, drop, length-append, length-take}
-use Rattle.stab.specs.Basic.{eqZ, nat, below, count}
-use Rattle.stab.specs.Formula.{Row, formulaRows, tree, wellFormed, Formula, size, depth}
-use Rattle.stab.specs.Node.{Tableau, Node, rows, rowCount, row, formula, nodeAt, node, setOf, set, setStart, setEnd, childCount, rank, bound}
-use Rattle.stab.specs.Rule.{unused, ofRule, given}
+use Rattle.stab.specs.Basic.{eqZ, nat}
+use Rattle.stab.specs.Formula.{tree, wellFormed}
+use Rattle.stab.specs.Node.{Tableau, Node, rows, rowCount, nodeAt, node, setOf, set, setStart, setEnd, childCount, rank, bound}
+use Rattle.stab.specs.Rule.{ofRule}
 use Rattle.stab.specs.Check.{check, checkOlder, isLink, linkCount}
-use Rattle.stab.specs.Keeps.{Below, Outer, KeepsRow, KeepsFormulas, OuterRow, Ascending, KeepsSet, KeepsParent, KeepsDrawn, DrawnFrom, KeepsNode, KeepsTables, KeepsOlder, Fresh, Keeps}
+use Rattle.stab.specs.Keeps.{Below, KeepsRow, KeepsFormulas, OuterRow, KeepsSet, KeepsParent, KeepsDrawn, DrawnFrom, KeepsNode, KeepsTables, KeepsOlder, Fresh, Keeps}
 use Rattle.stab.specs.declared.Verdict.the-variants.{Accepted}
 use Rattle.stab.proofs.Whole.{atom, num, _⊕_, of-le, le-of, leZ-of, of-leZ, plus-nat, nonneg-minus}
 use Rattle.stab.proofs.Trees.{below-nat, below-pos}
@@ -21,7 +21,7 @@ use Rattle.stab.proofs.Scans.{below-suc}
 use Rattle.stab.proofs.Tests.{below-tests}
 use Rattle.stab.proofs.Formed.{formed-tests}
 use Rattle.stab.proofs.Exactness.{accepts-exactly, older-accepts-exactly}
-use Rattle.tidied.specs.Tidied.{through, insertMember, tidySet, tidyMembers, tidyNode, tidyNodes, foldingOf, newOf, tidied}
+use Rattle.tidied.specs.Tidied.{through, insertMember, tidySet, tidyMembers, foldingOf, newOf, tidied}
 use Rattle.tidied.proofs.Moves.{Moves, through-below, tree-moved, formed-moved}
 use Rattle.tidied.proofs.Foldings.{Folded, folded, folded-moves, new-schema}
 use Rattle.tidied.proofs.Sets.{tidy-member, tidy-source, tidy-ascends, tidy-length}

@@ -1,6 +1,5 @@
 -- The definitions of No. 10 computed on a small record, worked out by hand. Of its proof rows 3 to 8, row 4 repeats row 3; row 6 repeats
 -- row 5 only once its part, row 4, has its new number; row 7 repeats schema row 0; node 1's set holds both copies of row 3.
-use Prim.Native.Nat.{ℕ}
 use mathlib.Core.Path.{_≡_, refl}
 use mathlib.Core.List.{List, [], _∷_}
 use lib.IntN.{ℤ, pos, negsuc}
@@ -9,7 +8,7 @@ use Rattle.stab.specs.Basic.{if_then_else_, _and_, eqZ, nat, first}
 use Rattle.stab.specs.Formula.{rowAt, formulaRows, kindOf}
 use Rattle.stab.specs.Node.{Tableau, nodeAt, node, setOf, set}
 use Rattle.stab.specs.Check.{sameRow}
-use Rattle.tidied.specs.Tidied.{through, renumberedAs, renumbered, columns, Folding, newNumber, earliest, foldedInto, foldRow, foldNext, folding, foldingOf, newOf, insertMember, tidySet, tidyMembers, tidyNode, tidyNodes, tidied}
+use Rattle.tidied.specs.Tidied.{through, renumberedAs, renumbered, columns, newNumber, earliest, foldedInto, foldRow, foldNext, folding, foldingOf, newOf, insertMember, tidySet, tidyMembers, tidyNode, tidyNodes, tidied}
 
 none : ℤ
 none = negsuc 0

@@ -5,7 +5,6 @@ use mathlib.Core.Bool.{true, false}
 use mathlib.Core.List.{List, []}
 use lib.Dec.{leb}
 use lib.IntN.{ℤ, pos}
-use lib.ListN.{length}
 use Rattle.stab.specs.Basic.{_and_}
 use Rattle.stab.specs.Node.{Tableau}
 use Rattle.stab.specs.Text.{padded}

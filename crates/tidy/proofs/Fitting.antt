@@ -1,19 +1,19 @@
 -- Nodes and members alone; and that each set has room, in a record that the older check accepts.
-use Prim.Native.Nat.{ℕ, zero, suc, _+_, _<_, _≤_}
+use Prim.Native.Nat.{ℕ, zero, suc, _+_, _≤_}
 use native.Mathlib.Omega.{arith}
-use mathlib.Core.Path.{_≡_, refl, sym, _∙_, ap, ap₂, subst}
+use mathlib.Core.Path.{_≡_, refl, sym, ap, ap₂, subst}
 use mathlib.Core.Bool.{true}
 use mathlib.Core.List.{List, _++_}
 use lib.IntN.{ℤ, pos}
 use lib.Signed.{leZ}
 use lib.ListN.{length, drop, length-append, length-take}
 use Rattle.stab.specs.Basic.{nat}
-use Rattle.stab.specs.Node.{Tableau, nodeAt, node, set, setOf, setStart, setEnd}
+use Rattle.stab.specs.Node.{Tableau, node, set, setOf, setStart, setEnd}
 use Rattle.stab.specs.Keeps.{KeepsOlder}
 use Rattle.stab.proofs.Whole.{atom, num, _⊕_, of-le, le-of, leZ-of, plus-nat, nonneg-minus}
 use Rattle.tidied.specs.Tidied.{tidySet, tidyMembers, tidyNode, tidyNodes}
 use Rattle.tidied.proofs.Sets.{tidy-length}
-use Rattle.tidy.specs.Kept.{bare, SetFits, AllFit}
+use Rattle.tidy.specs.Kept.{bare, AllFit}
 
 -- ---- the rest of a record does not matter
 

@@ -1,5 +1,5 @@
 -- Numbers stored one after another, and the tables after one node more.
-use Prim.Native.Nat.{ℕ, zero, suc, _+_, _-_, _*_, _<_, _≤_}
+use Prim.Native.Nat.{ℕ, suc, _+_, _-_, _*_, _<_, _≤_}
 use native.Mathlib.Omega.{arith}
 use native.Mathlib.Nat.{add-zero}
 use native.Mathlib.Numerals.{add-one}
@@ -8,7 +8,7 @@ use mathlib.Core.List.{List, [], _∷_, _++_, append-nil}
 use lib.IntN.{ℤ, pos}
 use lib.ListN.{length, getD, take, drop, set, length-append, length-drop, drop-of-length-le}
 use lib.Seq.{sets, take-suc, take-append-add, take-all, length-take-le}
-use borrow.Rule.Slice.PartMut.{midOf, putMid}
+use borrow.Rule.Slice.PartMut.{putMid}
 use Rattle.stab.specs.Basic.{nat}
 use Rattle.stab.specs.Node as N
 use Rattle.stab.specs.Node.{nodeAt, node, setOf}
@@ -37,10 +37,6 @@ pub sets-all : (t : List ℤ) (at : ℕ) (vs : List ℤ) (k : ℕ) → length vs
 sets-all t at vs k h = ap (sets t at) (take-all k vs h)
 
 -- ---- the end of a table from `at` on, lent and given back
-
-pub lent-length : (at : ℕ) (t : List ℤ) → length (midOf at (length t - at) t) ≡ length t - at
-lent-length at t =
-    ap length (take-all (length t - at) (drop at t) (omega (arith, length-drop at t))) ∙ length-drop at t
 
 pub lent-back : (at : ℕ) (t ys : List ℤ) → putMid at (length t - at) t ys ≡ take at t ++ ys
 lent-back at t ys =

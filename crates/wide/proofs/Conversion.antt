@@ -156,17 +156,6 @@ module _ (W : WideSchema) (t : List ℤ) (has : HasPlainRows W (rowAt t)) where
 
 -- ---- the theorems
 
--- well-formed wide rows give well-formed plain rows, whatever their size
-pub plain-formed : (W : WideSchema) → ((r : ℕ) → r < W .schema .rows → wideFormed (rowAt (W .schema .table)) r ≡ true) → (r : ℕ) → r < plainCount W → wellFormed (rowAt (plainTable W)) r ≡ true
-plain-formed W formed r l = row-formed W (rowAt (plainTable W)) (λ p h. refl) formed r l
-
--- the plain root is a plain row, outer exactly if the wide root is
-pub plain-root : (W : WideSchema) → ((r : ℕ) → r < W .schema .rows → wideFormed (rowAt (W .schema .table)) r ≡ true) → below (W .schema .rows) (W .schema .root) ≡ true
-    → (plainRoot W < plainCount W) × (isOuter (tree (rowAt (plainTable W)) (plainRoot W)) ≡ isWideOuter (wideFormula (W .schema)))
-plain-root W formed rootRow =
-    let plains = rowAt (plainTable W) in
-    (root-below W plains (λ p h. refl) formed rootRow, root-outer W plains (λ p h. refl) formed rootRow)
-
 -- in a table that starts with the plain rows, the check's pass over formula rows finds nothing exactly if 23 is not given, where the wide
 -- rows pass and the plain rows are few enough
 pub plain-judged : (W : WideSchema) (t : List ℤ) → HasPlainRows W (rowAt t) → wideRefusal (W .schema) ≡ Nothing → plainCount W ≤ 1024

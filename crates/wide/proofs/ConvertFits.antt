@@ -1,5 +1,5 @@
 -- What the converter answers fits into the one number and the lent results.
-use Prim.Native.Nat.{_<_, _≤_}
+use Prim.Native.Nat.{_≤_}
 use native.Mathlib.Omega.{arith}
 use mathlib.Core.Path.{_≡_, refl}
 use Rattle.stab.specs.Formula.{Schema, rowAt}
@@ -10,8 +10,8 @@ use Rattle.stab.proofs.Packed.{near-packs}
 use Rattle.stab.specs.Entry.{SchemaFits}
 use Rattle.stab.specs.declared.Finding.{Finding}
 use Rattle.stab.specs.declared.Finding.the-variants.{Nothing, Found}
-use Rattle.wide.specs.Convert.{WideSchema, plainCount, plainRoot, wideRowRefusal, wideRefusal, plainRefusal, convertRefusal, convertedBy, converted}
-use Rattle.wide.proofs.Conversion.{convert-clears, plain-root}
+use Rattle.wide.specs.Convert.{WideSchema, plainCount, wideRowRefusal, wideRefusal, plainRefusal, convertRefusal, convertedBy, converted}
+use Rattle.wide.proofs.Conversion.{convert-clears}
 
 of-wide : (S : Schema) → S .rows ≤ 4096 → FindsNear (wideRefusal S)
 unfolding wideRefusal wideRowRefusal
@@ -46,9 +46,3 @@ converted-fits W = go (convertRefusal W) refl
     go Nothing e = convert-clears W .0 e .plainRules .limit
     go (Found why p) e =
         near-packs why p (convert-finds W why p e)
-
--- the plain root is one of at most 1,024 rows
-pub converted-root : (W : WideSchema) → convertRefusal W ≡ Nothing → (plainRoot W < plainCount W) × (plainCount W ≤ 1024)
-converted-root W e =
-    let K = convert-clears W .0 e in
-    (plain-root W (K .wideRules .formed) (K .wideRules .rootRow) .0, K .plainRules .limit)

@@ -3,7 +3,7 @@ use Prim.Native.Nat.{ℕ, zero, suc, _+_}
 use mathlib.Core.Bool.{Bool, true, false, not}
 use mathlib.Core.List.{List, [], _∷_, _++_}
 use lib.IntN.{ℤ, pos}
-use Rattle.stab.specs.Basic.{if_then_else_, nat}
+use Rattle.stab.specs.Basic.{nat}
 use Rattle.stab.specs.Formula.{Row, Op, conj, disj, unknown, constant, literal, junction, iteration}
 use Rattle.wide.specs.WideFormula.{WideKind, plain, negation, implication, equivalence, wideKindOf}
 

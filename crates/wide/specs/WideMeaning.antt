@@ -2,7 +2,7 @@
 use Prim.Native.Nat.{ℕ}
 use mathlib.Core.Bool.{Bool, true, false, not}
 use lib.IntN.{ℤ, pos, _+ℤ_, _-ℤ_}
-use Rattle.stab.specs.Basic.{_and_, _or_, _implies_}
+use Rattle.stab.specs.Basic.{_implies_}
 use Rattle.stab.specs.Meaning.{Assignment, base, signed, op, over, rangeSize}
 use Rattle.wide.specs.WideFormula.{Wide, const, lit, join, iter, neg, imp, equiv}
 

@@ -7,7 +7,7 @@ ghost use lib.IntN.{pos};
 ghost use Rattle.stab.specs.Basic.{scan};
 ghost use Rattle.stab.specs.Formula.{formulaRows};
 ghost use Rattle.stab.specs.Lent.{lentSchema};
-ghost use Rattle.stab.specs.declared.Finding.the-variants.{Nothing, Found};
+ghost use Rattle.stab.specs.declared.Finding.the-variants.{Nothing};
 ghost use Rattle.wide.specs.WideFormula.{wideKindOf, wideTree};
 ghost use Rattle.wide.specs.Convert.{wideRowRefusal, wideRefusal};
 ghost use Rattle.formula.specs.Cells.{rowOf};

@@ -1,11 +1,8 @@
-use native.Mathlib.Omega.{arith}
-use Prim.Native.Nat.{ℕ}
-use mathlib.Core.Path.{_≡_, refl, sym, _∙_}
+use mathlib.Core.Path.{refl, sym, _∙_}
 use mathlib.Core.Bool.{true≢false}
 use borrow.Author.Needs.{needs}
-use Rattle.stab.specs.Formula.{Row, formulaRows}
 use Rattle.formula.proofs.RowLaws.{never}
-use Rattle.formula_pass.proofs.PassLaws.{row-stops, row-passes, row-repeats, row-fresh, row-nothing}
+use Rattle.formula_pass.proofs.PassLaws.{row-stops, row-passes, row-repeats, row-fresh}
 use Rattle.formula_pass.proofs.row.Statement.{statement}
 use Rattle.formula_pass.proofs.row.Tie as tie
 

@@ -1,6 +1,6 @@
 use borrow.Author.Needs.{needs}
 use native.Mathlib.Omega.{arith}
-use Prim.Native.Nat.{_+_, _-_, _<_}
+use Prim.Native.Nat.{_+_, _<_}
 use mathlib.Core.Path.{sym, _∙_, ap}
 use lib.ListN.{drop, length, length-drop}
 use Rattle.stab.specs.Text.{isDigit}

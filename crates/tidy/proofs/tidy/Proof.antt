@@ -1,8 +1,8 @@
 use borrow.Author.Needs.{needs}
 use native.Mathlib.Omega.{arith}
-use Prim.Native.Nat.{_*_, _≤_}
+use Prim.Native.Nat.{_≤_}
 use mathlib.Core.Path.{_≡_, sym, _∙_}
-use mathlib.Core.Bool.{true, false}
+use mathlib.Core.Bool.{true}
 use lib.Dec.{leb}
 use lib.ListN.{length}
 use borrow.Author.Tests.{leb-true}
@@ -10,7 +10,7 @@ use Rattle.stab.specs.Basic.{_and_}
 use Rattle.stab.specs.Node.{Tableau, rowCount}
 use Rattle.stab.specs.Check.{checkOlder}
 use Rattle.stab.specs.Keeps.{KeepsOlder}
-use Rattle.stab.specs.declared.Verdict.the-variants.{Accepted, Refused}
+use Rattle.stab.specs.declared.Verdict.the-variants.{Accepted}
 use Rattle.stab.proofs.Bools.{and-left, and-right, asked-false, asked-true}
 use Rattle.stab.proofs.Exactness.{older-accepts-exactly}
 use Rattle.stab.specs.Lent.{lent}

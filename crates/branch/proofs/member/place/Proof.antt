@@ -16,8 +16,6 @@ use Rattle.stab.proofs.Bools.{asked-false, asked-true}
 use Rattle.stab.proofs.Searches.{place-is}
 use Rattle.branch.proofs.member.place.Statement.{statement}
 use Rattle.branch.proofs.member.place.Tie as tie
-use Rattle.branch.proofs.member.place.Reads as reads
-use Rattle.branch.proofs.member.place.Lts as lts
 
 abbrev Inv-loop : tie.InvT-loop
 Inv-loop list z i₀ i = (i ≤ length list) × ((j : ℕ) → j < i → ltZ (getD list j (pos 0)) (toZ w32 z) ≡ true)

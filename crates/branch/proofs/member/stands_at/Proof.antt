@@ -7,8 +7,6 @@ use Rattle.stab.specs.Basic.{eqZ}
 use Rattle.stab.proofs.Searches.{stands-at, stands-past}
 use Rattle.branch.proofs.member.stands_at.Statement.{statement}
 use Rattle.branch.proofs.member.stands_at.Tie as tie
-use Rattle.branch.proofs.member.stands_at.Reads as reads
-use Rattle.branch.proofs.member.stands_at.Lts as lts
 
 mul-equal : tie.Need-mul-equal
 mul-equal c = search needs

@@ -1,5 +1,5 @@
 use borrow.Author.Needs.{needs}
-use mathlib.Core.Path.{_≡_, sym, _∙_}
+use mathlib.Core.Path.{sym, _∙_}
 use borrow.Author.Tests.{eq-eqb, ne-eqb}
 use Rattle.stab.proofs.Bools.{and-first-true, and-first-false}
 use Rattle.classes.proofs.agreed.is_known.Statement.{statement}

@@ -1,6 +1,6 @@
 use borrow.Author.Needs.{needs}
 use native.Mathlib.Omega.{arith}
-use mathlib.Core.Path.{_≡_, sym, _∙_}
+use mathlib.Core.Path.{sym}
 use Rattle.classes.proofs.Remembering.{stands-itself, stands-other}
 use Rattle.classes.proofs.agreed.stand_in.Statement.{statement}
 use Rattle.classes.proofs.agreed.stand_in.Tie as tie

@@ -4,7 +4,6 @@ use lib.IntN.{ℤ, pos, _+ℤ_, _-ℤ_}
 use Rattle.stab.specs.Basic.{eqZ}
 use Rattle.stab.proofs.Bools.{asked-false, asked-true, and-first-true, and-first-false}
 use Rattle.signed.proofs.Signs.{read-back}
-use Rattle.formula.specs.declared.cells.Cells.{Cells}
 use Rattle.classes.proofs.Meets.{and-none}
 use Rattle.classes.proofs.Shifts.{offset-read}
 use Rattle.classes.proofs.numbers.ranges_agree.Statement.{statement}

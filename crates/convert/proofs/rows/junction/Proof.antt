@@ -10,8 +10,8 @@ use Rattle.stab.proofs.Bools.{decide}
 use Rattle.stab.specs.Basic.{below}
 use Rattle.stab.specs.Formula.{rowAt}
 use Rattle.formula.specs.Column.{column}
-use Rattle.wide.specs.Plain.{rowsGiven, row}
-use Rattle.wide.specs.WideFormula.{wideKindOf, plain}
+use Rattle.wide.specs.Plain.{rowsGiven}
+use Rattle.wide.specs.WideFormula.{wideKindOf}
 use Rattle.widerows.proofs.WideLaws.{TwoKind, two-kind}
 use Rattle.convert.specs.Emission.{swapped, bothRows, written}
 use Rattle.convert.proofs.GivenLaws.{Plains, image-plain, swapped-plain, parts-below, join-kind, junction-given, implication-given, two-given}

@@ -1,4 +1,4 @@
-use mathlib.Core.Path.{_≡_, sym, ap}
+use mathlib.Core.Path.{sym, ap}
 use mathlib.Core.Bool.{Bool}
 use lib.Dec.{ltb}
 use Rattle.stab.specs.Basic.{_implies_}

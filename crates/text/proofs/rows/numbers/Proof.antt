@@ -7,9 +7,6 @@ use Rattle.text.specs.Rows.{RowOpen}
 use Rattle.text.proofs.Parts.{step-bad, step-more, step-last, open-start, open-bad, open-more, open-last, open-kept, ended-kept}
 use Rattle.text.proofs.rows.numbers.Statement.{statement}
 use Rattle.text.proofs.rows.numbers.Tie as tie
-use Rattle.text.proofs.rows.numbers.Reads as reads
-use Rattle.text.proofs.rows.numbers.Lts as lts
-use Rattle.numerals.proofs.number.Reads as number-reads
 
 abbrev Inv-loop : tie.InvT-loop
 Inv-loop text at table₀ to w end i₀ k₀ table i k = (to ≤ k) × (k ≤ end) × (length table ≡ length table₀) × RowOpen text at table₀ to table k i

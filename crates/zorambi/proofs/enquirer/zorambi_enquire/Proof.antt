@@ -5,7 +5,7 @@ use lib.IntN.{ℤ, pos}
 use mir.Facts.{toZ-ofZ}
 use denote.Ref.{now}
 use Rattle.stab.specs.Answer.{Packs}
-use Rattle.stab.specs.Lent.{lent, header}
+use Rattle.stab.specs.Lent.{lent}
 use Rattle.growing.specs.Growing.{NodeRow, growthPacked, shownNumber}
 use Rattle.growing.specs.Enquiry.{Editor, editor, enquire, editorAnswer, edited}
 use Rattle.growing.specs.Lent.{heldHeader}
