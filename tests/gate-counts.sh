@@ -30,7 +30,7 @@ echo "1 passed, 0 failed"
 S
   chmod +x "$repo/$1"
 }
-for script in edit-reasons.sh contracts.py quotations.py names.py manual.py entries.py style.sh imports.py kit.sh made.py columns.py zorambi.sh programs.sh readme.sh catalogue.sh install.sh stack.sh solver.sh explain.sh pages.py editor.py python.sh altered.sh gate-counts.sh; do
+for script in edit-reasons.sh contracts.py quotations.py names.py manual.py entries.py style.sh imports.py leftovers.py kit.sh made.py columns.py zorambi.sh programs.sh readme.sh catalogue.sh install.sh stack.sh solver.sh explain.sh pages.py editor.py python.sh altered.sh gate-counts.sh; do
   stand_in "tests/$script" "$script"
 done
 stand_in zorambi 'zorambi $1'
@@ -76,7 +76,7 @@ run gate.sh
 expect "all right" all_right
 cp "$repo/called" "$repo/groups"
 groups=("rt ci " "rt try check_proof" "rt try check_older" "rt try check_model" "rt try cases" "zorambi build"
-  edit-reasons.sh contracts.py quotations.py names.py manual.py entries.py style.sh imports.py kit.sh made.py columns.py zorambi.sh programs.sh readme.sh catalogue.sh install.sh stack.sh solver.sh python.sh altered.sh gate-counts.sh explain.sh pages.py editor.py
+  edit-reasons.sh contracts.py quotations.py names.py manual.py entries.py style.sh imports.py leftovers.py kit.sh made.py columns.py zorambi.sh programs.sh readme.sh catalogue.sh install.sh stack.sh solver.sh python.sh altered.sh gate-counts.sh explain.sh pages.py editor.py
   selftest "cargo test zorambi" "cargo test zorambi-reference" "cargo test zorambi-commands"
   "cargo test zorambi-catalogue" "cargo test zorambi-widths" "cargo test zorambi-cli" "compare least 1 20000" "compare least some 3" "compare least heavy " "compare least some 2" "cargo test zorambi-notation" "cargo test zorambi-show" "cargo test zorambi-explain" "cargo test zorambi-pages" "cargo test zorambi-compile"
   valgrind "make test examples/c" "make handed tests/c" "make c tests/c" "make cpp tests/c")

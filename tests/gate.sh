@@ -13,7 +13,7 @@ failed=0
 # ---- what is run; a script or a package that is added goes into one of these lists
 
 # What needs no library: it runs while the library is made.
-early_scripts=(tests/edit-reasons.sh tests/gate-counts.sh tests/contracts.py tests/quotations.py tests/names.py tests/entries.py tests/imports.py tests/kit.sh tests/made.py tests/columns.py tests/zorambi.sh)
+early_scripts=(tests/edit-reasons.sh tests/gate-counts.sh tests/contracts.py tests/quotations.py tests/names.py tests/entries.py tests/imports.py tests/leftovers.py tests/kit.sh tests/made.py tests/columns.py tests/zorambi.sh)
 early_packages=(zorambi-reference zorambi-commands)
 # What needs the library, the programs and the program zorambi.
 packages=(zorambi zorambi-catalogue zorambi-widths zorambi-cli zorambi-notation zorambi-show zorambi-explain zorambi-pages zorambi-compile)
