@@ -7,10 +7,10 @@ ghost use mathlib.Core.Bool.{true, false};
 ghost use Prim.Native.Nat.{ℕ, _+_, _*_, _<_, _≤_, _^_};
 ghost use lib.IntN.{pos};
 ghost use lib.ListN.{getD, length};
-ghost use Rattle.stab.specs.Basic.{nat, allOf};
+ghost use Rattle.stab.specs.Basic.{nat};
 ghost use Rattle.stab.specs.Formula.{formulaRows, tree, loose};
-ghost use Rattle.stab.specs.Node.{nodeAt, set, setOf};
-ghost use Rattle.stab.specs.Rule.{isLowered, hasLowered};
+ghost use Rattle.stab.specs.Node.{nodeAt, setOf};
+ghost use Rattle.stab.specs.Rule.{isLowered, hasLoweredIn, allLowered};
 ghost use Rattle.classes.specs.Class.{Ready};
 ghost use Rattle.classes.specs.Agreed.{Remembers};
 ghost use Rattle.stab.specs.Lent.{lent};
@@ -72,8 +72,8 @@ fn partner(
     requires { ⌜ loose (tree (formulaRows (now schema) (h .«schema_rows») (now proof)) z) ≡ false ⌝ }
     requires { ⌜ SetOfRows (formulaRows (now schema) (h .«schema_rows») (now proof)) (now nodes) (now members) (h .«schema_rows» + h .«proof_rows») j ⌝ }
     requires { ⌜ Remembers (formulaRows (now schema) (h .«schema_rows») (now proof)) (now agreed) × (h .«schema_rows» + h .«proof_rows» ≤ length (now agreed)) ⌝ }
-    ensures { λ r. ⌜ (r < nat (nodeAt (now (nodes .entry)) j .size) → true ≡ hasLowered (lent (now (schema .entry)) (now (proof .entry)) (now (nodes .entry)) (now (members .entry)) h) k (set (lent (now (schema .entry)) (now (proof .entry)) (now (nodes .entry)) (now (members .entry)) h) j) (pos z)) ⌝ }
-    ensures { λ r. ⌜ (nat (nodeAt (now (nodes .entry)) j .size) ≤ r → false ≡ hasLowered (lent (now (schema .entry)) (now (proof .entry)) (now (nodes .entry)) (now (members .entry)) h) k (set (lent (now (schema .entry)) (now (proof .entry)) (now (nodes .entry)) (now (members .entry)) h) j) (pos z)) ⌝ }
+    ensures { λ r. ⌜ (r < nat (nodeAt (now (nodes .entry)) j .size) → true ≡ hasLoweredIn (lent (now (schema .entry)) (now (proof .entry)) (now (nodes .entry)) (now (members .entry)) h) k j (pos z)) ⌝ }
+    ensures { λ r. ⌜ (nat (nodeAt (now (nodes .entry)) j .size) ≤ r → false ≡ hasLoweredIn (lent (now (schema .entry)) (now (proof .entry)) (now (nodes .entry)) (now (members .entry)) h) k j (pos z)) ⌝ }
     ensures { λ _. ⌜ Remembers (formulaRows (now (schema .entry)) (h .«schema_rows») (now (proof .entry))) (now (agreed .exit)) ⌝ }
 {
     let size = node::natural_of(nodes, j, node::SIZE);
@@ -169,7 +169,7 @@ pub fn all_lowered(
     requires { ⌜ SetOfRows (formulaRows (now schema) (h .«schema_rows») (now proof)) (now nodes) (now members) (h .«schema_rows» + h .«proof_rows») j ⌝ }
     requires { ⌜ SetOfRows (formulaRows (now schema) (h .«schema_rows») (now proof)) (now nodes) (now members) (h .«schema_rows» + h .«proof_rows») to ⌝ }
     requires { ⌜ Remembers (formulaRows (now schema) (h .«schema_rows») (now proof)) (now agreed) × (h .«schema_rows» + h .«proof_rows» ≤ length (now agreed)) ⌝ }
-    ensures { λ r. ⌜ r ≡ allOf (hasLowered (lent (now (schema .entry)) (now (proof .entry)) (now (nodes .entry)) (now (members .entry)) h) k (set (lent (now (schema .entry)) (now (proof .entry)) (now (nodes .entry)) (now (members .entry)) h) j)) (set (lent (now (schema .entry)) (now (proof .entry)) (now (nodes .entry)) (now (members .entry)) h) to) ⌝ }
+    ensures { λ r. ⌜ r ≡ allLowered (lent (now (schema .entry)) (now (proof .entry)) (now (nodes .entry)) (now (members .entry)) h) k to j ⌝ }
     ensures { λ _. ⌜ Remembers (formulaRows (now (schema .entry)) (h .«schema_rows») (now (proof .entry))) (now (agreed .exit)) ⌝ }
 {
     let size = node::natural_of(nodes, to, node::SIZE);

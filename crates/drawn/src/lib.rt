@@ -9,12 +9,12 @@ ghost use mathlib.Core.List.{[], _∷_};
 ghost use Prim.Native.Nat.{_+_, _-_, _<_, _≤_, _^_};
 ghost use lib.IntN.{pos};
 ghost use lib.ListN.{getD, length, take, drop};
-ghost use Rattle.stab.specs.Basic.{nat, has, allOf};
+ghost use Rattle.stab.specs.Basic.{nat, has};
 ghost use Rattle.stab.specs.Formula.{formulaRows};
 ghost use Rattle.stab.specs.Node as N;
-ghost use Rattle.stab.specs.Node.{nodeAt, set, setOf};
+ghost use Rattle.stab.specs.Node.{nodeAt, setOf};
 ghost use Rattle.stab.specs.Search.{placeOf};
-ghost use Rattle.stab.specs.Rule.{oneOf, given, drawnFrom};
+ghost use Rattle.stab.specs.Rule.{oneOf, given, drawnFrom, allDrawn};
 ghost use Rattle.stab.specs.Lent.{lent};
 ghost use Rattle.branch.specs.Lent.{SetHeld, ChildKnown};
 
@@ -136,7 +136,7 @@ pub fn is_drawn(
 ) -> bool
     requires { ⌜ j < 2 ^ 32 ⌝ }
     requires { ⌜ ChildKnown (now nodes) (now members) (now work) j ⌝ }
-    ensures { λ v. ⌜ v ≡ allOf (drawnFrom (lent (now (schema .entry)) (now (proof .entry)) (now (nodes .entry)) (now (members .entry)) h) (nat (nodeAt (now (nodes .entry)) j .up)) (N.rank (now (nodes .entry)) j)) (set (lent (now (schema .entry)) (now (proof .entry)) (now (nodes .entry)) (now (members .entry)) h) j) ⌝ }
+    ensures { λ v. ⌜ v ≡ allDrawn (lent (now (schema .entry)) (now (proof .entry)) (now (nodes .entry)) (now (members .entry)) h) (nat (nodeAt (now (nodes .entry)) j .up)) (N.rank (now (nodes .entry)) j) j ⌝ }
 {
     let p = node::natural_of(nodes, j, node::UP);
     let rank = kept::kept_at(work, 4 * j + worked::RANK);

@@ -74,10 +74,14 @@ given T w k =
 unfoldable pub drawnFrom : Tableau → ℕ → ℕ → ℤ → Bool
 drawnFrom T p k z = has z (set T p) or has z (given T (node T p) k)
 
+-- the set of node j, for a child of rank k of node p
+abbrev pub allDrawn : Tableau → ℕ → ℕ → ℕ → Bool
+allDrawn T p k j = allOf (drawnFrom T p k) (set T j)
+
 -- "A child may leave formulas out, never add one that its rule doesn't give."
 unfoldable pub drawn : Tableau → ℕ → Bool
 drawn T zero = true
-drawn T (suc i) = allOf (drawnFrom T (nat (node T (suc i) .up)) (rank (T .nodes) (suc i))) (set T (suc i))
+drawn T (suc i) = allDrawn T (nat (node T (suc i) .up)) (rank (T .nodes) (suc i)) (suc i)
 
 -- ---- fields: refusal 12
 
@@ -191,10 +195,17 @@ unfoldable pub hasLowered : Tableau → ℤ → List ℤ → ℤ → Bool
 hasLowered T k [] z = false
 hasLowered T k (x ∷ xs) z = isLowered T k z x or hasLowered T k xs z
 
+-- row z, lowered by k, stands in the set of node j
+abbrev pub hasLoweredIn : Tableau → ℤ → ℕ → ℤ → Bool
+hasLoweredIn T k j = hasLowered T k (set T j)
+
+-- each row of the set of node i, lowered by k, stands in the set of node j
+abbrev pub allLowered : Tableau → ℤ → ℕ → ℕ → Bool
+allLowered T k i j = allOf (hasLoweredIn T k j) (set T i)
+
 -- "each row of the ancestor's set, lowered by k, stands in this set", of which 02, No. 6: "16 compares with that node's set"
 unfoldable pub loweredFits : Tableau → ℕ → Bool
-loweredFits T j =
-    ofRule 8 (node T j) implies allOf (hasLowered T (node T j .by) (set T j)) (set T (nat (node T j .to)))
+loweredFits T j = ofRule 8 (node T j) implies allLowered T (node T j .by) (nat (node T j .to)) j
 
 -- ---- the number of children: refusal 17
 
