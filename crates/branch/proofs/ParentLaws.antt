@@ -20,7 +20,6 @@ use Rattle.stab.proofs.Scans.{nothing-scan}
 use Rattle.stab.proofs.Trees.{below-nat, below-pos}
 use Rattle.branch.specs.Parents.{upFits, isAlone, parentRight, AllUpFit}
 use Rattle.branch.specs.Sets.{Within}
-use Rattle.branch.specs.Work.{tableau}
 use Rattle.branch.proofs.Ascending.{part-length, part-at}
 use Rattle.branch.proofs.Parts.{natural-less}
 
@@ -87,17 +86,17 @@ right-later nodes members root (suc i) h f = sym h
 
 -- ---- against the definition of refusal 10
 
-module _ (schema : List ℤ) (s : ℕ) (proof : List ℤ) (p : ℕ) (root least : ℤ) (nodes : List ℤ) (k : ℕ) (members : List ℤ) (m : ℕ) where
-  same-parent : (j : ℕ) → parentRight nodes members root j ≡ parentFits (tableau schema s proof p root least nodes k members m) j
-  unfolding parentRight upFits isAlone parentFits node set tableau
+module _ (T : Tableau) where
+  same-parent : (j : ℕ) → parentRight (T .nodes) (T .members) (T .root) j ≡ parentFits T j
+  unfolding parentRight upFits isAlone parentFits node set
   same-parent zero = refl
   same-parent (suc i) = refl
 
-  pub parent-passes : (j : ℕ) → parentRight nodes members root j ≡ true → parentRefusal (tableau schema s proof p root least nodes k members m) j ≡ Nothing
+  pub parent-passes : (j : ℕ) → parentRight (T .nodes) (T .members) (T .root) j ≡ true → parentRefusal T j ≡ Nothing
   unfolding parentRefusal atUnless
   parent-passes j h = nothing-unless _ _ _ (sym (same-parent j) ∙ h)
 
-  pub parent-refused : (j : ℕ) → parentRight nodes members root j ≡ false → parentRefusal (tableau schema s proof p root least nodes k members m) j ≡ Found Parent (At j)
+  pub parent-refused : (j : ℕ) → parentRight (T .nodes) (T .members) (T .root) j ≡ false → parentRefusal T j ≡ Found Parent (At j)
   unfolding parentRefusal atUnless
   parent-refused j h = found-unless _ _ _ (sym (same-parent j) ∙ h)
 

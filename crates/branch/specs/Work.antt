@@ -1,4 +1,4 @@
--- The tables that the check is lent, as one; and what is worked out once for each node: four numbers a node.
+-- What is worked out once for each node: four numbers a node.
 use Prim.Native.Nat.{ℕ, _+_, _*_, _<_, _≤_, _^_}
 use mathlib.Core.Path.{_≡_}
 use mathlib.Core.List.{List}
@@ -6,12 +6,6 @@ use mathlib.Core.Option.{Option, none, some}
 use lib.IntN.{ℤ}
 use lib.ListN.{getD}
 use Rattle.stab.specs.Node as N
-use Rattle.stab.specs.Node.{Tableau}
-
--- lent tables, with their counts
-unfoldable pub tableau : List ℤ → ℕ → List ℤ → ℕ → ℤ → ℤ → List ℤ → ℕ → List ℤ → ℕ → Tableau
-tableau schema s proof p root least nodes k members m =
-    record { schema = schema; schemaRows = s; proof = proof; proofRows = p; root = root; least = least; nodes = nodes; nodeRows = k; members = members; memberCount = m }
 
 -- an upper bound as one number: 0 for none, else one more than it
 unfoldable pub topOf : Option ℕ → ℕ

@@ -21,7 +21,6 @@ use Rattle.stab.proofs.Trees.{below-nat}
 use Rattle.stab.proofs.Whole.{atom, num, _⊕_, le-of, of-le, eqZ-true, nat-pos, plus-nat, nonneg-minus}
 use Rattle.formula.specs.Facts.{bit, AllKnown}
 use Rattle.branch.specs.Sets.{outerBy, listFits, placeFits, setRight, Within, SetKnown, AllSetsKnown}
-use Rattle.branch.specs.Work.{tableau}
 
 and-assoc : (a b c : Bool) → ((a and b) and c) ≡ (a and (b and c))
 unfolding _and_
@@ -38,32 +37,27 @@ unfolding allOf
 all-same p q h [] = refl
 all-same p q h (x ∷ xs) = ap₂ _and_ (h x) (all-same p q h xs)
 
-module _ (schema : List ℤ) (s : ℕ) (proof : List ℤ) (p : ℕ) (facts : List ℕ) (n : ℕ) (rows-are : s + p ≡ n) (known : AllKnown (formulaRows schema s proof) facts n) where
+module _ (T : Tableau) (facts : List ℕ) (n : ℕ) (rows-are : T .schemaRows + T .proofRows ≡ n) (known : AllKnown (formulaRows (T .schema) (T .schemaRows) (T .proof)) facts n) where
   -- a row is outer exactly if its third fact is 0
-  pub outer-same :
-      (root least : ℤ) (nodes : List ℤ) (k : ℕ) (members : List ℤ) (m : ℕ) (z : ℤ)
-      → outerBy facts n z ≡ isOuterRow (tableau schema s proof p root least nodes k members m) z
-  unfolding outerBy isOuterRow isRow rowCount formula rows isOuter tableau
-  outer-same root least nodes k members m z =
+  outer-same : (z : ℤ) → outerBy facts n z ≡ isOuterRow T z
+  unfolding outerBy isOuterRow isRow rowCount formula rows isOuter
+  outer-same z =
       ⊎-elim
       (λ h.
-      ap (λ (b : Bool). below n z and b) (ap (λ (x : ℕ). eqb x 0) (known (nat z) (below-nat n z h) .loose) ∙ bit-zero (loose (tree (formulaRows schema s proof) (nat z)))))
+      ap (λ (b : Bool). below n z and b) (ap (λ (x : ℕ). eqb x 0) (known (nat z) (below-nat n z h) .loose) ∙ bit-zero (loose (tree (formulaRows (T .schema) (T .schemaRows) (T .proof)) (nat z)))))
       (λ h. and-first-false _ _ h ∙ sym (and-first-false _ _ h))
       (decide (below n z))
-      ∙ ap (λ (c : ℕ). below c z and not (loose (tree (formulaRows schema s proof) (nat z)))) (sym rows-are)
+      ∙ ap (λ (c : ℕ). below c z and not (loose (tree (formulaRows (T .schema) (T .schemaRows) (T .proof)) (nat z)))) (sym rows-are)
 
-  module _ (root least : ℤ) (nodes : List ℤ) (k : ℕ) (members : List ℤ) (m : ℕ) (j : ℕ) where
-    same-fits :
-        (placeFits nodes m j and listFits facts n (setOf members (nodeAt nodes j)))
-        ≡ setFits (tableau schema s proof p root least nodes k members m) j
-    unfolding placeFits listFits setFits set node tableau
-    same-fits =
-        and-assoc (setFollows nodes j) (leZ (setEnd nodes j) (pos m)) _
-        ∙ ap (λ (b : Bool). setFollows nodes j and (leZ (setEnd nodes j) (pos m) and (ascending (setOf members (nodeAt nodes j)) and b))) (all-same _ _ (outer-same root least nodes k members m) (setOf members (nodeAt nodes j)))
+  same-fits : (j : ℕ) → (placeFits (T .nodes) (T .memberCount) j and listFits facts n (setOf (T .members) (nodeAt (T .nodes) j))) ≡ setFits T j
+  unfolding placeFits listFits setFits set node
+  same-fits j =
+      and-assoc (setFollows (T .nodes) j) (leZ (setEnd (T .nodes) j) (pos (T .memberCount))) _
+      ∙ ap (λ (b : Bool). setFollows (T .nodes) j and (leZ (setEnd (T .nodes) j) (pos (T .memberCount)) and (ascending (setOf (T .members) (nodeAt (T .nodes) j)) and b))) (all-same _ _ outer-same (setOf (T .members) (nodeAt (T .nodes) j)))
 
-    pub set-refusal : setRefusal (tableau schema s proof p root least nodes k members m) j ≡ atUnless (setRight facts n nodes k members m j) Set j
-    unfolding setRight setRefusal tableau
-    set-refusal = ap (λ (b : Bool). atUnless (b and (eqb (suc j) k implies eqZ (setEnd nodes j) (pos m))) Set j) (sym same-fits)
+  pub set-refusal : (j : ℕ) → setRefusal T j ≡ atUnless (setRight facts n (T .nodes) (T .nodeRows) (T .members) (T .memberCount) j) Set j
+  unfolding setRight setRefusal
+  set-refusal j = ap (λ (b : Bool). atUnless (b and (eqb (suc j) (T .nodeRows) implies eqZ (setEnd (T .nodes) j) (pos (T .memberCount)))) Set j) (sym (same-fits j))
 
 -- ---- what a set that was not refused is
 

@@ -13,7 +13,6 @@ use Rattle.stab.specs.declared.Finding.the-variants.{Nothing}
 use Rattle.stab.proofs.Bools.{asked-false, asked-true}
 use Rattle.stab.proofs.Findings.{stays, nothing-found, later}
 use Rattle.signed.proofs.Signs.{read-back}
-use Rattle.branch.specs.Work.{tableau}
 use Rattle.sets.specs.Faults.{setFault, parentFault}
 use Rattle.sets.proofs.Faults.{sets-refusal, parents-refusal}
 use Rattle.sets.proofs.SetRefusals.{sets-known, set-within}
@@ -27,13 +26,12 @@ Lent s = lent (s .args .schema .now) (s .args .proof .now) (s .args .nodes .now)
 
 -- what the pass over sets found
 sets-found : (c : tie.After-sets) → c .sets .result ≡ scan (setRefusal (Lent (c .before .before .before))) (c .before .before .before .args .h .«node_rows»)
-unfolding tableau
 sets-found c =
     let start = c .before .before .before in
     let a = start .args in
     c .sets .ensures
     ∙ ap (λ (n : ℕ). scan (setFault (now (a .facts)) n (now (a .nodes)) (a .h .«node_rows») (now (a .members)) (a .h .«member_count»)) (a .h .«node_rows»)) (c .before .row-count .ensures)
-    ∙ sets-refusal (now (a .schema)) (a .h .«schema_rows») (now (a .proof)) (a .h .«proof_rows») (a .h .root) (a .h .least) (now (a .nodes)) (a .h .«node_rows») (now (a .members)) (a .h .«member_count») _ (start .pre .1) (a .h .«node_rows»)
+    ∙ sets-refusal (Lent start) _ (start .pre .1) (a .h .«node_rows»)
 
 row-count-requires : tie.Need-row-count-requires
 row-count-requires c κs = search needs
@@ -52,20 +50,19 @@ enum-told-2 : tie.Need-enum-told-2
 enum-told-2 c = search needs
 
 returns : tie.Need-returns
-unfolding nodesRefusal tableau
+unfolding nodesRefusal
 returns c = stays _ _ _ _ _ (sets-found (c .before .before)) (c .enum-told2 .given .1)
 
 enough-requires : tie.Need-enough-requires
 enough-requires c κs = search needs
 
 returns-2 : tie.Need-returns-2
-unfolding nodesRefusal enoughNodes tableau
+unfolding nodesRefusal enoughNodes
 returns-2 c =
     let a = c .before .before .before .before .before .before .before .args in
     later _ _ _ (sets-passed (c .before .before)) (whole-found (a .whole implies ltb 0 (a .h .«node_rows»)) Parent _ (asked-false (c .before .enough .ensures) (c .if1 .taken)))
 
 parents-requires : tie.Need-parents-requires
-unfolding tableau
 parents-requires c κs =
     let start = c .before .before .before .before .before .before .before .before in (
       start .pre .0 .2,
@@ -73,7 +70,7 @@ parents-requires c κs =
     )
 
 returns-3 : tie.Need-returns-3
-unfolding nodesRefusal enoughNodes tableau
+unfolding nodesRefusal enoughNodes
 returns-3 c =
     let start = c .before .before .before .before .before .before .before .before .before in
     let a = start .args in
@@ -81,7 +78,7 @@ returns-3 c =
     (later _ _ _ (whole-passes (a .whole implies ltb 0 (a .h .«node_rows»)) Parent (asked-true (c .before .before .before .enough .ensures) (c .before .before .if1 .left)))
     (c .parents .ensures
     ∙ ap (λ (r : ℤ). scan (parentFault (now (a .nodes)) (now (a .members)) r) (a .h .«node_rows»)) (read-back (a .h .root) (c .before .struct-told .given .1 .1 .0 .1))
-    ∙ parents-refusal (now (a .schema)) (a .h .«schema_rows») (now (a .proof)) (a .h .«proof_rows») (a .h .root) (a .h .least) (now (a .nodes)) (a .h .«node_rows») (now (a .members)) (a .h .«member_count») (a .h .«node_rows»)))
+    ∙ parents-refusal (Lent start) (a .h .«node_rows»)))
 
 pub nodes-pass-spec : {M : Type 1} → statement M
 nodes-pass-spec =
