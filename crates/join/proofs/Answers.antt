@@ -28,11 +28,12 @@ use Rattle.tidied.specs.Tidied.{foldingOf, tidied}
 use Rattle.joint.specs.Joint.{schemaCount, orRow, jointSchema, untidied, joint, jointFits, Rooms, joinRefusal, joinedBy, join, joinedTable, joinedSchema, joinedProof, joinedNodes, joinedMembers}
 use Rattle.joint.specs.declared.Joined.{Joined}
 use Rattle.joint.specs.declared.Joined.the-variants.{Record, Refused as JoinRefused}
-use Rattle.jointrows.specs.Kept.{plain, Joinable}
+use Rattle.jointrows.specs.Kept.{Joinable}
 use Rattle.jointrows.proofs.Rows.{few-stay}
 use Rattle.jointrefusal.specs.Before.{fitsBefore, foundBefore}
 use Rattle.jointrefusal.proofs.Before.{few-rows, first-passes, second-passes, leasts-pass}
 use Rattle.join.specs.Kept.{roomy, Answers}
+use Rattle.join.proofs.Placed.{plain}
 
 -- the result tables have room
 pub full-room : (R : Rooms) → roomy R ≡ true → (4096 ≤ R .schema) × (4096 ≤ R .proof) × (9216 ≤ R .nodes) × (8192 ≤ R .members)
@@ -43,7 +44,7 @@ full-room R h =
 
 -- ---- the formula rows of an accepted record
 
-pub joinable : (A : Tableau) → KeepsOlder A → Joinable (plain (A .schema) (A .schemaRows) (A .proof) (A .proofRows) (A .root))
+pub joinable : (A : Tableau) → KeepsOlder A → Joinable (plain A)
 unfolding rows rowCount
 joinable A K = record {
   few = few-rows A K;

@@ -30,7 +30,7 @@ use Rattle.joint.specs.Joint.{schemaCount, orRow, ofFirst, ofSecond, theOr, par
 use Rattle.joint.proofs.Lists.{movedOf}
 use Rattle.joint.proofs.Blocks.{up-cases}
 use Rattle.joint.proofs.Nodes.{node-zero, node-first, node-second, set-first, set-second}
-use Rattle.jointrows.specs.Kept.{plain, Gives, RowsFilled}
+use Rattle.jointrows.specs.Kept.{Gives, RowsFilled}
 use Rattle.jointrows.proofs.Numbers.{numbered-same, gives-at}
 use Rattle.jointrows.proofs.Moves.{table-number}
 use Rattle.jointnodes.specs.Kept.{setAt, orNode, placedNode, placedSets, placedNodes, bothNodes, bothSets, AllReadable}
@@ -183,12 +183,27 @@ module _ (T X : Tableau) (newT newX : ℕ → ℕ) (d m : ℕ) (K : KeepsOlder X
 
 -- ---- the formula rows are enough
 
+-- a record's formula rows alone
+abbrev pub plain : Tableau → Tableau
+plain T = record {
+  schema = T .schema;
+  schemaRows = T .schemaRows;
+  proof = T .proof;
+  proofRows = T .proofRows;
+  root = T .root;
+  least = T .least;
+  nodes = [];
+  nodeRows = T .nodeRows;
+  members = [];
+  memberCount = T .memberCount;
+}
+
 module _ (A B : Tableau) where
   abbrev PA : Tableau
-  PA = plain (A .schema) (A .schemaRows) (A .proof) (A .proofRows) (A .root)
+  PA = plain A
 
   abbrev PB : Tableau
-  PB = plain (B .schema) (B .schemaRows) (B .proof) (B .proofRows) (B .root)
+  PB = plain B
 
   plain-schema : jointSchema PA PB ≡ jointSchema A B
   unfolding jointSchema ofFirst ofSecond schemaCount theOr

@@ -43,15 +43,11 @@ fn filled(
     let mut second_numbers = [0u32; 1024];
     let rows = fill_rows(
         first_schema,
-        first.schema_rows,
         first_proof,
-        first.proof_rows,
-        first.root,
+        first,
         second_schema,
-        second.schema_rows,
         second_proof,
-        second.proof_rows,
-        second.root,
+        second,
         &mut first_numbers,
         &mut second_numbers,
         out_schema,

@@ -15,11 +15,6 @@ use Rattle.tidied.specs.Tidied.{through, columns, foldingOf, newOf}
 use Rattle.folds.specs.Folds.{AllSmall}
 use Rattle.joint.specs.Joint.{ofFirst, ofSecond, movedRows, jointSchema, untidied}
 
--- the formula rows of a record alone
-abbrev pub plain : List ℤ → ℕ → List ℤ → ℕ → ℤ → Tableau
-plain schema s proof p root =
-    record { schema = schema; schemaRows = s; proof = proof; proofRows = p; root = root; least = pos 0; nodes = []; nodeRows = 0; members = []; memberCount = 0 }
-
 -- where row r of one record goes: its t schema rows stand from `base` on, its proof rows from `after` on
 unfoldable pub placed : ℕ → ℕ → ℕ → ℕ → ℕ
 placed t base after r = if ltb r t then base + r else after + (r - t)

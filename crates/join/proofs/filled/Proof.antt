@@ -1,11 +1,9 @@
 use Prim.Native.Nat.{ℕ, suc, _+_, _≤_}
 use native.Mathlib.Omega.{arith}
-use mathlib.Core.Path.{_≡_, sym, _∙_, ap, subst}
+use mathlib.Core.Path.{_≡_, _∙_, ap}
 use mathlib.Core.List.{List, []}
-use lib.IntN.{ℤ, pos}
+use lib.IntN.{pos}
 use lib.ListN.{length}
-use mir.Syntax.{w32}
-use mir.Val.{ofZ, toZ}
 use borrow.Author.Needs.{needs}
 use borrow.Author.Tests.{le-leb}
 use Rattle.stab.specs.Node.{Tableau}
@@ -17,7 +15,7 @@ use Rattle.signed.proofs.Signs.{read-back}
 use Rattle.joint.specs.Joint.{schemaCount, orRow, joint, Rooms}
 use Rattle.joint.specs.declared.Joined.the-variants.{Record}
 use Rattle.jointrefusal.proofs.Before.{first-keeps, second-keeps, few-rows, few-schema, few-nodes, small-or}
-use Rattle.jointrows.specs.Kept.{plain, Joinable, RowsFilled}
+use Rattle.jointrows.specs.Kept.{RowsFilled}
 use Rattle.join.specs.Kept.{rooms}
 use Rattle.join.proofs.Placed.{readable, of-plain, members-are, nodes-are}
 use Rattle.join.proofs.Answers.{full-room, joinable, few-folded, rows-over, members-over, all-fit, too-large, record-made}
@@ -36,39 +34,21 @@ R b = let a = b .args in rooms (a .out-schema .now) (a .out-proof .now) (a .out-
 
 -- where the rows are filled, and where the nodes are
 abbrev start : tie.After-fill-rows → tie.Start
-start c = c .before .before .before .before .before .before .before .before .before
+start c = c .before .before .before .before .before .before .before
 
 abbrev rows-of : tie.After-fill-nodes → tie.After-fill-rows
 rows-of c = c .before .before .before .before .before .before .before .before .before .before
 
 abbrev first-numbers : tie.After-fill-rows → List ℕ
-first-numbers c = c .fill-rows .last .1 .1 .1 .1 .1 .1 .1 .1 .1 .1 .0
+first-numbers c = c .fill-rows .last .1 .1 .1 .1 .1 .1 .0
 
 abbrev second-numbers : tie.After-fill-rows → List ℕ
-second-numbers c = c .fill-rows .last .1 .1 .1 .1 .1 .1 .1 .1 .1 .1 .1 .0
-
--- the formula rows alone
-abbrev PA : tie.Start → ℤ → Tableau
-PA b root = let a = b .args in plain (a .first-schema .now) (a .first .«schema_rows») (a .first-proof .now) (a .first .«proof_rows») root
-
-abbrev PB : tie.Start → ℤ → Tableau
-PB b root = let a = b .args in plain (a .second-schema .now) (a .second .«schema_rows») (a .second-proof .now) (a .second .«proof_rows») root
-
--- the roots as they are passed on
-first-root : (c : tie.After-struct-told2) → let z = c .before .before .before .before .before .before .before .before .args .first .root in toZ w32 (ofZ w32 z) ≡ z
-first-root c = read-back _ (c .before .struct-told .given .1 .1 .0 .1)
-
-second-root : (c : tie.After-struct-told2) → let z = c .before .before .before .before .before .before .before .before .args .second .root in toZ w32 (ofZ w32 z) ≡ z
-second-root c = read-back _ (c .struct-told2 .given .1 .1 .0 .1)
+second-numbers c = c .fill-rows .last .1 .1 .1 .1 .1 .1 .1 .0
 
 rows-are : (c : tie.After-fill-rows) →
     let b = start c in
-    RowsFilled (A b) (B b) (b .args .out-schema .now) (b .args .out-proof .now) (c .fill-rows .result) (first-numbers c) (second-numbers c) (c .fill-rows .last .1 .1 .1 .1 .1 .1 .1 .1 .1 .1 .1 .1 .0) (c .fill-rows .last .1 .1 .1 .1 .1 .1 .1 .1 .1 .1 .1 .1 .1 .0)
-rows-are c =
-    let b = start c in
-    of-plain (A b) (B b)
-    (subst (λ (z : ℤ). RowsFilled (PA b (b .args .first .root)) (PB b z) (b .args .out-schema .now) (b .args .out-proof .now) (c .fill-rows .result) (first-numbers c) (second-numbers c) (c .fill-rows .last .1 .1 .1 .1 .1 .1 .1 .1 .1 .1 .1 .1 .0) (c .fill-rows .last .1 .1 .1 .1 .1 .1 .1 .1 .1 .1 .1 .1 .1 .0)) (second-root (c .before))
-    (subst (λ (z : ℤ). RowsFilled (PA b z) (PB b (toZ w32 (ofZ w32 (b .args .second .root)))) (b .args .out-schema .now) (b .args .out-proof .now) (c .fill-rows .result) (first-numbers c) (second-numbers c) (c .fill-rows .last .1 .1 .1 .1 .1 .1 .1 .1 .1 .1 .1 .1 .0) (c .fill-rows .last .1 .1 .1 .1 .1 .1 .1 .1 .1 .1 .1 .1 .1 .0)) (first-root (c .before)) (c .fill-rows .ensures)))
+    RowsFilled (A b) (B b) (b .args .out-schema .now) (b .args .out-proof .now) (c .fill-rows .result) (first-numbers c) (second-numbers c) (c .fill-rows .last .1 .1 .1 .1 .1 .1 .1 .1 .0) (c .fill-rows .last .1 .1 .1 .1 .1 .1 .1 .1 .1 .0)
+rows-are c = let b = start c in of-plain (A b) (B b) (c .fill-rows .ensures)
 
 -- both keep the rules
 keepsA : (b : tie.Start) → Keeps (A b)
@@ -96,11 +76,11 @@ slice-aggregate-fill-rows-2 c = search needs
 
 fill-rows-requires : tie.Need-fill-rows-requires
 fill-rows-requires c κs =
-    let b = c .before .before .before .before .before .before .before .before in
+    let b = c .before .before .before .before .before .before in
     let room = full-room (R b) (b .pre .0) in (
       (
-        subst (λ (x : ℤ). Joinable (PA b x)) (sym (first-root c)) (joinable (A b) (keepsA b .older)),
-        subst (λ (x : ℤ). Joinable (PB b x)) (sym (second-root c)) (joinable (B b) (keepsB b .older)),
+        joinable (A b) (keepsA b .older),
+        joinable (B b) (keepsB b .older),
         few-schema (A b) (B b) (b .pre .1),
       ),
       (omega arith, omega arith, room .0, room .1),
@@ -138,7 +118,7 @@ returns c =
     let f = i .before .before .before .before .before in
     let b = start f in
     let e = r .refuse .ensures in
-    too-large (R b) (A b) (B b) (b .pre .0) (b .pre .1) (rows-over (A b) (B b) (omega (arith, i .if1 .taken, rows-are f .counted))) (e .0) (e .1 .0 ∙ ap (λ (n : ℕ). padded (pos 0) n []) (f .fill-rows .kept .1 .1 .1 .1 .1 .1 .1 .1 .1 .1 .1 .1 .0)) (e .1 .1 .0 ∙ ap (λ (n : ℕ). padded (pos 0) n []) (f .fill-rows .kept .1 .1 .1 .1 .1 .1 .1 .1 .1 .1 .1 .1 .1 .0)) (e .1 .1 .1 .0) (e .1 .1 .1 .1)
+    too-large (R b) (A b) (B b) (b .pre .0) (b .pre .1) (rows-over (A b) (B b) (omega (arith, i .if1 .taken, rows-are f .counted))) (e .0) (e .1 .0 ∙ ap (λ (n : ℕ). padded (pos 0) n []) (f .fill-rows .kept .1 .1 .1 .1 .1 .1 .1 .1 .0)) (e .1 .1 .0 ∙ ap (λ (n : ℕ). padded (pos 0) n []) (f .fill-rows .kept .1 .1 .1 .1 .1 .1 .1 .1 .1 .0)) (e .1 .1 .1 .0) (e .1 .1 .1 .1)
 
 slice-aggregate-fill-nodes : tie.Need-slice-aggregate-fill-nodes
 slice-aggregate-fill-nodes c = search needs
@@ -179,7 +159,7 @@ returns-2 c =
     let f = rows-of n in
     let b = start f in
     let e = r .refuse2 .ensures in
-    too-large (R b) (A b) (B b) (b .pre .0) (b .pre .1) (members-over (A b) (B b) (omega (arith, i .if2 .taken, member-count n))) (e .0) (e .1 .0 ∙ ap (λ (n : ℕ). padded (pos 0) n []) (f .fill-rows .kept .1 .1 .1 .1 .1 .1 .1 .1 .1 .1 .1 .1 .0)) (e .1 .1 .0 ∙ ap (λ (n : ℕ). padded (pos 0) n []) (f .fill-rows .kept .1 .1 .1 .1 .1 .1 .1 .1 .1 .1 .1 .1 .1 .0)) (e .1 .1 .1 .0 ∙ ap (λ (n : ℕ). padded (pos 0) n []) (n .fill-nodes .kept .1 .1 .1 .1 .1 .1 .1 .1 .1 .0)) (e .1 .1 .1 .1 ∙ ap (λ (n : ℕ). padded (pos 0) n []) (n .fill-nodes .kept .1 .1 .1 .1 .1 .1 .1 .1 .1 .1 .0))
+    too-large (R b) (A b) (B b) (b .pre .0) (b .pre .1) (members-over (A b) (B b) (omega (arith, i .if2 .taken, member-count n))) (e .0) (e .1 .0 ∙ ap (λ (n : ℕ). padded (pos 0) n []) (f .fill-rows .kept .1 .1 .1 .1 .1 .1 .1 .1 .0)) (e .1 .1 .0 ∙ ap (λ (n : ℕ). padded (pos 0) n []) (f .fill-rows .kept .1 .1 .1 .1 .1 .1 .1 .1 .1 .0)) (e .1 .1 .1 .0 ∙ ap (λ (n : ℕ). padded (pos 0) n []) (n .fill-nodes .kept .1 .1 .1 .1 .1 .1 .1 .1 .1 .0)) (e .1 .1 .1 .1 ∙ ap (λ (n : ℕ). padded (pos 0) n []) (n .fill-nodes .kept .1 .1 .1 .1 .1 .1 .1 .1 .1 .1 .0))
 
 of-requires : tie.Need-of-requires
 of-requires c κs = search needs
@@ -220,7 +200,7 @@ returns-3 c =
     let k : 1 + a .first .«node_rows» + a .second .«node_rows» ≡ suc (a .first .«node_rows» + a .second .«node_rows») = omega arith in
     record-made (R b) (A b) (B b) (b .pre .0) (b .pre .1)
     (all-fit (A b) (B b) (omega (arith, fits, P .counted)) (few-nodes (A b) (B b) (b .pre .1)) (omega (arith, few, member-count n)) (small-or (A b) (B b) (b .pre .1)))
-    (λ x. Record ((read-back _ (c .before .before .before .of .ok) ∙ c .before .before .before .of .ensures) x) (read-back (a .first .least) (c .struct-told3 .given .1 .1 .1 .0 .1) x) (e x) (P .counted x) (k x) (member-count n x))
+    (λ x. Record ((read-back _ (c .before .before .before .of .ok) ∙ c .before .before .before .of .ensures) x) (read-back (a .first .least) (c .struct-told .given .1 .1 .1 .0 .1) x) (e x) (P .counted x) (k x) (member-count n x))
     (P .schemaTable)
     (P .proofTable ∙ ap (padded (pos 0) (length (a .out-proof .now))) (if-true _ _ [] (le-leb _ 1024 fits)))
     (n .fill-nodes .ensures .1 .0 ∙ ap (padded (pos 0) (length (a .out-nodes .now))) (if-true _ _ [] (le-leb _ 8192 few) ∙ nodes-are (A b) (B b) (keepsA b) (keepsB b) (first-numbers f) (second-numbers f) (rows-are f .firstNumbers) (rows-are f .secondNumbers)))
