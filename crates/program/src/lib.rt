@@ -1,4 +1,4 @@
-// The programs as functions: two texts in, read and checked once, what is printed and the line at fault out.
+// The programs as functions: two texts in, read and checked once, the verdict and the line at fault out, and the verdict as it is printed.
 mod fault;
 
 use outcome::check_outcome;
@@ -6,11 +6,40 @@ use outcome::model_outcome;
 use outcome::verdict;
 use printing::print;
 use stab::Fault;
+use stab::Verdict;
 ghost use mathlib.Core.Path.{_≡_};
 ghost use lib.ListN.{length};
 ghost use Rattle.stab.specs.Text.{padded};
-ghost use Rattle.stab.specs.Program.{checkProgram, modelProgram, checkFault, modelFault};
+ghost use Rattle.stab.specs.Program.{checkTexts, modelTexts, checkProgram, modelProgram, checkFault, modelFault};
 ghost use Rattle.printing.specs.Printing.{Counts};
+
+// What two texts come to: the verdict, and where its refusal points.
+pub struct Judgement {
+    pub verdict: Verdict,
+    pub fault: Fault,
+}
+
+// The check's judgement, or the older check's, of the bytes of schema.txt and of proof.txt.
+pub fn check(older: bool, schema: &[u8], proof: &[u8]) -> Judgement
+    ensures { λ r. ⌜ r .verdict ≡ checkTexts older (now (schema .entry)) (now (proof .entry)) ⌝ }
+    ensures { λ r. ⌜ r .fault ≡ checkFault older (now (schema .entry)) (now (proof .entry)) ⌝ }
+{
+    let o = check_outcome(older, schema, proof);
+    let verdict = verdict(o);
+    let fault = fault::checked(o);
+    Judgement { verdict, fault }
+}
+
+// The model check's judgement of the bytes of schema.txt and of model.txt.
+pub fn check_model(schema: &[u8], model: &[u8]) -> Judgement
+    ensures { λ r. ⌜ r .verdict ≡ modelTexts (now (schema .entry)) (now (model .entry)) ⌝ }
+    ensures { λ r. ⌜ r .fault ≡ modelFault (now (schema .entry)) (now (model .entry)) ⌝ }
+{
+    let o = model_outcome(schema, model);
+    let verdict = verdict(o);
+    let fault = fault::modelled(o);
+    Judgement { verdict, fault }
+}
 
 // What a program tells: how many bytes it prints, and where the refusal points.
 pub struct Told {
@@ -26,9 +55,10 @@ pub fn check_texts(older: bool, schema: &[u8], proof: &[u8], out: &mut [u8; 64])
     ensures within { λ r. ⌜ Counts (r .bytes) (now (out .exit)) ⌝ }
     ensures fault { λ r. ⌜ r .fault ≡ checkFault older (now (schema .entry)) (now (proof .entry)) ⌝ }
 {
-    let o = check_outcome(older, schema, proof);
-    let bytes = print(verdict(o), out);
-    let fault = fault::checked(o);
+    let j = check(older, schema, proof);
+    let fault = j.fault;
+    let verdict = j.verdict;
+    let bytes = print(verdict, out);
     Told { bytes, fault }
 }
 
@@ -39,22 +69,9 @@ pub fn model_texts(schema: &[u8], model: &[u8], out: &mut [u8; 64]) -> Told
     ensures within { λ r. ⌜ Counts (r .bytes) (now (out .exit)) ⌝ }
     ensures fault { λ r. ⌜ r .fault ≡ modelFault (now (schema .entry)) (now (model .entry)) ⌝ }
 {
-    let o = model_outcome(schema, model);
-    let bytes = print(verdict(o), out);
-    let fault = fault::modelled(o);
+    let j = check_model(schema, model);
+    let fault = j.fault;
+    let verdict = j.verdict;
+    let bytes = print(verdict, out);
     Told { bytes, fault }
-}
-
-// Where the refusal of the check, or of the older one, points.
-pub fn check_fault(older: bool, schema: &[u8], proof: &[u8]) -> Fault
-    ensures { λ r. ⌜ r ≡ checkFault older (now (schema .entry)) (now (proof .entry)) ⌝ }
-{
-    fault::checked(check_outcome(older, schema, proof))
-}
-
-// Where the model check's refusal points.
-pub fn model_fault(schema: &[u8], model: &[u8]) -> Fault
-    ensures { λ r. ⌜ r ≡ modelFault (now (schema .entry)) (now (model .entry)) ⌝ }
-{
-    fault::modelled(model_outcome(schema, model))
 }

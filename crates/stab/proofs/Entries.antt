@@ -18,8 +18,8 @@ use Rattle.stab.specs.Answer.{Numbers, WrittenNumbers, refusedNumbers, v
 use Rattle.stab.specs.Check.{checkAs, wholeUnless}
 use Rattle.stab.specs.Model.{checkModel}
 use Rattle.stab.specs.LineNumber.{schemaRowLine, proofRowLine, nodeLine, pairLine}
-use Rattle.stab.specs.Program.{tableauOf, modelOf, noFault, inFirst, inSecond, rowFault, among, checkPoints, modelPoints, verdictFault, faultAfterReading, checkFault, modelFault}
-use Rattle.stab.specs.Entry.{withoutCounts, schemaPacked, proofPacked, modelPacked, writtenPacked, writtenIn, SchemaFits, ProofFits, ModelFits, WrittenFits, faultNumber, faultIn}
+use Rattle.stab.specs.Program.{tableauOf, modelOf, noFault, inFirst, inSecond, rowFault, among, checkPoints, modelPoints, verdictFault, faultAfterReading, afterReading, checkTexts, modelTexts, checkFault, modelFault}
+use Rattle.stab.specs.Entry.{withoutCounts, schemaPacked, proofPacked, modelPacked, writtenPacked, writtenIn, SchemaFits, ProofFits, ModelFits, WrittenFits, faultNumber, faultIn, textsPacked, numberPart, faultPart}
 use Rattle.stab.specs.declared.Place.{Place}
 use Rattle.stab.specs.declared.Finding.{Finding}
 use Rattle.stab.specs.declared.Finding.the-variants.{Nothing, Found}
@@ -39,7 +39,7 @@ use Rattle.stab.specs.declared.ModelRead.{ModelRead}
 use Rattle.stab.specs.declared.ModelRead.the-variants.{Model, Refused as ModelRefused}
 use Rattle.stab.proofs.Bools.{and-left, and-right, unless-nothing, otherwise-second}
 use Rattle.stab.proofs.Texts.{schema-counts, proof-counts, model-counts}
-use Rattle.stab.proofs.Packed.{checked-packs, model-packs, near-packs, packed-refusal, read-back}
+use Rattle.stab.proofs.Packed.{number-range, checked-packs, model-packs, near-packs, packed-acceptance, packed-refusal, read-back}
 use Rattle.stab.proofs.Exactness.Refusals.{FindsNear, of-whole, _or-else_}
 
 -- ---- a refusal in reading is at line b or above it
@@ -282,6 +282,52 @@ unfolding if_then_else_
 fault-parts true n = let e : (2 * n + 1) % 2 ≡ 1 = omega arith in (ap (λ (x : ℕ). eqb x 1) e, omega arith)
 fault-parts false n = let e : (2 * n + 0) % 2 ≡ 0 = omega arith in (ap (λ (x : ℕ). eqb x 1) e, omega arith)
 
+-- ---- two texts: the verdict fits into the one number; it and the line at fault are read back
+
+after-packs : {A B : Type 0} (judge : A → B → Verdict) (r : Reading A) (s : Reading B) → Stops 4100 r → Stops 4100 s
+    → ((a : A) (b : B) → Packs (judge a b)) → Packs (afterReading judge r s)
+unfolding afterReading
+after-packs judge (read a) (read b) h g j = j a b
+after-packs judge (read a) (stopped why k) h g j = omega arith
+after-packs judge (stopped why k) s h g j = omega arith
+
+pub check-texts-pack : (older : Bool) (schema proof : List ℕ) → Packs (checkTexts older schema proof)
+unfolding checkTexts
+check-texts-pack older schema proof =
+    after-packs _ (readSchema 4096 schema) (readProof 4096 9216 8192 proof) (stops-schema 4096 schema) (stops-proof 4096 9216 8192 proof)
+    (λ a b. checked-packs older (tableauOf a b))
+
+pub model-texts-pack : (schema model : List ℕ) → Packs (modelTexts schema model)
+unfolding modelTexts
+model-texts-pack schema model =
+    after-packs _ (readSchema 4096 schema) (readModel 8192 model) (stops-schema 4096 schema) (stops-model 8192 model)
+    (λ a b. model-packs (modelOf a b))
+
+-- the one number is below what stands above it
+pub packed-below : (v : Verdict) → Packs v → packed v < 17592186044416
+packed-below (Accepted n l) h = omega (arith, packed-acceptance n l, h .0, h .1)
+packed-below (Refused why Whole) h = omega (arith, packed-refusal why Whole, number-range why .1)
+packed-below (Refused why (At k)) h = omega (arith, packed-refusal why (At k), number-range why .1)
+
+if-one : (t : Bool) → (if t then 1 else 0) ≤ 1
+unfolding if_then_else_
+if-one true = omega arith
+if-one false = omega arith
+
+pub fault-below : (f : Fault) → f .line < 16384 → faultNumber f < 32768
+unfolding faultNumber
+fault-below f h = omega (arith, if-one (f .second))
+
 pub fault-back : (f : Fault) → faultIn (faultNumber f) ≡ f
 unfolding faultIn faultNumber
 fault-back f i = record { second = fault-parts (f .second) (f .line) .0 i; line = fault-parts (f .second) (f .line) .1 i }
+
+pub number-part : (v : Verdict) (f : Fault) → Packs v → numberPart (textsPacked v f) ≡ packed v
+unfolding textsPacked
+number-part v f h = omega (arith, packed-below v h)
+
+pub fault-part : (v : Verdict) (f : Fault) → Packs v → faultPart (textsPacked v f) ≡ f
+unfolding textsPacked
+fault-part v f h =
+    let e : (faultNumber f * 17592186044416 + packed v) / 17592186044416 ≡ faultNumber f = omega (arith, packed-below v h) in
+    ap (λ (x : ℕ). faultIn x) e ∙ fault-back f

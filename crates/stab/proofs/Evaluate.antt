@@ -280,10 +280,12 @@ use Rattle.stab.specs.Program.{
   tableauOf,
   modelOf,
   afterReading,
+  checkTexts,
+  modelTexts,
   checkProgram,
   modelProgram,
 }
 
 unfoldable pub evaluated : {A : Type 0} → A → A
-unfolding if_then_else_ _and_ _or_ _implies_ eqZ within nat below has allOf ascending sameList count _otherwise_ scan unless rowAt formulaRows kindOf baseOf partIf part decode treeN tree size depth onIndex loose fixed isBody isOuter mixes offset wellFormedAs wellFormed smallEnough base signed op empty over rangeSize value truth lowerBase lower instanceLit instance eqBool eqOp eqBase alike rows rowCount isRow row formula nodeAt node setOf set setStart setEnd setFollows isOuterRow setFits parentFits names childCountOf childCount rank isUpper isExact splitAt splitBound childBound firstBound inheritIf inheritN inherited boundOf bound unused entry ruleTable ruleOf rule ofRule oneOf given drawnFrom drawn kindFits onStands otherFits linkFits symbolFits fieldsFit targetFits staysBelow splitFits unfoldFits indexAt clashFits voidFits upperFits loopFits boundFits shortened isInstance partnersFit isLowered hasLowered loweredFits childrenFit childrenHeld childrenAs wholeUnless atUnless holds rowRefusal rootFits sameRow standsBefore repeatRefusal formulaRefusal formulasRefusal schemaRefusal setRefusal parentRefusal stepRefusal nodeRefusal tablesHold withinLimits enoughNodes presentMode olderMode isLink linkCount verdict refusal verdictOn check checkOlder checkAs pairSymbol pairIndex pairInRange pairBefore pairFollows isPair listed assignment pairRefusal satisfied modelRefusal checkModel bytes sameBytes newline inFront lines space minus zeroDigit isDigit digitsValue isNatural someIf numberOf intoField fields inFrontOf numbersIn numbers digitsN fiveDigits decimal rowLine headingLine schemaHeading rowHeading nodeHeading modelHeading pairHeading textLimit padded _andThen_ require headingAt valuesOf values valuesAt rowsFrom readSchemaLines startsWithU nodeNumbers nodesFrom proofRowsFrom readProofLines readModelLines readText readSchema readProof readModel tableOf schemaAnswer schemaTable proofAnswer proofTable nodeTable memberTable modelAnswer pairTable rowLines nodeValues nodeLines schemaText proofText modelText rowsWritable nodeWritable nodesWritable setsWritable writeRefusal outputRefusal writingOf writing writeSchema writeProof writeModel written output emptyStart spanFrom lineSpan spanned lineOf schemaRowLine proofRowLine nodeLine refusedNumbers verdictNumbers schemaNumbers proofNumbers modelNumbers writtenNumbers oneNumber packed printed tableauOf modelOf afterReading checkProgram modelProgram
+unfolding if_then_else_ _and_ _or_ _implies_ eqZ within nat below has allOf ascending sameList count _otherwise_ scan unless rowAt formulaRows kindOf baseOf partIf part decode treeN tree size depth onIndex loose fixed isBody isOuter mixes offset wellFormedAs wellFormed smallEnough base signed op empty over rangeSize value truth lowerBase lower instanceLit instance eqBool eqOp eqBase alike rows rowCount isRow row formula nodeAt node setOf set setStart setEnd setFollows isOuterRow setFits parentFits names childCountOf childCount rank isUpper isExact splitAt splitBound childBound firstBound inheritIf inheritN inherited boundOf bound unused entry ruleTable ruleOf rule ofRule oneOf given drawnFrom drawn kindFits onStands otherFits linkFits symbolFits fieldsFit targetFits staysBelow splitFits unfoldFits indexAt clashFits voidFits upperFits loopFits boundFits shortened isInstance partnersFit isLowered hasLowered loweredFits childrenFit childrenHeld childrenAs wholeUnless atUnless holds rowRefusal rootFits sameRow standsBefore repeatRefusal formulaRefusal formulasRefusal schemaRefusal setRefusal parentRefusal stepRefusal nodeRefusal tablesHold withinLimits enoughNodes presentMode olderMode isLink linkCount verdict refusal verdictOn check checkOlder checkAs pairSymbol pairIndex pairInRange pairBefore pairFollows isPair listed assignment pairRefusal satisfied modelRefusal checkModel bytes sameBytes newline inFront lines space minus zeroDigit isDigit digitsValue isNatural someIf numberOf intoField fields inFrontOf numbersIn numbers digitsN fiveDigits decimal rowLine headingLine schemaHeading rowHeading nodeHeading modelHeading pairHeading textLimit padded _andThen_ require headingAt valuesOf values valuesAt rowsFrom readSchemaLines startsWithU nodeNumbers nodesFrom proofRowsFrom readProofLines readModelLines readText readSchema readProof readModel tableOf schemaAnswer schemaTable proofAnswer proofTable nodeTable memberTable modelAnswer pairTable rowLines nodeValues nodeLines schemaText proofText modelText rowsWritable nodeWritable nodesWritable setsWritable writeRefusal outputRefusal writingOf writing writeSchema writeProof writeModel written output emptyStart spanFrom lineSpan spanned lineOf schemaRowLine proofRowLine nodeLine refusedNumbers verdictNumbers schemaNumbers proofNumbers modelNumbers writtenNumbers oneNumber packed printed tableauOf modelOf afterReading checkTexts modelTexts checkProgram modelProgram
 evaluated a = a

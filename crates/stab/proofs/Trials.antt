@@ -103,7 +103,7 @@ regrouped = "4 1 2 0\n4 3 2 0\n4 0 4 0\n3 0 2 0\n7 5 2 0\n7 6 2 0\n"
 -- as the check program, with sides in order
 inOrderProgram : List ℕ → List ℕ → List ℕ
 inOrderProgram schema proof =
-    printed (afterReading (λ s p. verdictNumbers (checkBy testsInOrder (tableauOf s p))) (readSchema 4096 schema) (readProof 4096 9216 8192 proof))
+    printed (verdictNumbers (afterReading (λ s p. checkBy testsInOrder (tableauOf s p)) (readSchema 4096 schema) (readProof 4096 9216 8192 proof)))
 
 -- ---- bounds from both sides
 

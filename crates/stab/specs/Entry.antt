@@ -1,10 +1,11 @@
--- What the text entries give: the one number, and the numbers that were read, in lent results; where a refusal points.
+-- What the text entries give: the one number, and the numbers that were read, in lent results; of two texts also where a refusal points.
 use Prim.Native.Nat.{ℕ, _+_, _*_, _/_, _%_, _≤_}
 use mathlib.Core.List.{List, [], _∷_}
 use lib.Dec.{eqb}
 use lib.IntN.{ℤ, pos}
 use Rattle.stab.specs.Basic.{if_then_else_}
-use Rattle.stab.specs.Answer.{WrittenNumbers, oneNumber, answerIn, placeIn, Packs, schemaNumbers, proofNumbers, modelNumbers, writtenNumbers}
+use Rattle.stab.specs.Answer.{WrittenNumbers, oneNumber, packed, answerIn, placeIn, Packs, schemaNumbers, proofNumbers, modelNumbers, writtenNumbers}
+use Rattle.stab.specs.declared.Verdict.{Verdict}
 use Rattle.stab.specs.declared.Verdict.the-variants.{Refused}
 use Rattle.stab.specs.declared.SchemaRead.{SchemaRead}
 use Rattle.stab.specs.declared.SchemaRead.the-variants.{Schema, Refused as SchemaRefused}
@@ -70,11 +71,23 @@ proofResults r = let a = proofNumbers r in pos (a .rows) ∷ pos (a .nodes) ∷ 
 unfoldable pub modelResults : ModelRead → List ℤ
 modelResults r = let a = modelNumbers r in a .n ∷ pos (a .pairs) ∷ []
 
--- ---- where a refusal points, as one number: twice the line, and 1 more in the second text; line 0 is none
+-- ---- where a refusal points, as a number: twice the line, and 1 more in the second text; line 0 is none
 
 unfoldable pub faultNumber : Fault → ℕ
 faultNumber f = 2 * f .line + (if f .second then 1 else 0)
 
--- read back as the functions of include/zorambi.h do
 unfoldable pub faultIn : ℕ → Fault
 faultIn x = record { second = eqb (x % 2) 1; line = x / 2 }
+
+-- ---- two texts read and checked: the number of where the refusal points, and below it the verdict's one number
+
+-- 17592186044416 is 32 × 8192 × 8192 × 8192: every verdict's number is below it, since a refusal's is at most 31
+unfoldable pub textsPacked : Verdict → Fault → ℕ
+textsPacked v f = faultNumber f * 17592186044416 + packed v
+
+-- its two parts, as the functions of include/zorambi.h shift and mask
+abbrev pub numberPart : ℕ → ℕ
+numberPart x = x % 17592186044416
+
+abbrev pub faultPart : ℕ → Fault
+faultPart x = faultIn (x / 17592186044416)

@@ -12,7 +12,7 @@ use Rattle.stab.specs.Model.{Model, checkModel}
 use Rattle.stab.specs.Text.{bytes, headingLine, rowLine, padded}
 use Rattle.stab.specs.Read.{Reading, read, stopped, SchemaText, ProofText, ModelText, readSchema, readProof, readModel}
 use Rattle.stab.specs.LineNumber.{schemaRowLine, proofRowLine, nodeLine, pairLine}
-use Rattle.stab.specs.Answer.{Numbers, refusalNumber, refusedNumbers, verdictNumbers}
+use Rattle.stab.specs.Answer.{Numbers, refusalNumber, verdictNumbers}
 use Rattle.stab.specs.declared.Place.the-variants.{Whole, At}
 use Rattle.stab.specs.declared.Refusal.{Refusal}
 use Rattle.stab.specs.declared.Verdict.{Verdict}
@@ -47,20 +47,26 @@ modelOf s m = record {
 }
 
 -- "A text refused in reading, the schema's first, is printed the same way with counts 0, and nothing is checked."
-unfoldable pub afterReading : {A B : Type 0} → (A → B → Numbers) → Reading A → Reading B → Numbers
+unfoldable pub afterReading : {A B : Type 0} → (A → B → Verdict) → Reading A → Reading B → Verdict
 afterReading judge (read a) (read b) = judge a b
-afterReading judge (read a) (stopped why k) = refusedNumbers why (At k)
-afterReading judge (stopped why k) r = refusedNumbers why (At k)
+afterReading judge (read a) (stopped why k) = Refused why (At k)
+afterReading judge (stopped why k) r = Refused why (At k)
 
--- what the check program prints for the bytes of schema.txt and of proof.txt, or the one for older records if `older` holds
+-- the check's verdict on a schema text and a proof text; if `older` holds, that of the check for older records
+unfoldable pub checkTexts : Bool → List ℕ → List ℕ → Verdict
+checkTexts older schema proof = afterReading (λ s p. checkAs older (tableauOf s p)) (readSchema 4096 schema) (readProof 4096 9216 8192 proof)
+
+-- the model check's verdict on a schema text and a model text
+unfoldable pub modelTexts : List ℕ → List ℕ → Verdict
+modelTexts schema model = afterReading (λ s m. checkModel (modelOf s m)) (readSchema 4096 schema) (readModel 8192 model)
+
+-- what the check program, or the one for older records, prints for the bytes of schema.txt and of proof.txt
 unfoldable pub checkProgram : Bool → List ℕ → List ℕ → List ℕ
-checkProgram older schema proof =
-    printed (afterReading (λ s p. verdictNumbers (checkAs older (tableauOf s p))) (readSchema 4096 schema) (readProof 4096 9216 8192 proof))
+checkProgram older schema proof = printed (verdictNumbers (checkTexts older schema proof))
 
 -- what the model check program prints for the bytes of schema.txt and of model.txt
 unfoldable pub modelProgram : List ℕ → List ℕ → List ℕ
-modelProgram schema model =
-    printed (afterReading (λ s m. verdictNumbers (checkModel (modelOf s m))) (readSchema 4096 schema) (readModel 8192 model))
+modelProgram schema model = printed (verdictNumbers (modelTexts schema model))
 
 -- ---- where a refusal points
 
@@ -104,7 +110,7 @@ faultAfterReading judge (read a) (read b) = judge a b
 faultAfterReading judge (read a) (stopped why k) = inSecond k
 faultAfterReading judge (stopped why k) r = inFirst k
 
--- where the check program's refusal of the bytes of schema.txt and of proof.txt points
+-- where the check's refusal of a schema text and a proof text points, or that of the check for older records
 unfoldable pub checkFault : Bool → List ℕ → List ℕ → Fault
 checkFault older schema proof =
     faultAfterReading
@@ -112,7 +118,7 @@ checkFault older schema proof =
     (readSchema 4096 schema)
     (readProof 4096 9216 8192 proof)
 
--- where the model check program's refusal of the bytes of schema.txt and of model.txt points
+-- where the model check's refusal of a schema text and a model text points
 unfoldable pub modelFault : List ℕ → List ℕ → Fault
 modelFault schema model =
     faultAfterReading (λ s m. verdictFault modelPoints (checkModel (modelOf s m))) (readSchema 4096 schema) (readModel 8192 model)

@@ -16,7 +16,7 @@ ghost use lib.IntN.{pos};
 ghost use Prim.Native.Nat.{_≤_, _<_};
 ghost use Rattle.stab.specs.Basic.{if_then_else_};
 ghost use Rattle.stab.specs.Answer.{Packs};
-ghost use Rattle.stab.specs.Entry.{schemaPacked, schemaResults, proofPacked, proofResults, modelPacked, modelResults, writtenPacked, SchemaFits, ProofFits, ModelFits, WrittenFits, faultNumber};
+ghost use Rattle.stab.specs.Entry.{schemaPacked, schemaResults, proofPacked, proofResults, modelPacked, modelResults, writtenPacked, SchemaFits, ProofFits, ModelFits, WrittenFits, faultNumber, textsPacked};
 ghost use Rattle.found.specs.Find.{foundNumbers, foundPacked, foundResults, foundVerdict};
 ghost use Rattle.small.specs.Small.{nextPacked, nextVerdict};
 ghost use Rattle.joint.specs.Joint.{joinedPacked, joinedResults, JoinedFits};
@@ -188,7 +188,7 @@ pub fn growth(r: Growth, shown: &mut [i32; 1]) -> u64
 }
 
 // Where a refusal points: twice the line, and 1 more in the second text.
-pub fn fault(f: Fault) -> u64
+fn fault(f: Fault) -> u64
     requires { ⌜ f .line < 16384 ⌝ }
     ensures { λ r. ⌜ r ≡ faultNumber f ⌝ }
 {
@@ -197,6 +197,15 @@ pub fn fault(f: Fault) -> u64
         return twice + 1;
     }
     twice
+}
+
+// Two texts read and checked: where the refusal points stands above the verdict's number.
+pub fn texts(v: Verdict, f: Fault) -> u64
+    requires { ⌜ Packs v × (f .line < 16384) ⌝ }
+    ensures { λ r. ⌜ r ≡ textsPacked v f ⌝ }
+{
+    let number = answer::pack(v);
+    fault(f) * 17592186044416 + number
 }
 
 // A line's place: its start and its length.
