@@ -1,5 +1,5 @@
-/* Zorambi: the proved check of schema tableaux, present and older, the model check, the readers and writers of their texts, the
- * line that a refusal points to, and what makes models, schemata and records, from C and C++.
+/* Zorambi: the proved check of schema tableaux, present and older, the model check, of tables and of texts with the line that a
+ * refusal points to, the readers and writers of these texts, and what makes models, schemata and records, from C and C++.
  *
  * A slice is a pointer and the count of its numbers or bytes. With a count of 0 it is empty whatever the pointer is, NULL too,
  * as an empty vector gives it. The counts of rows, nodes and members are those that refusals 2 and 5 speak of: a table may be
@@ -12,7 +12,7 @@
 #include <stddef.h>
 #include <stdint.h>
 
-/* How much stack a call takes at most, in bytes: any call, which is one that reads and checks two texts (the three with _fault);
+/* How much stack a call takes at most, in bytes: any call, which is one that reads and checks two texts (the three with _texts);
  * zorambi_join; those that grow a tableau and zorambi_find_model; all others, as the check. A thread that calls needs so much besides
  * what is its own. The programs check_proof, check_older and check_model run in a stack of ZORAMBI_STACK_PROGRAM, with arguments and an
  * environment of some KiB in it. */
@@ -99,17 +99,19 @@ uint64_t zorambi_model_rows_again(int32_t n, const int32_t *pairs, size_t pairs_
  * line; line 0 and an unfinished last line count as none. */
 void zorambi_line(const uint8_t *text, size_t text_len, size_t k, size_t span[2]);
 
-/* The line that a refusal points to when a schema text and a proof text, or a model text, are read and checked: the line refused
- * in reading, or that of the row, node or pair at fault. zorambi_fault_line gives it, counted from 1, or 0 if there is
- * none, as after an acceptance or a refusal of the whole; zorambi_fault_second says that it stands in the second text.
- * zorambi_check_older_fault is for zorambi_check_older. */
-uint64_t zorambi_check_fault(const uint8_t *schema, size_t schema_len, const uint8_t *proof, size_t proof_len);
-uint64_t zorambi_check_older_fault(const uint8_t *schema, size_t schema_len, const uint8_t *proof, size_t proof_len);
-uint64_t zorambi_model_fault(const uint8_t *schema, size_t schema_len, const uint8_t *model, size_t model_len);
+/* The checks of texts: a schema text and a proof text, or a model text, are read, the schema's first, and checked. A text refused
+ * in reading gives its refusal, whose place is the line, and nothing is checked. zorambi_answer and the others below read the
+ * verdict from the number as from any other. Above it stands the line that a refusal points to: the one refused in reading, or
+ * that of the row, node or pair at fault. zorambi_fault_line gives it, counted from 1, or 0 if there is none, as after an
+ * acceptance or a refusal of the whole; zorambi_fault_second says that it stands in the second text. */
+uint64_t zorambi_check_texts(const uint8_t *schema, size_t schema_len, const uint8_t *proof, size_t proof_len);
+uint64_t zorambi_check_older_texts(const uint8_t *schema, size_t schema_len, const uint8_t *proof, size_t proof_len);
+uint64_t zorambi_check_model_texts(const uint8_t *schema, size_t schema_len, const uint8_t *model, size_t model_len);
 
-/* The number that comes back from these three: 2 * line, and 1 more in the second text. */
-static inline unsigned zorambi_fault_line(uint64_t fault) { return (unsigned)(fault >> 1); }
-static inline int zorambi_fault_second(uint64_t fault) { return (int)(fault & 1); }
+/* The number that comes back from these three: the one number of the verdict, which is below 2 to the power of 44, and above it
+ * 2 * line, and 1 more in the second text. */
+static inline unsigned zorambi_fault_line(uint64_t packed) { return (unsigned)(packed >> 45); }
+static inline int zorambi_fault_second(uint64_t packed) { return (int)((packed >> 44) & 1); }
 
 /* ---- A failing width. */
 
@@ -246,10 +248,10 @@ uint64_t zorambi_commit(const int32_t *schema, size_t schema_len, size_t schema_
                         int32_t *nodes, size_t nodes_len, int32_t *members, size_t members_len,
                         size_t held[2], int32_t shown[1], int32_t waiting[1033]);
 
-/* The one number that comes back from the others: ((answer * 8192 + place + 1) * 8192 + nodes) * 8192 + links. In reading,
- * writing, converting, tidying and joining both counts are 0, but that a text that was written has its bytes in their place. Arrays
- * with a fixed number of numbers are read or written whole, and may not be NULL. */
-static inline unsigned zorambi_answer(uint64_t packed) { return (unsigned)(packed >> 39); }
+/* The one number that comes back: ((answer * 8192 + place + 1) * 8192 + nodes) * 8192 + links, and from the three with _texts the
+ * line at fault above it. In reading, writing, converting, tidying and joining both counts are 0, but that a text that was written
+ * has its bytes in their place. Arrays with a fixed number of numbers are read or written whole, and may not be NULL. */
+static inline unsigned zorambi_answer(uint64_t packed) { return (unsigned)((packed >> 39) & 31); }
 static inline int zorambi_place(uint64_t packed) { return (int)((packed >> 26) & 8191) - 1; }
 static inline unsigned zorambi_nodes(uint64_t packed) { return (unsigned)((packed >> 13) & 8191); }
 static inline unsigned zorambi_links(uint64_t packed) { return (unsigned)(packed & 8191); }
@@ -420,15 +422,16 @@ static inline uint64_t zorambi_c_model_rows_again(int32_t n, const int32_t *pair
 static inline void zorambi_c_line(const uint8_t *text, size_t text_len, size_t k, size_t span[2]) {
   zorambi_line(zorambi_text_of(text, text_len), text_len, k, span);
 }
-static inline uint64_t zorambi_c_check_fault(const uint8_t *schema, size_t schema_len, const uint8_t *proof, size_t proof_len) {
-  return zorambi_check_fault(zorambi_text_of(schema, schema_len), schema_len, zorambi_text_of(proof, proof_len), proof_len);
+static inline uint64_t zorambi_c_check_texts(const uint8_t *schema, size_t schema_len, const uint8_t *proof, size_t proof_len) {
+  return zorambi_check_texts(zorambi_text_of(schema, schema_len), schema_len, zorambi_text_of(proof, proof_len), proof_len);
 }
-static inline uint64_t zorambi_c_check_older_fault(const uint8_t *schema, size_t schema_len, const uint8_t *proof,
+static inline uint64_t zorambi_c_check_older_texts(const uint8_t *schema, size_t schema_len, const uint8_t *proof,
                                                    size_t proof_len) {
-  return zorambi_check_older_fault(zorambi_text_of(schema, schema_len), schema_len, zorambi_text_of(proof, proof_len), proof_len);
+  return zorambi_check_older_texts(zorambi_text_of(schema, schema_len), schema_len, zorambi_text_of(proof, proof_len), proof_len);
 }
-static inline uint64_t zorambi_c_model_fault(const uint8_t *schema, size_t schema_len, const uint8_t *model, size_t model_len) {
-  return zorambi_model_fault(zorambi_text_of(schema, schema_len), schema_len, zorambi_text_of(model, model_len), model_len);
+static inline uint64_t zorambi_c_check_model_texts(const uint8_t *schema, size_t schema_len, const uint8_t *model,
+                                                   size_t model_len) {
+  return zorambi_check_model_texts(zorambi_text_of(schema, schema_len), schema_len, zorambi_text_of(model, model_len), model_len);
 }
 /* A failing width. */
 static inline uint64_t zorambi_c_find_model(const int32_t *schema, size_t schema_len, size_t schema_rows, int32_t root,
@@ -550,9 +553,9 @@ static inline uint64_t zorambi_c_commit(const int32_t *schema, size_t schema_len
 #define zorambi_proof_rows_again zorambi_c_proof_rows_again
 #define zorambi_model_rows_again zorambi_c_model_rows_again
 #define zorambi_line zorambi_c_line
-#define zorambi_check_fault zorambi_c_check_fault
-#define zorambi_check_older_fault zorambi_c_check_older_fault
-#define zorambi_model_fault zorambi_c_model_fault
+#define zorambi_check_texts zorambi_c_check_texts
+#define zorambi_check_older_texts zorambi_c_check_older_texts
+#define zorambi_check_model_texts zorambi_c_check_model_texts
 /* A failing width. */
 #define zorambi_find_model zorambi_c_find_model
 /* Connectives as designers write them. */

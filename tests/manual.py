@@ -222,13 +222,13 @@ def lines(zorambi):
 
     folder = ROOT / "records" / "paper" / "some_and_none"
     schema, proof = (folder / "schema.txt").read_text(), (folder / "proof.txt").read_text()
-    fault = zorambi.check_fault(schema.replace("7 0 2 0\n", "9 0 2 0\n").encode(), proof.encode())
+    fault = zorambi.check_texts(schema.replace("7 0 2 0\n", "9 0 2 0\n").encode(), proof.encode()).line
     expect("schema row 2 is on another line", fault.number == line("schema row", r=2))
-    fault = zorambi.check_fault(schema.encode(), proof.replace("6 1 2 1\n", "9 1 2 1\n").encode())
+    fault = zorambi.check_texts(schema.encode(), proof.replace("6 1 2 1\n", "9 1 2 1\n").encode()).line
     expect("proof row 7 is on another line", fault.number == line("proof row", r=7, S=5))
-    fault = zorambi.check_fault(schema.encode(), proof.replace("4 8 -1 -1 -1 1 1 ", "4 8 -1 -1 -1 1 2 ").encode())
+    fault = zorambi.check_texts(schema.encode(), proof.replace("4 8 -1 -1 -1 1 1 ", "4 8 -1 -1 -1 1 2 ").encode()).line
     expect("node 5 is on another line", fault.number == line("node", P=4, j=5))
-    fault = zorambi.model_fault(schema.encode(), b"n\n3\nsymbol index\n0 1\n0 2\n0 2\n")
+    fault = zorambi.check_model_texts(schema.encode(), b"n\n3\nsymbol index\n0 1\n0 2\n0 2\n").line
     expect("pair 2 is on another line", fault.number == line("pair", k=2))
 
 

@@ -21,8 +21,10 @@ static void answers(const char *name, uint64_t packed, unsigned answer, int plac
   test(name, zorambi_answer(packed) == answer && zorambi_place(packed) == place);
 }
 
-static void points(const char *name, uint64_t fault, int second, unsigned line) {
-  test(name, zorambi_fault_second(fault) == second && zorambi_fault_line(fault) == line);
+/* The answer of a check of texts, its place, and the line that it points to. */
+static void points(const char *name, uint64_t packed, unsigned answer, int place, int second, unsigned line) {
+  answers(name, packed, answer, place);
+  test(name, zorambi_fault_second(packed) == second && zorambi_fault_line(packed) == line);
 }
 
 /* The paper's schema, the rows of its proof, and its first node. */
@@ -60,8 +62,8 @@ static void repeated(void) {
   static const uint8_t proof_text[] = "kind a b c\n7 0 2 1\n7 0 2 1\nup rule on with other to by set\n";
   const uint8_t *text = (const uint8_t *)schema_text;
   const size_t length = strlen(schema_text);
-  points("a line twice", zorambi_check_fault(text, length, proof_text, sizeof proof_text - 1), 1, 3);
-  points("a line twice, older", zorambi_check_older_fault(text, length, proof_text, sizeof proof_text - 1), 0, 0);
+  points("a line twice", zorambi_check_texts(text, length, proof_text, sizeof proof_text - 1), ZORAMBI_REPEATED, 6, 1, 3);
+  points("a line twice, older", zorambi_check_older_texts(text, length, proof_text, sizeof proof_text - 1), ZORAMBI_PARENT, -1, 0, 0);
 }
 
 static void check_model(void) {
@@ -189,15 +191,16 @@ static void lines(void) {
   zorambi_line(NULL, 0, 1, span);
   test("a line of no text", span[0] == 0 && span[1] == 0);
   const uint8_t *text = (const uint8_t *)schema_text;
-  points("no texts", zorambi_check_fault(NULL, 0, NULL, 0), 0, 1);
-  points("no schema to point into", zorambi_check_fault(NULL, 0, text, strlen(schema_text)), 0, 1);
-  points("no proof to point into", zorambi_check_fault(text, strlen(schema_text), NULL, 0), 1, 1);
-  points("no texts, older", zorambi_check_older_fault(NULL, 0, NULL, 0), 0, 1);
-  points("no schema to point into, older", zorambi_check_older_fault(NULL, 0, text, strlen(schema_text)), 0, 1);
-  points("no proof to point into, older", zorambi_check_older_fault(text, strlen(schema_text), NULL, 0), 1, 1);
-  points("no texts of a model", zorambi_model_fault(NULL, 0, NULL, 0), 0, 1);
-  points("no schema of a model", zorambi_model_fault(NULL, 0, text, strlen(schema_text)), 0, 1);
-  points("no model to point into", zorambi_model_fault(text, strlen(schema_text), NULL, 0), 1, 1);
+  const size_t length = strlen(schema_text);
+  points("no texts", zorambi_check_texts(NULL, 0, NULL, 0), ZORAMBI_HEADING, 1, 0, 1);
+  points("no schema text", zorambi_check_texts(NULL, 0, text, length), ZORAMBI_HEADING, 1, 0, 1);
+  points("no proof text", zorambi_check_texts(text, length, NULL, 0), ZORAMBI_HEADING, 1, 1, 1);
+  points("no texts, older", zorambi_check_older_texts(NULL, 0, NULL, 0), ZORAMBI_HEADING, 1, 0, 1);
+  points("no schema text, older", zorambi_check_older_texts(NULL, 0, text, length), ZORAMBI_HEADING, 1, 0, 1);
+  points("no proof text, older", zorambi_check_older_texts(text, length, NULL, 0), ZORAMBI_HEADING, 1, 1, 1);
+  points("no texts of a model", zorambi_check_model_texts(NULL, 0, NULL, 0), ZORAMBI_HEADING, 1, 0, 1);
+  points("no schema text of a model", zorambi_check_model_texts(NULL, 0, text, length), ZORAMBI_HEADING, 1, 0, 1);
+  points("no model text", zorambi_check_model_texts(text, length, NULL, 0), ZORAMBI_HEADING, 1, 1, 1);
 }
 
 /* ---- A failing width. */

@@ -55,27 +55,27 @@ static void part(const char *what, long long found, long long expected) {
   }
 }
 
-static void parts(unsigned answer, int place, unsigned nodes, unsigned links) {
-  const uint64_t packed = (((uint64_t)answer * 8192 + (uint64_t)(place + 1)) * 8192 + nodes) * 8192 + links;
+static void parts(unsigned answer, int place, unsigned nodes, unsigned links, unsigned line, int second) {
+  const uint64_t packed = ((((uint64_t)line * 2 + (uint64_t)second) * 32 + answer) * 8192 + (uint64_t)(place + 1)) * 67108864 +
+                          (uint64_t)nodes * 8192 + links;
   part("answer", zorambi_answer(packed), answer);
   part("place", zorambi_place(packed), place);
   part("nodes", zorambi_nodes(packed), nodes);
   part("links", zorambi_links(packed), links);
+  part("fault's line", zorambi_fault_line(packed), line);
+  part("fault's text", zorambi_fault_second(packed), second);
 }
 
 int main(void) {
-  parts(0, 0, 1024, 1023);
-  parts(14, 5, 0, 0);
-  parts(31, -1, 0, 0);
-  parts(4, 8190, 0, 0);
-  parts(0, 0, 8191, 8191);
-  parts(1000, 4095, 256, 4096);
+  parts(0, 0, 1024, 1023, 0, 0);
+  parts(14, 5, 0, 0, 12, 1);
+  parts(31, -1, 0, 0, 0, 1);
+  parts(4, 8190, 0, 0, 8190, 0);
+  parts(0, 0, 8191, 8191, 0, 0);
+  parts(31, 8190, 8191, 8191, 65537, 1);
+  parts(21, 4095, 256, 4096, 16384, 0);
   part("bytes", zorambi_bytes(((uint64_t)1 << 26) + 65536), 65536);
   part("bytes", zorambi_bytes(((uint64_t)1 << 26) + 67108863), 67108863);
-  part("fault's line", zorambi_fault_line(2 * 16383 + 1), 16383);
-  part("fault's text", zorambi_fault_second(2 * 16383 + 1), 1);
-  part("fault's line", zorambi_fault_line(2 * 16382), 16382);
-  part("fault's text", zorambi_fault_second(2 * 16382), 0);
 """
 
 END = """  printf("%d passed, %d failed\\n", passed, failed);

@@ -62,9 +62,9 @@ static void model_rows_again(void) {
   zorambi_model_rows_again(3, pairs, 8192, 4096, text_out, 65536, more[0], 8192, results);
 }
 static void line(void) { zorambi_line(proof_text, proof_bytes, 3, span); }
-static void check_fault(void) { zorambi_check_fault(schema_text, schema_bytes, proof_text, proof_bytes); }
-static void check_older_fault(void) { zorambi_check_older_fault(schema_text, schema_bytes, proof_text, proof_bytes); }
-static void model_fault(void) { zorambi_model_fault(schema_text, schema_bytes, proof_text, proof_bytes); }
+static void check_texts(void) { zorambi_check_texts(schema_text, schema_bytes, proof_text, proof_bytes); }
+static void check_older_texts(void) { zorambi_check_older_texts(schema_text, schema_bytes, proof_text, proof_bytes); }
+static void check_model_texts(void) { zorambi_check_model_texts(schema_text, schema_bytes, proof_text, proof_bytes); }
 static void find_model(void) { zorambi_find_model(SCHEMA, of_schema[0], of_schema[1], of_schema[1] + 2, more[0], 8192, results); }
 static void convert(void) { zorambi_convert(SCHEMA, of_schema[0], of_schema[1], more[0], 4096, results); }
 static void next_small(void) { zorambi_next_small(schema, 12, 3, more[0], 12); }
@@ -88,8 +88,8 @@ static struct {
     ENTRY(write_schema, ZORAMBI_STACK_CHECK), ENTRY(write_proof, ZORAMBI_STACK_CHECK), ENTRY(write_model, ZORAMBI_STACK_CHECK),
     ENTRY(schema_again, ZORAMBI_STACK_CHECK), ENTRY(proof_again, ZORAMBI_STACK_CHECK), ENTRY(model_again, ZORAMBI_STACK_CHECK),
     ENTRY(schema_rows_again, ZORAMBI_STACK_CHECK), ENTRY(proof_rows_again, ZORAMBI_STACK_CHECK),
-    ENTRY(model_rows_again, ZORAMBI_STACK_CHECK), ENTRY(line, ZORAMBI_STACK_CHECK), ENTRY(check_fault, ZORAMBI_STACK),
-    ENTRY(check_older_fault, ZORAMBI_STACK), ENTRY(model_fault, ZORAMBI_STACK), ENTRY(find_model, ZORAMBI_STACK_GROW),
+    ENTRY(model_rows_again, ZORAMBI_STACK_CHECK), ENTRY(line, ZORAMBI_STACK_CHECK), ENTRY(check_texts, ZORAMBI_STACK),
+    ENTRY(check_older_texts, ZORAMBI_STACK), ENTRY(check_model_texts, ZORAMBI_STACK), ENTRY(find_model, ZORAMBI_STACK_GROW),
     ENTRY(convert, ZORAMBI_STACK_CHECK), ENTRY(next_small, ZORAMBI_STACK_CHECK), ENTRY(tidy, ZORAMBI_STACK_CHECK),
     ENTRY(join, ZORAMBI_STACK_JOIN), ENTRY(begin, ZORAMBI_STACK_GROW), ENTRY(enquire, ZORAMBI_STACK_GROW),
     ENTRY(commit, ZORAMBI_STACK_GROW), ENTRY(take_back, ZORAMBI_STACK_GROW), ENTRY(add, ZORAMBI_STACK_GROW)};

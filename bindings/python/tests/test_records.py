@@ -1,6 +1,7 @@
 """The paper's record and all shipped ones: checked, read and written, and the line at fault."""
 
 import copy
+import dataclasses
 import pickle
 import unittest
 
@@ -64,8 +65,8 @@ class Paper(unittest.TestCase):
         record.proof.nodes[5] = (4, 8, -1, -1, -1, 1, 2, 10, 2)
         both = zorambi.write_schema(record.schema), zorambi.write_proof(record.proof)
         self.assertEqual(zorambi.check_texts(*both).line, Line(Text.PROOF, 6, b"2 0 1 0"))
-        older = Line(Text.PROOF, 13, b"4 8 -1 -1 -1 1 2 5 7")
-        self.assertEqual((zorambi.check_older_texts(*both).line, zorambi.check_older_fault(*both)), (older, older))
+        older = zorambi.check_older_texts(*both)
+        self.assertEqual((older.line, older.rule), (Line(Text.PROOF, 13, b"4 8 -1 -1 -1 1 2 5 7"), 8))
 
     def test_without_nodes(self) -> None:
         verdict = zorambi.check(Record(paper().schema, Proof()))
@@ -95,7 +96,6 @@ class Paper(unittest.TestCase):
         self.assertTrue(zorambi.check_model_texts(text, b"n\n3\nsymbol index\n0 3\n"))
         verdict = zorambi.check_model_texts(text, b"n\n3\nsymbol index\n0 3\n0 2\n")
         self.assertEqual((verdict.number, verdict.place, verdict.line), (18, 1, Line(Text.MODEL, 5, b"0 2")))
-        self.assertEqual(zorambi.model_fault(text, b"n\n3\nsymbol index\n0 3\n0 2\n"), verdict.line)
 
 
 class Shipped(unittest.TestCase):
@@ -106,10 +106,11 @@ class Shipped(unittest.TestCase):
             expected = (number, place if number else None, nodes, links)
             schema, proof = common.texts(folder)
             checks = (zorambi.check_older, zorambi.check_older_texts) if older else (zorambi.check, zorambi.check_texts)
-            for verdict in (checks[0](common.record(folder)), checks[1](schema, proof)):
-                self.assertEqual((verdict.number, verdict.place, verdict.nodes, verdict.links), expected, folder)
-            fault = (zorambi.check_older_fault if older else zorambi.check_fault)(schema, proof)
-            self.assertEqual(fault, verdict.line)
+            of_tables, verdict = checks[0](common.record(folder)), checks[1](schema, proof)
+            self.assertEqual((verdict.number, verdict.place, verdict.nodes, verdict.links), expected, folder)
+            # The words are the same, since the line names the node's rule.
+            self.assertEqual(dataclasses.replace(verdict, line=None), of_tables, folder)
+            fault = verdict.line
             self.assertEqual(fault is None, number == 0, folder)
             if number in range(9, 18):
                 assert fault is not None and place is not None
@@ -141,7 +142,6 @@ class Texts(unittest.TestCase):
         self.assertEqual(refused.line, Line(Text.SCHEMA, 2, b"007 0"))
         self.assertEqual(str(refused), "refused: a line's form (4) at line 2")
         self.assertEqual(refused.words, "a line's form")
-        self.assertEqual(zorambi.check_fault(b"root least\n007 0\n", b""), refused.line)
         self.assertEqual(zorambi.check_texts(b"root least\n007 0\n", b""), Verdict(4, 2, line=refused.line))
         refused = self.refused(zorambi.read_proof, b"")
         self.assertEqual((refused.number, refused.line), (3, Line(Text.PROOF, 1, b"")))

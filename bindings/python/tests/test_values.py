@@ -107,6 +107,9 @@ class NeverCalled(unittest.TestCase):
             self.raises(TypeError, "a text is bytes", read, None)
             self.raises(TypeError, "a text is bytes", read, [1, 2])
             self.raises(TypeError, "a text is bytes", read, array("i", [1, 2]))
+        for check in (zorambi.check_texts, zorambi.check_older_texts, zorambi.check_model_texts):
+            self.raises(TypeError, "a schema text is a str; a text is bytes", check, "root least\n", b"")
+            self.raises(TypeError, " text is a str; a text is bytes", check, b"", "n\n")
 
     def test_nodes_added(self) -> None:
         proof = Proof()
@@ -173,7 +176,7 @@ class Lent(unittest.TestCase):
         self.assertEqual(entries.check([], 0, nothing, 0, 0, 0, (), 0, memoryview(nothing), 0) >> 39, 6)
         self.assertEqual(entries.read_schema(b"", nothing, array("i", [1] * 3)) >> 39, 2)
         self.assertEqual(entries.write_model(0, [], 0, bytearray()) >> 39, 22)
-        self.assertNotIn(0, handed(entries.check_fault, lambda: entries.check_fault(b"", b""))[::2])
+        self.assertNotIn(0, handed(entries.check_texts, lambda: entries.check_texts(b"", b""))[::2])
 
 
 class InPlace(unittest.TestCase):

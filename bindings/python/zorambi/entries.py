@@ -327,16 +327,19 @@ line = Entry(
     ("span", SIZES),
     result=None,
 )
-check_fault = Entry(
-    "zorambi_check_fault",
-    "Where a refusal points when two texts are read and checked: twice the line, and 1 more if in the second text.",
+check_texts = Entry(
+    "zorambi_check_texts",
+    "Reads two texts and checks them. Above the verdict's number, from bit 44 on: twice the line at fault, and 1 more if "
+    "in the second text.",
     ("schema", TEXT),
     ("proof", TEXT),
 )
-check_older_fault = Entry(
-    "zorambi_check_older_fault", "The same with the older check.", ("schema", TEXT), ("proof", TEXT)
+check_older_texts = Entry(
+    "zorambi_check_older_texts", "The same with the older check.", ("schema", TEXT), ("proof", TEXT)
 )
-model_fault = Entry("zorambi_model_fault", "The same with a model text.", ("schema", TEXT), ("model", TEXT))
+check_model_texts = Entry(
+    "zorambi_check_model_texts", "The same with a model text.", ("schema", TEXT), ("model", TEXT)
+)
 
 # A failing width.
 find_model = Entry(

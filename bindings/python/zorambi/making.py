@@ -78,7 +78,7 @@ def tidy(record: Record) -> Proof:
     equals it, sets and fields get the new numbers, each set is sorted anew. If `check_older` accepts the record,
     `check` accepts its schema with this proof, with the same counts; otherwise its refusal is raised."""
     tables = record_tables(record)
-    return with_lists(filled_proof(lambda *lent: succeeded(entries.tidy(*tables, *lent))))
+    return filled_proof(lambda *lent: succeeded(entries.tidy(*tables, *lent)))
 
 
 def join(first: Record, second: Record) -> Record:

@@ -1,6 +1,6 @@
 """Texts of schemata, proofs and models: read, written, and checked at once, and the line at fault. A text is bytes."""
 
-from typing import Any, Callable, Optional
+from typing import Any, Callable
 
 from . import entries
 from ._memory import plain_rows, text as text_bytes
@@ -11,17 +11,14 @@ from .record import (
     MAX_ROWS,
     Model,
     Proof,
-    Record,
     Schema,
-    check,
-    check_model,
-    check_older,
     model_tables,
     proof_tables,
     schema_tables,
     zeros,
 )
-from .verdict import Line, Refused, Text, Verdict, succeeded
+from .refusals import PLACE_COUNTS
+from .verdict import Line, Refused, Text, Verdict, succeeded, unpacked
 
 # A text has at most this many bytes.
 MAX_TEXT = 65_536
@@ -45,42 +42,13 @@ def _read(which: Text, text: bytes, read: Callable[[bytes], int]) -> None:
         raise Refused(refused.number, at, Line(which, at, line(text, at)) if at else None) from None
 
 
-# What is read stands in arrays, which the checks take as they are; a reader gives lists of rows.
-
-
-def _schema(text: bytes) -> Schema:
+def read_schema(text: bytes) -> Schema:
+    """Reads a schema text, also of a wide schema. Raises Refused with the line at fault."""
     text = text_bytes("a schema text", text)
     rows, results = zeros(MAX_ROWS * 4), zeros(3)
     _read(Text.SCHEMA, text, lambda text: entries.read_schema(text, rows, results))
     root, least, count = results
-    return Schema(root, least, rows[: count * 4])
-
-
-def filled_proof(fill: Callable[..., Any]) -> Proof:
-    """The proof that `fill` puts into tables of full size; its results are the numbers of rows, nodes and members."""
-    rows, nodes, members, results = zeros(MAX_ROWS * 4), zeros(MAX_NODES * 9), zeros(MAX_MEMBERS), zeros(3)
-    fill(rows, nodes, members, results)
-    row_count, node_count, member_count = results
-    return Proof(rows[: row_count * 4], nodes[: node_count * 9], members[:member_count])
-
-
-def _proof(text: bytes) -> Proof:
-    text = text_bytes("a proof text", text)
-    return filled_proof(lambda *lent: _read(Text.PROOF, text, lambda text: entries.read_proof(text, *lent)))
-
-
-def _model(text: bytes) -> Model:
-    text = text_bytes("a model text", text)
-    pairs, results = zeros(MAX_PAIRS * 2), zeros(2)
-    _read(Text.MODEL, text, lambda text: entries.read_model(text, pairs, results))
-    n, count = results
-    return Model(n, pairs[: count * 2])
-
-
-def read_schema(text: bytes) -> Schema:
-    """Reads a schema text, also of a wide schema. Raises Refused with the line at fault."""
-    schema = _schema(text)
-    return Schema(schema.root, schema.least, plain_rows(schema.rows, 4))
+    return Schema(root, least, plain_rows(rows[: count * 4], 4))
 
 
 def with_lists(proof: Proof) -> Proof:
@@ -88,15 +56,27 @@ def with_lists(proof: Proof) -> Proof:
     return Proof(plain_rows(proof.rows, 4), plain_rows(proof.nodes, 9), list(proof.members))
 
 
+def filled_proof(fill: Callable[..., Any]) -> Proof:
+    """The proof that `fill` puts into tables of full size; its results are the numbers of rows, nodes and members."""
+    rows, nodes, members, results = zeros(MAX_ROWS * 4), zeros(MAX_NODES * 9), zeros(MAX_MEMBERS), zeros(3)
+    fill(rows, nodes, members, results)
+    row_count, node_count, member_count = results
+    return with_lists(Proof(rows[: row_count * 4], nodes[: node_count * 9], members[:member_count]))
+
+
 def read_proof(text: bytes) -> Proof:
     """Reads a proof text. Raises Refused with the line at fault."""
-    return with_lists(_proof(text))
+    text = text_bytes("a proof text", text)
+    return filled_proof(lambda *lent: _read(Text.PROOF, text, lambda text: entries.read_proof(text, *lent)))
 
 
 def read_model(text: bytes) -> Model:
     """Reads a model text. Raises Refused with the line at fault."""
-    model = _model(text)
-    return Model(model.n, plain_rows(model.pairs, 2))
+    text = text_bytes("a model text", text)
+    pairs, results = zeros(MAX_PAIRS * 2), zeros(2)
+    _read(Text.MODEL, text, lambda text: entries.read_model(text, pairs, results))
+    n, count = results
+    return Model(n, plain_rows(pairs[: count * 2], 2))
 
 
 def _written(entry: entries.Entry, *tables: Any) -> bytes:
@@ -121,55 +101,32 @@ def write_model(model: Model) -> bytes:
     return _written(entries.write_model, *model_tables(model))
 
 
-def _fault(entry: entries.Entry, second: Text, schema: bytes, other: bytes) -> Optional[Line]:
-    pointed = entry(schema, other)
-    number = pointed >> 1
+def _judged(entry: entries.Entry, second: Text, schema: bytes, other: bytes) -> Verdict:
+    """The verdict on two texts. Above its number stand the line at fault and whether it is in the second text."""
+    schema, other = text_bytes("a schema text", schema), text_bytes(f"a {second.name.lower()} text", other)
+    packed = entry(schema, other)
+    answer, number = unpacked(packed), packed >> 45
     if number == 0:
-        return None
-    which, text = (second, other) if pointed & 1 else (Text.SCHEMA, schema)
-    return Line(which, number, line(text, number))
-
-
-def check_fault(schema: bytes, proof: bytes) -> Optional[Line]:
-    """The line that the refusal of `check_texts` points to: the one refused in reading, or that of the row or node at
-    fault. None if it accepts, or refuses the whole."""
-    return _fault(entries.check_fault, Text.PROOF, schema, proof)
-
-
-def check_older_fault(schema: bytes, proof: bytes) -> Optional[Line]:
-    """The same of `check_older_texts`."""
-    return _fault(entries.check_older_fault, Text.PROOF, schema, proof)
-
-
-def model_fault(schema: bytes, model: bytes) -> Optional[Line]:
-    """The same of `check_model_texts`: the line refused in reading, or that of the row or pair at fault."""
-    return _fault(entries.model_fault, Text.MODEL, schema, model)
-
-
-def _with_line(judge: Callable[[], Verdict], fault: Callable[[], Optional[Line]]) -> Verdict:
-    """The verdict, or the refusal of a text in reading; with the line at fault."""
-    try:
-        verdict = judge()
-    except Refused as refused:
-        return refused.verdict
-    if verdict.accepted:
-        return verdict
-    return Verdict(verdict.number, verdict.place, line=fault(), rule=verdict.rule)
+        return Verdict(*answer)
+    which, text = (second, other) if packed >> 44 & 1 else (Text.SCHEMA, schema)
+    at = Line(which, number, line(text, number))
+    rule = int(at.content.split(b" ")[1]) if PLACE_COUNTS.get(answer.number) == "node" else None
+    return Verdict(*answer, line=at, rule=rule)
 
 
 def check_texts(schema: bytes, proof: bytes) -> Verdict:
     """Reads a schema text, then a proof text, and checks the record. A text refused in reading gives its refusal, and
-    nothing is checked. A refusal has its line."""
-    return _with_line(lambda: check(Record(_schema(schema), _proof(proof))), lambda: check_fault(schema, proof))
+    nothing is checked. A refusal has its line: the one refused in reading, or that of the row or node at fault; a
+    refusal of the whole has none."""
+    return _judged(entries.check_texts, Text.PROOF, schema, proof)
 
 
 def check_older_texts(schema: bytes, proof: bytes) -> Verdict:
     """The same with `check_older`."""
-    return _with_line(
-        lambda: check_older(Record(_schema(schema), _proof(proof))), lambda: check_older_fault(schema, proof)
-    )
+    return _judged(entries.check_older_texts, Text.PROOF, schema, proof)
 
 
 def check_model_texts(schema: bytes, model: bytes) -> Verdict:
-    """Reads a schema text, then a model text, and checks the model. A refusal has its line."""
-    return _with_line(lambda: check_model(_schema(schema), _model(model)), lambda: model_fault(schema, model))
+    """Reads a schema text, then a model text, and checks the model. A refusal has its line, as that of the pair at
+    fault."""
+    return _judged(entries.check_model_texts, Text.MODEL, schema, model)

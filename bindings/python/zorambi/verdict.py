@@ -139,7 +139,8 @@ class Refused(Exception):
 
 
 class Answer(NamedTuple):
-    """What the one number of the library says: ((number * 8192 + place + 1) * 8192 + nodes) * 8192 + links."""
+    """What the one number of the library says: ((number * 8192 + place + 1) * 8192 + nodes) * 8192 + links, whatever
+    stands above it."""
 
     number: int
     place: Optional[int]
@@ -148,7 +149,7 @@ class Answer(NamedTuple):
 
 
 def unpacked(packed: int) -> Answer:
-    number = packed >> 39
+    number = packed >> 39 & 31
     place = (packed >> 26 & 8191) - 1
     return Answer(number, None if number == 0 or place < 0 else place, packed >> 13 & 8191, packed & 8191)
 

@@ -207,19 +207,19 @@ pub fn line(text: &[u8], k: usize) -> [usize; 2] {
 }
 
 entry! {
-    /// Where a refusal points when a schema text and a proof text are read and checked: twice the line, from
-    /// 1, and 1 more if it is the proof's; line 0 is none.
-    check_fault = zorambi_check_fault(schema: &[u8], proof: &[u8])
+    /// Reads a schema text, then a proof text, and checks the record. Above the verdict's number, from bit 44 on, stands where a
+    /// refusal points: twice the line, from 1, and 1 more if it is the proof's; line 0 is none.
+    check_texts = zorambi_check_texts(schema: &[u8], proof: &[u8])
 }
 
 entry! {
     /// The same with the older check.
-    check_older_fault = zorambi_check_older_fault(schema: &[u8], proof: &[u8])
+    check_older_texts = zorambi_check_older_texts(schema: &[u8], proof: &[u8])
 }
 
 entry! {
     /// The same with a model text.
-    model_fault = zorambi_model_fault(schema: &[u8], model: &[u8])
+    check_model_texts = zorambi_check_model_texts(schema: &[u8], model: &[u8])
 }
 
 // A failing width.

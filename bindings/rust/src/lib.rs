@@ -45,7 +45,7 @@
 //! The same from texts:
 //!
 //! ```
-//! use zorambi::{check_fault, check_model_texts, read_schema, write_schema, Refusal, Text, Verdict};
+//! use zorambi::{check_model_texts, check_texts, read_schema, write_schema, Refusal, Text, Verdict};
 //!
 //! let schema = b"root least\n1 0\nkind a b c\n2 0 2 0\n6 0 1 0\n";
 //! let read = read_schema(schema)?;
@@ -53,14 +53,15 @@
 //! assert_eq!(write_schema(&read)?, schema);
 //!
 //! // All p_i for i from 1 to n: true at n = 1 if p_1 is.
-//! let verdict = check_model_texts(schema, b"n\n1\nsymbol index\n0 1\n");
-//! assert!(verdict.is_accepted());
-//! let verdict = check_model_texts(schema, b"n\n1\nsymbol index\n0 2\n");
-//! assert_eq!(verdict, Verdict::Refused { refusal: Refusal::False, place: None });
+//! let judged = check_model_texts(schema, b"n\n1\nsymbol index\n0 1\n");
+//! assert!(judged.verdict.is_accepted());
+//! let judged = check_model_texts(schema, b"n\n1\nsymbol index\n0 2\n");
+//! assert_eq!(judged.verdict, Verdict::Refused { refusal: Refusal::False, place: None });
 //!
 //! let refused = read_schema(b"root least\n007 0\n").unwrap_err();
 //! assert_eq!(refused.to_string(), "refused: a line's form (4) at line 2");
-//! assert_eq!(check_fault(b"root least\n007 0\n", b""), Some((Text::Schema, 2)));
+//! let judged = check_texts(b"root least\n007 0\n", b"");
+//! assert_eq!((judged.verdict, judged.fault), (refused.into(), Some((Text::Schema, 2))));
 //! # Ok::<(), zorambi::Refused>(())
 //! ```
 
@@ -80,8 +81,8 @@ pub use sha256::{hex, sha256};
 pub use record::{check, check_model, check_older, Model, Node, Pair, Proof, Record, Row, Schema};
 pub use shown::{json_string, shown, shown_name};
 pub use text::{
-    check_fault, check_model_texts, check_older_fault, check_older_texts, check_texts, line, model_fault, read_model,
-    read_proof, read_schema, write_model, write_proof, write_schema, Text, MAX_PAIRS, MAX_TEXT,
+    check_model_texts, check_older_texts, check_texts, line, read_model, read_proof, read_schema, write_model,
+    write_proof, write_schema, Judgement, Text, MAX_PAIRS, MAX_TEXT,
 };
 pub use verdict::{Refusal, Refused, Verdict};
 

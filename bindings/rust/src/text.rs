@@ -1,7 +1,7 @@
 //! Texts of schemata, proofs and models: read, written, and checked at once, and the line at fault.
 
 use crate::entries;
-use crate::record::{check, check_model, check_older, Model, Proof, Record, Schema};
+use crate::record::{Model, Proof, Schema};
 use crate::verdict::{refused, Refused, Verdict};
 
 /// A text has at most this many bytes.
@@ -105,28 +105,6 @@ pub fn line(text: &[u8], number: usize) -> &[u8] {
     &text[start..start + length]
 }
 
-fn check_texts_by(check: fn(&Record) -> Verdict, schema: &[u8], proof: &[u8]) -> Verdict {
-    let record = read_schema(schema).and_then(|schema| Ok(Record { schema, proof: read_proof(proof)? }));
-    record.map_or_else(Verdict::from, |record| check(&record))
-}
-
-/// Reads a schema text, then a proof text, and checks the record. A text refused in reading gives its
-/// refusal, and nothing is checked.
-pub fn check_texts(schema: &[u8], proof: &[u8]) -> Verdict {
-    check_texts_by(check, schema, proof)
-}
-
-/// The same with [`check_older`].
-pub fn check_older_texts(schema: &[u8], proof: &[u8]) -> Verdict {
-    check_texts_by(check_older, schema, proof)
-}
-
-/// Reads a schema text, then a model text, and checks the model.
-pub fn check_model_texts(schema: &[u8], model: &[u8]) -> Verdict {
-    let both = read_schema(schema).and_then(|schema| Ok((schema, read_model(model)?)));
-    both.map_or_else(Verdict::from, |(schema, model)| check_model(&schema, &model))
-}
-
 /// A text of a record or of a model.
 #[derive(Clone, Copy, Debug, PartialEq, Eq, Hash)]
 pub enum Text {
@@ -135,24 +113,37 @@ pub enum Text {
     Model,
 }
 
-/// The text and the line, from 1, of a number that the library points with; `None` if it is line 0.
-fn fault(number: u64, second: Text) -> Option<(Text, usize)> {
-    let line = (number >> 1) as usize;
-    (line > 0).then_some((if number & 1 == 1 { second } else { Text::Schema }, line))
+/// What a check of texts says.
+#[must_use]
+#[derive(Clone, Copy, Debug, PartialEq, Eq, Hash)]
+pub struct Judgement {
+    pub verdict: Verdict,
+    /// The text and the line, from 1, that a refusal points to: the line refused in reading, or that of the
+    /// row, node or pair at fault. `None` of an acceptance, and of a refusal of the whole.
+    pub fault: Option<(Text, usize)>,
 }
 
-/// The text and the line, from 1, that the refusal of [`check_texts`] points to: the line refused in
-/// reading, or that of the row or node at fault. `None` if it accepts, or refuses the whole.
-pub fn check_fault(schema: &[u8], proof: &[u8]) -> Option<(Text, usize)> {
-    fault(entries::check_fault(schema, proof), Text::Proof)
+impl Judgement {
+    /// What a number of the library stands for: above the verdict's own, twice the line, and 1 more in the
+    /// second text.
+    fn of_packed(packed: u64, second: Text) -> Judgement {
+        let (line, text) = ((packed >> 45) as usize, if packed >> 44 & 1 == 1 { second } else { Text::Schema });
+        Judgement { verdict: Verdict::of_packed(packed), fault: (line > 0).then_some((text, line)) }
+    }
 }
 
-/// The same of [`check_older_texts`].
-pub fn check_older_fault(schema: &[u8], proof: &[u8]) -> Option<(Text, usize)> {
-    fault(entries::check_older_fault(schema, proof), Text::Proof)
+/// Reads a schema text, then a proof text, and checks the record. A text refused in reading gives its
+/// refusal, and nothing is checked.
+pub fn check_texts(schema: &[u8], proof: &[u8]) -> Judgement {
+    Judgement::of_packed(entries::check_texts(schema, proof), Text::Proof)
 }
 
-/// The same of [`check_model_texts`]: the line refused in reading, or that of the row or pair at fault.
-pub fn model_fault(schema: &[u8], model: &[u8]) -> Option<(Text, usize)> {
-    fault(entries::model_fault(schema, model), Text::Model)
+/// The same with [`check_older`](crate::check_older).
+pub fn check_older_texts(schema: &[u8], proof: &[u8]) -> Judgement {
+    Judgement::of_packed(entries::check_older_texts(schema, proof), Text::Proof)
+}
+
+/// Reads a schema text, then a model text, and checks the model.
+pub fn check_model_texts(schema: &[u8], model: &[u8]) -> Judgement {
+    Judgement::of_packed(entries::check_model_texts(schema, model), Text::Model)
 }

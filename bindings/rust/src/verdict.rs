@@ -123,7 +123,7 @@ impl Verdict {
     }
 
     /// The verdict that a number of the library stands for:
-    /// ((answer × 8192 + place + 1) × 8192 + nodes) × 8192 + links.
+    /// ((answer × 8192 + place + 1) × 8192 + nodes) × 8192 + links, whatever stands above it.
     pub(crate) fn of_packed(packed: u64) -> Verdict {
         counts(packed).map_or_else(Verdict::from, |[nodes, links]| Verdict::Accepted { nodes, links })
     }
@@ -149,7 +149,7 @@ impl fmt::Display for Verdict {
 
 /// The refusal that a number of the library stands for; `None` if it is a success.
 pub(crate) fn refused(packed: u64) -> Option<Refused> {
-    let answer = packed >> 39;
+    let answer = packed >> 39 & 31;
     if answer == 0 {
         return None;
     }
@@ -217,6 +217,11 @@ mod tests {
         assert_eq!(Verdict::of_packed(refused), Verdict::Refused { refusal: Refusal::Bound, place: Some(5) });
         let without_place = 20 * 8192 * 8192 * 8192;
         assert_eq!(Verdict::of_packed(without_place), Verdict::Refused { refusal: Refusal::False, place: None });
+        for fault in [1, 2 * 65_536 + 1, (1 << 20) - 1] {
+            for packed in [accepted, refused, without_place, 31 << 39] {
+                assert_eq!(Verdict::of_packed(fault << 44 | packed), Verdict::of_packed(packed));
+            }
+        }
     }
 
     #[test]

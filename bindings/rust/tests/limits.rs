@@ -2,8 +2,8 @@
 //! and the schema's refusal before the other text's.
 
 use zorambi::{
-    check, check_fault, check_model_texts, check_older, check_older_texts, check_texts, join, model_fault, read_proof,
-    tidy, write_proof, Growing, Proof, Record, Refusal, Refused, Schema, Text, Verdict,
+    check, check_model_texts, check_older, check_older_texts, check_texts, join, read_proof, tidy, write_proof,
+    Growing, Judgement, Proof, Record, Refusal, Refused, Schema, Text, Verdict,
 };
 
 /// The paper's record with so many splits before its link, each with a link of its own: a node of a range of one value,
@@ -130,13 +130,12 @@ fn the_schema_before_the_other_text() {
     let schema = b"root least\n4 1\nkind a b c\n2 0 2 00\n";
     let proof = b"kind a b c\n7 0 2 01\n";
     let model = b"n\n03\n";
-    let of_schema = refused(Refusal::Line, 4);
+    let at = |text, line| Judgement { verdict: refused(Refusal::Line, line), fault: Some((text, line)) };
+    let read = b"root least\n4 1\nkind a b c\n";
     for check in [check_texts, check_older_texts] {
-        assert_eq!(check(schema, proof), of_schema);
-        assert_eq!(check(b"root least\n4 1\nkind a b c\n", proof), refused(Refusal::Line, 2));
+        assert_eq!(check(schema, proof), at(Text::Schema, 4));
+        assert_eq!(check(read, proof), at(Text::Proof, 2));
     }
-    assert_eq!(check_model_texts(schema, model), of_schema);
-    assert_eq!(check_model_texts(b"root least\n4 1\nkind a b c\n", model), refused(Refusal::Line, 2));
-    assert_eq!(check_fault(schema, proof), Some((Text::Schema, 4)));
-    assert!(matches!(model_fault(schema, model), Some((Text::Schema, 4))));
+    assert_eq!(check_model_texts(schema, model), at(Text::Schema, 4));
+    assert_eq!(check_model_texts(read, model), at(Text::Model, 2));
 }

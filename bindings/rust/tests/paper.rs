@@ -1,9 +1,8 @@
 //! The paper's record and its neighbours, from texts and from tables.
 
 use zorambi::{
-    check, check_fault, check_model_texts, check_older, check_older_fault, check_older_texts, check_texts, line,
-    model_fault, read_model, read_proof, read_schema, write_model, write_proof, write_schema, Model, Proof, Record,
-    Refusal, Refused, Schema, Text, Verdict,
+    check, check_model_texts, check_older, check_older_texts, check_texts, line, read_model, read_proof, read_schema,
+    write_model, write_proof, write_schema, Judgement, Model, Proof, Record, Refusal, Refused, Schema, Text, Verdict,
 };
 
 const SCHEMA: &str = "root least\n4 1\nkind a b c\n2 0 2 0\n3 0 2 0\n7 0 2 0\n6 1 2 0\n4 2 3 0\n";
@@ -28,9 +27,10 @@ fn refused(refusal: Refusal, place: impl Into<Option<usize>>) -> Verdict {
 
 #[test]
 fn the_record_and_its_neighbours() {
-    let with_schema = |from: &str, to: &str| check_texts(changed(SCHEMA, from, to).as_bytes(), PROOF.as_bytes());
-    let with_proof = |from: &str, to: &str| check_texts(SCHEMA.as_bytes(), changed(PROOF, from, to).as_bytes());
-    assert_eq!(check_texts(SCHEMA.as_bytes(), PROOF.as_bytes()), ACCEPTED);
+    let check = |schema: &str, proof: &str| check_texts(schema.as_bytes(), proof.as_bytes()).verdict;
+    let with_schema = |from: &str, to: &str| check(&changed(SCHEMA, from, to), PROOF);
+    let with_proof = |from: &str, to: &str| check(SCHEMA, &changed(PROOF, from, to));
+    assert_eq!(check(SCHEMA, PROOF), ACCEPTED);
     assert_eq!(with_schema("4 1\n", "4 0\n"), refused(Refusal::Bound, 3));
     assert_eq!(with_schema("4 1\n", "4 2\n"), refused(Refusal::Bound, 2));
     assert_eq!(with_proof("-1 1 1 5 7\n", "-1 1 2 5 7\n"), refused(Refusal::Bound, 5));
@@ -54,18 +54,17 @@ fn the_record_and_its_neighbours() {
 }
 
 /// What the check and the older one say, and where they point.
-fn both(schema: &str, proof: &str) -> [(Verdict, Option<(Text, usize)>); 2] {
+fn both(schema: &str, proof: &str) -> [Judgement; 2] {
     let [schema, proof] = [schema, proof].map(str::as_bytes);
-    [
-        (check_texts(schema, proof), check_fault(schema, proof)),
-        (check_older_texts(schema, proof), check_older_fault(schema, proof)),
-    ]
+    [check_texts(schema, proof), check_older_texts(schema, proof)]
 }
 
 #[test]
 fn proof_rows_written_twice() {
-    let accepted = (ACCEPTED, None);
-    let at = |refusal, place: usize, line| (refused(refusal, place), Some((Text::Proof, line)));
+    let whole = |verdict| Judgement { verdict, fault: None };
+    let accepted = whole(ACCEPTED);
+    let at =
+        |refusal, place: usize, line| Judgement { verdict: refused(refusal, place), fault: Some((Text::Proof, line)) };
     let and_rows = |rows: &str| changed(PROOF, "3 0 1 0\nup", &format!("3 0 1 0\n{rows}\nup"));
     assert_eq!(both(SCHEMA, PROOF), [accepted; 2]);
     // Row 9 is row 5, 8, 0 or 4 again: proof rows and schema rows, the first and the last of each.
@@ -86,7 +85,7 @@ fn proof_rows_written_twice() {
     // Schema rows may repeat: row 3 is row 0.
     let schema = "root least\n2 1\nkind a b c\n2 0 1 0\n3 0 1 0\n4 0 1 0\n2 0 1 0\n";
     let proof = "kind a b c\nup rule on with other to by set\n-1 0 2 -1 -1 -1 0 2\n0 6 0 1 -1 -1 0 0 1\n";
-    assert_eq!(both(schema, proof), [(Verdict::Accepted { nodes: 2, links: 0 }, None); 2]);
+    assert_eq!(both(schema, proof), [whole(Verdict::Accepted { nodes: 2, links: 0 }); 2]);
 
     // Row for row: 27 at row 9 comes before 7 at row 10, and 7 at row 9 before 27 at row 10.
     let first = and_rows("3 0 1 0\n9 0 0 0");
@@ -94,7 +93,7 @@ fn proof_rows_written_twice() {
     assert_eq!(both(SCHEMA, &and_rows("9 0 0 0\n3 0 1 0")), [at(Refusal::IllFormed, 9, 6); 2]);
     assert_eq!(both(SCHEMA, &and_rows("9 0 0 0\n9 0 0 0")), [at(Refusal::IllFormed, 9, 6); 2]);
     // A root that is not outer comes after, one that is no row before.
-    let (twice, root) = (and_rows("3 0 1 0"), (refused(Refusal::Root, None), None));
+    let (twice, root) = (and_rows("3 0 1 0"), whole(refused(Refusal::Root, None)));
     assert_eq!(both(&changed(SCHEMA, "4 1\n", "0 1\n"), &twice), [at(Refusal::Repeated, 9, 6), root]);
     assert_eq!(both(&changed(SCHEMA, "4 1\n", "5 1\n"), &twice), [root; 2]);
 
@@ -108,7 +107,7 @@ fn proof_rows_written_twice() {
 #[test]
 fn the_models() {
     let root_3 = changed(SCHEMA, "4 1\n", "3 1\n");
-    let model = |schema: &str, model: &str| check_model_texts(schema.as_bytes(), model.as_bytes());
+    let model = |schema: &str, model: &str| check_model_texts(schema.as_bytes(), model.as_bytes()).verdict;
     let accepted = Verdict::Accepted { nodes: 0, links: 0 };
     assert_eq!(model(SCHEMA, "n\n1\nsymbol index\n"), refused(Refusal::False, None));
     assert_eq!(model(&root_3, "n\n1\nsymbol index\n"), accepted);
@@ -181,8 +180,8 @@ fn texts_refused_in_reading() {
     );
     let many = ["n\n1\nsymbol index\n", &"0 0\n".repeat(4097)].concat();
     assert_eq!(read_model(many.as_bytes()).map(|_| ()), Err(Refused { refusal: Refusal::TooMany, place: Some(4100) }));
-    assert_eq!(check_texts(b"", PROOF.as_bytes()), refused(Refusal::Heading, 1));
-    assert_eq!(check_texts(SCHEMA.as_bytes(), b""), refused(Refusal::Heading, 1));
+    assert_eq!(check_texts(b"", PROOF.as_bytes()).verdict, refused(Refusal::Heading, 1));
+    assert_eq!(check_texts(SCHEMA.as_bytes(), b"").verdict, refused(Refusal::Heading, 1));
 }
 
 #[test]
@@ -214,7 +213,7 @@ fn pointed(texts: [&str; 2], fault: Option<(Text, usize)>) -> Option<(Text, usiz
 #[test]
 fn lines_at_fault() {
     let check = |schema: &str, proof: &str| {
-        let fault = check_fault(schema.as_bytes(), proof.as_bytes());
+        let fault = check_texts(schema.as_bytes(), proof.as_bytes()).fault;
         pointed([schema, proof], fault).map(|(text, number, line)| (text, number, line.to_string()))
     };
     let at = |text, number, line: &str| Some((text, number, line.to_string()));
@@ -232,7 +231,7 @@ fn lines_at_fault() {
     assert_eq!(check(SCHEMA, &" ".repeat(65_537)), None);
 
     let root_3 = changed(SCHEMA, "4 1\n", "3 1\n");
-    let model = |schema: &str, model: &str| model_fault(schema.as_bytes(), model.as_bytes());
+    let model = |schema: &str, model: &str| check_model_texts(schema.as_bytes(), model.as_bytes()).fault;
     assert_eq!(model(&root_3, "n\n3\nsymbol index\n0 1\n"), None);
     assert_eq!(model(&root_3, "n\n3\nsymbol index\n0 1\n0 1\n"), Some((Text::Model, 5)));
     assert_eq!(model(&root_3, "n\n3\nsymbol index\n0\n"), Some((Text::Model, 4)));

@@ -7,8 +7,8 @@ use common::{records, shipped, texts};
 use std::fs;
 use std::path::Path;
 use zorambi::{
-    check_fault, check_model_texts, check_older_fault, check_older_texts, check_texts, read_model, read_proof,
-    read_schema, write_model, write_proof, write_schema, Refusal, Text, Verdict,
+    check_model_texts, check_older_texts, check_texts, read_model, read_proof, read_schema, write_model, write_proof,
+    write_schema, Judgement, Refusal, Text, Verdict,
 };
 
 fn expected(record: &Path) -> Verdict {
@@ -27,7 +27,8 @@ fn verdicts() {
         for record in records(sort) {
             let [schema, proof] = texts(&record);
             let older = record.join("older").is_file();
-            let verdict = if older { check_older_texts(&schema, &proof) } else { check_texts(&schema, &proof) };
+            let check = if older { check_older_texts } else { check_texts };
+            let Judgement { verdict, .. } = check(&schema, &proof);
             assert_eq!(verdict, expected(&record), "{}", record.display());
             assert_eq!(verdict.is_accepted(), accepted, "{}", record.display());
         }
@@ -39,12 +40,11 @@ fn both_checks() {
     let mut repeated = 0;
     for record in [records("accepted"), records("refused")].concat() {
         let [schema, proof] = texts(&record);
-        let verdict = check_texts(&schema, &proof);
-        if let Verdict::Refused { refusal: Refusal::Repeated, .. } = verdict {
+        let judged = check_texts(&schema, &proof);
+        if let Verdict::Refused { refusal: Refusal::Repeated, .. } = judged.verdict {
             repeated += 1;
         } else {
-            assert_eq!(check_older_texts(&schema, &proof), verdict, "{}", record.display());
-            assert_eq!(check_older_fault(&schema, &proof), check_fault(&schema, &proof), "{}", record.display());
+            assert_eq!(check_older_texts(&schema, &proof), judged, "{}", record.display());
         }
     }
     assert!(repeated > 0);
@@ -53,10 +53,10 @@ fn both_checks() {
 #[test]
 fn a_row_written_twice() {
     let [schema, proof] = texts(&shipped("refused/row_written_twice"));
-    assert_eq!(check_texts(&schema, &proof), Verdict::Refused { refusal: Refusal::Repeated, place: Some(130) });
-    assert_eq!(check_fault(&schema, &proof), Some((Text::Proof, 84)));
-    assert_eq!(check_older_texts(&schema, &proof), expected(&shipped("accepted/rca_zero")));
-    assert_eq!(check_older_fault(&schema, &proof), None);
+    let verdict = Verdict::Refused { refusal: Refusal::Repeated, place: Some(130) };
+    assert_eq!(check_texts(&schema, &proof), Judgement { verdict, fault: Some((Text::Proof, 84)) });
+    let verdict = expected(&shipped("accepted/rca_zero"));
+    assert_eq!(check_older_texts(&schema, &proof), Judgement { verdict, fault: None });
 }
 
 #[test]
@@ -65,7 +65,7 @@ fn models() {
     for record in records("refused") {
         if let Ok(model) = fs::read(record.join("model.txt")) {
             let schema = fs::read(record.join("schema.txt")).unwrap();
-            assert!(check_model_texts(&schema, &model).is_accepted(), "{}", record.display());
+            assert!(check_model_texts(&schema, &model).verdict.is_accepted(), "{}", record.display());
             assert_eq!(write_model(&read_model(&model).unwrap()).unwrap(), model);
             found += 1;
         }

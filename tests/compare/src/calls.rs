@@ -1,7 +1,6 @@
 //! One case put to the library and to the other implementation.
 
 use zorambi::entries;
-use zorambi::entries::{check_older, check_older_fault};
 use zorambi_generate::models::ModelTables;
 use zorambi_generate::rng::mix;
 use zorambi_generate::tables::Tables;
@@ -16,7 +15,6 @@ pub struct Seen {
     pub tables: Vec<Vec<i32>>,
     pub out: Vec<u8>,
     pub span: [usize; 2],
-    pub fault: u64,
     /// Something was written next to the lent memory.
     pub outside: bool,
 }
@@ -27,7 +25,7 @@ impl Seen {
     }
 
     pub fn answer(&self) -> u64 {
-        self.packed >> 39
+        self.packed >> 39 & 31
     }
 
     pub fn place(&self) -> i64 {
@@ -49,8 +47,8 @@ impl Seen {
             return None;
         }
         let words = |seen: &Seen| {
-            let Seen { results, span, fault, .. } = seen;
-            format!("answer {} place {} {results:?} {span:?} {fault}", seen.answer(), seen.place())
+            let Seen { packed, results, span, .. } = seen;
+            format!("answer {} place {} {results:?} {span:?} {}", seen.answer(), seen.place(), packed >> 44)
         };
         let (ours, theirs) = (words(self), words(other));
         let memory = match (self.outside, self.tables != other.tables || self.out != other.out) {
@@ -171,7 +169,7 @@ fn written(length: usize, write: impl FnOnce(&mut [u8]) -> u64) -> Seen {
 pub fn of_library(input: &Input) -> Option<Seen> {
     Some(match input {
         Input::Check(t) => Seen::number(check(entries::check, &exactly(t))),
-        Input::CheckOlder(t) => Seen::number(check(check_older, &exactly(t))),
+        Input::CheckOlder(t) => Seen::number(check(entries::check_older, &exactly(t))),
         Input::Model(m) => Seen::number(check_model(m)),
         Input::ReadSchema { text, length, .. } => read_schema(text, *length),
         Input::ReadProof { text, lengths, .. } => read_proof(text, *lengths),
@@ -192,67 +190,11 @@ pub fn of_library(input: &Input) -> Option<Seen> {
             let text = if *named == Named::Schema { schema } else { proof };
             Seen { span: entries::line(&exact(text), *number), ..Seen::default() }
         }
-        Input::Texts { schema, proof } => Seen::number(check_texts(schema, proof)),
-        Input::TextsOlder { schema, proof } => Seen::number(check_texts_older(schema, proof)),
-        Input::CheckFault { schema, proof } => {
-            Seen { fault: entries::check_fault(&exact(schema), &exact(proof)), ..Seen::default() }
-        }
-        Input::CheckOlderFault { schema, proof } => {
-            Seen { fault: check_older_fault(&exact(schema), &exact(proof)), ..Seen::default() }
-        }
-        Input::ModelFault { schema, model } => {
-            Seen { fault: entries::model_fault(&exact(schema), &exact(model)), ..Seen::default() }
-        }
+        Input::Texts { schema, proof } => Seen::number(entries::check_texts(&exact(schema), &exact(proof))),
+        Input::TextsOlder { schema, proof } => Seen::number(entries::check_older_texts(&exact(schema), &exact(proof))),
+        Input::TextsModel { schema, model } => Seen::number(entries::check_model_texts(&exact(schema), &exact(model))),
         Input::LineNumbers { .. } | Input::Compare { .. } => return None,
     })
-}
-
-/// The check program over the library: the schema's text first, then the proof's, then the check.
-pub fn check_texts(schema: &[u8], proof: &[u8]) -> u64 {
-    check_texts_by(entries::check, schema, proof)
-}
-
-/// The same with the older check.
-pub fn check_texts_older(schema: &[u8], proof: &[u8]) -> u64 {
-    check_texts_by(check_older, schema, proof)
-}
-
-fn check_texts_by(entry: CheckEntry, schema: &[u8], proof: &[u8]) -> u64 {
-    let s = read_schema(schema, 4096);
-    if s.answer() != 0 {
-        return s.packed;
-    }
-    let p = read_proof(proof, [4096, 9216, 8192]);
-    if p.answer() != 0 {
-        return p.packed;
-    }
-    let count = |number: i32| number as usize;
-    entry(
-        &s.tables[0],
-        count(s.results[2]),
-        &p.tables[0],
-        count(p.results[0]),
-        s.results[0],
-        s.results[1],
-        &p.tables[1],
-        count(p.results[1]),
-        &p.tables[2],
-        count(p.results[2]),
-    )
-}
-
-/// The same with a model text and the model check.
-pub fn check_model_texts(schema: &[u8], model: &[u8]) -> u64 {
-    let s = read_schema(schema, 4096);
-    if s.answer() != 0 {
-        return s.packed;
-    }
-    let m = read_model(model, 8192);
-    if m.answer() != 0 {
-        return m.packed;
-    }
-    let (rows, pairs) = (s.results[2] as usize, m.results[1] as usize);
-    entries::check_model(&s.tables[0], rows, s.results[0], s.results[1], m.results[0], &m.tables[0], pairs)
 }
 
 /// ((answer × 8192 + place + 1) × 8192 + nodes) × 8192 + links
@@ -264,7 +206,7 @@ pub(crate) fn pack(answer: u8, place: i32, rest: usize) -> u64 {
 pub fn of_reference(input: &Input) -> Seen {
     let count = |count: usize| count as i32;
     match run(input) {
-        Outcome::Verdict { packed, .. } => Seen::number(packed as u64),
+        Outcome::Verdict { packed, .. } | Outcome::Judgement { packed, .. } => Seen::number(packed as u64),
         Outcome::SchemaRead { read, rows } => Seen {
             packed: pack(read.answer, read.place, 0),
             results: vec![read.root, read.least, count(read.rows)],
@@ -287,8 +229,6 @@ pub fn of_reference(input: &Input) -> Seen {
             Seen { packed: pack(written.answer, written.place, written.bytes), out, ..Seen::default() }
         }
         Outcome::Line { start, length } => Seen { span: [start, length], ..Seen::default() },
-        // Twice the line, and 1 more in the second text.
-        Outcome::Fault(fault) => Seen { fault: 2 * fault.line as u64 + u64::from(fault.second), ..Seen::default() },
         Outcome::LineNumbers { .. } | Outcome::Compared { .. } => Seen::default(),
     }
 }

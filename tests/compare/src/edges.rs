@@ -23,13 +23,13 @@ fn read(kind: Kind, text: &[u8], lengths: [usize; 3]) -> Input {
     }
 }
 
-/// The line at fault of a text beside the paper's other one.
-fn fault(kind: Kind, text: &[u8]) -> Input {
+/// A text checked beside the paper's other one.
+fn checked(kind: Kind, text: &[u8]) -> Input {
     let text = text.to_vec();
     match kind {
-        Kind::Schema => Input::CheckFault { schema: text, proof: PROOF.into() },
-        Kind::Proof => Input::CheckFault { schema: SCHEMA.into(), proof: text },
-        Kind::Model => Input::ModelFault { schema: SCHEMA.into(), model: text },
+        Kind::Schema => Input::Texts { schema: text, proof: PROOF.into() },
+        Kind::Proof => Input::Texts { schema: SCHEMA.into(), proof: text },
+        Kind::Model => Input::TextsModel { schema: SCHEMA.into(), model: text },
     }
 }
 
@@ -44,13 +44,13 @@ pub fn test(tally: &mut Tally) {
     for (kind, text) in [(Kind::Schema, SCHEMA), (Kind::Proof, PROOF), (Kind::Model, MODEL)] {
         for (number, text) in texts(text.as_bytes()).iter().enumerate() {
             tally.compare(&format!("text {number} of {}", text.len()), &read(kind, text, full(kind)));
-            tally.compare(&format!("line at fault, text {number} of {}", text.len()), &fault(kind, text));
+            tally.compare(&format!("checked, text {number} of {}", text.len()), &checked(kind, text));
         }
         lent_tables(tally, kind, text.as_bytes());
     }
     for (name, kind, text) in at_limits() {
         tally.compare(name, &read(kind, &text, full(kind)));
-        tally.compare(name, &fault(kind, &text));
+        tally.compare(name, &checked(kind, &text));
     }
     empty(tally);
     lines(tally);
@@ -73,8 +73,8 @@ fn empty(tally: &mut Tally) {
         Input::WriteProof { proof: t, length: 0, fill: 1 },
         Input::WriteModel { n: 0, pairs: Vec::new(), pair_count: 0, length: 0, fill: 1 },
         Input::Line { named: Named::Schema, schema: Vec::new(), proof: Vec::new(), number: 1 },
-        Input::CheckFault { schema: Vec::new(), proof: Vec::new() },
-        Input::ModelFault { schema: Vec::new(), model: Vec::new() },
+        Input::Texts { schema: Vec::new(), proof: Vec::new() },
+        Input::TextsModel { schema: Vec::new(), model: Vec::new() },
     ];
     for (number, input) in inputs.iter().enumerate() {
         tally.compare(&format!("entry {number}, every slice empty"), input);

@@ -1,8 +1,7 @@
 //! The paper's record, its neighbours and its models, with the answers that the paper gives.
 
-use crate::calls::{check_model_texts, check_texts, check_texts_older};
 use crate::tally::Tally;
-use zorambi::entries::{check_fault, check_older_fault};
+use zorambi::entries::{check_model_texts, check_older_texts, check_texts};
 use zorambi_generate::Input;
 use zorambi_reference::text::Named;
 
@@ -17,10 +16,10 @@ fn changed(text: &str, from: &str, to: &str) -> String {
     text.replace(from, to)
 }
 
-/// answer place nodes links, as the check program prints them.
+/// answer place nodes links, as the check programs print them.
 pub fn printed(packed: u64) -> String {
     let place = (packed >> 26 & 8191) as i64 - 1;
-    format!("{} {place} {} {}", packed >> 39, packed >> 13 & 8191, packed & 8191)
+    format!("{} {place} {} {}", packed >> 39 & 31, packed >> 13 & 8191, packed & 8191)
 }
 
 pub fn equal(found: &str, expected: &str) -> Result<(), String> {
@@ -70,9 +69,7 @@ pub fn test(tally: &mut Tally) {
     for (name, schema, proof, expected) in record {
         let found = printed(check_texts(schema.as_bytes(), proof.as_bytes()));
         tally.test(name, equal(&found, expected));
-        let (schema, proof) = (schema.into_bytes(), proof.into_bytes());
-        tally.compare(name, &Input::Texts { schema: schema.clone(), proof: proof.clone() });
-        tally.compare(&format!("{name}, line at fault"), &Input::CheckFault { schema, proof });
+        tally.compare(name, &Input::Texts { schema: schema.into_bytes(), proof: proof.into_bytes() });
     }
 
     rows_again(tally);
@@ -88,10 +85,7 @@ pub fn test(tally: &mut Tally) {
     for (name, schema, model, expected) in models {
         let found = printed(check_model_texts(schema.as_bytes(), model.as_bytes()));
         tally.test(name, equal(&found, expected));
-        tally.compare(
-            &format!("{name}, line at fault"),
-            &Input::ModelFault { schema: schema.into(), model: model.into() },
-        );
+        tally.compare(name, &Input::TextsModel { schema: schema.into(), model: model.into() });
     }
 
     for (named, text) in [(Named::Schema, SCHEMA), (Named::Proof, PROOF)] {
@@ -127,17 +121,18 @@ fn rows_again(tally: &mut Tally) {
     for (name, root, rows, present, older) in rows {
         let schema = changed(SCHEMA, "4 1\n", root).into_bytes();
         let proof = changed(PROOF, "3 0 1 0\n", &["3 0 1 0\n", rows].concat()).into_bytes();
-        tally.test(name, equal(&printed(check_texts(&schema, &proof)), present.0));
-        tally.test(&format!("{name}, older"), equal(&printed(check_texts_older(&schema, &proof)), older.0));
-        let line = |fault: u64| if fault & 1 == 1 { fault / 2 } else { fault };
-        let lines = [check_fault(&schema, &proof), check_older_fault(&schema, &proof)].map(line);
-        tally.test(&format!("{name}, lines"), equal(&format!("{lines:?}"), &format!("{:?}", [present.1, older.1])));
-        tally.compare(name, &Input::Texts { schema: schema.clone(), proof: proof.clone() });
-        tally.compare(&format!("{name}, line at fault"), &Input::CheckFault { schema, proof });
+        let said = [check_texts(&schema, &proof), check_older_texts(&schema, &proof)];
+        tally.test(name, equal(&printed(said[0]), present.0));
+        tally.test(&format!("{name}, older"), equal(&printed(said[1]), older.0));
+        // The proof's line, or none.
+        let faults = [present.1, older.1].map(|line| if line > 0 { 2 * line + 1 } else { 0 });
+        let found = said.map(|packed| packed >> 44);
+        tally.test(&format!("{name}, lines"), equal(&format!("{found:?}"), &format!("{faults:?}")));
+        tally.compare(name, &Input::Texts { schema, proof });
     }
     // Schema rows may be written twice.
     let proof = b"kind a b c\nup rule on with other to by set\n-1 5 0 -1 -1 -1 0 0\n";
     let schema = b"root least\n0 0\nkind a b c\n1 0 0 0\n0 0 0 0\n1 0 0 0\n1 0 0 0\n";
     tally.test("schema rows twice", equal(&printed(check_texts(schema, proof)), "0 0 1 0"));
-    tally.test("schema rows twice, older", equal(&printed(check_texts_older(schema, proof)), "0 0 1 0"));
+    tally.test("schema rows twice, older", equal(&printed(check_older_texts(schema, proof)), "0 0 1 0"));
 }

@@ -1,10 +1,10 @@
 //! Shipped records: both implementations, and what their `expected` files say.
 
-use crate::calls::{check_model_texts, check_texts, check_texts_older};
 use crate::paper::{equal, printed};
 use crate::tally::Tally;
 use std::fs;
 use std::path::{Path, PathBuf};
+use zorambi::entries::{check_model_texts, check_older_texts, check_texts};
 use zorambi_generate::models::ModelTables;
 use zorambi_generate::tables::Tables;
 use zorambi_generate::Input;
@@ -68,14 +68,13 @@ fn record(tally: &mut Tally, folder: &Path) {
     let (schema, proof, model) = (file("schema.txt"), file("proof.txt"), file("model.txt"));
     let expected = String::from_utf8(file("expected")).unwrap_or_default();
     // A record that is marked as older keeps the older check's verdict.
-    let check = if folder.join("older").is_file() { check_texts_older } else { check_texts };
+    let check = if folder.join("older").is_file() { check_older_texts } else { check_texts };
     tally.test(&name, equal(&printed(check(&schema, &proof)), expected.trim_end()));
 
     let t = tables(&schema, &proof);
     tally.compare(&name, &Input::Check(t.clone()));
     tally.compare(&name, &Input::Texts { schema: schema.clone(), proof: proof.clone() });
-    tally.compare(&name, &Input::CheckFault { schema: schema.clone(), proof: proof.clone() });
-    tally.compare(&name, &Input::ModelFault { schema: schema.clone(), model: model.clone() });
+    tally.compare(&name, &Input::TextsModel { schema: schema.clone(), model: model.clone() });
     tally.compare(&name, &Input::ReadSchema { text: schema.clone(), length: 4096, fill: 3 });
     tally.compare(&name, &Input::ReadProof { text: proof.clone(), lengths: [4096, 9216, 8192], fill: 3 });
     for length in [schema.len(), schema.len() - 1, 65_536] {

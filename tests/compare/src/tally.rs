@@ -62,8 +62,7 @@ fn group(input: &Input) -> Option<usize> {
         Input::Model(_) => Some(2),
         Input::ReadSchema { .. } | Input::ReadProof { .. } | Input::ReadModel { .. } => Some(3),
         Input::WriteSchema { .. } | Input::WriteProof { .. } | Input::WriteModel { .. } => Some(4),
-        Input::Texts { .. } | Input::TextsOlder { .. } => Some(5),
-        Input::CheckFault { .. } | Input::CheckOlderFault { .. } | Input::ModelFault { .. } => None,
+        Input::Texts { .. } | Input::TextsOlder { .. } | Input::TextsModel { .. } => Some(5),
         Input::Line { .. } | Input::LineNumbers { .. } | Input::Compare { .. } => None,
     }
 }

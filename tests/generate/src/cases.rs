@@ -17,7 +17,7 @@ use super::tables::{
 use super::texts::{damage_text, proof_text_of_length, random_text};
 use super::twice::twice_tables;
 use zorambi_reference::formula::{Formulas, Row, ON_I};
-use zorambi_reference::program::Fault;
+use zorambi_reference::program::Judgement;
 use zorambi_reference::text::{self, ModelRead, Named, ProofRead, SchemaRead, Written};
 use zorambi_reference::{model, packed, program, tableau, Verdict, MAX_TEXT};
 
@@ -135,18 +135,8 @@ pub enum Input {
         schema: Vec<u8>,
         proof: Vec<u8>,
     },
-    /// The line that the check program's refusal speaks of.
-    CheckFault {
-        schema: Vec<u8>,
-        proof: Vec<u8>,
-    },
-    /// The same with the older check.
-    CheckOlderFault {
-        schema: Vec<u8>,
-        proof: Vec<u8>,
-    },
-    /// The line that the model check program's refusal speaks of.
-    ModelFault {
+    /// The model check program.
+    TextsModel {
         schema: Vec<u8>,
         model: Vec<u8>,
     },
@@ -166,9 +156,6 @@ impl Input {
         match self {
             Input::Check(tables) => Some(Input::CheckOlder(tables.clone())),
             Input::Texts { schema, proof } => Some(Input::TextsOlder { schema: schema.clone(), proof: proof.clone() }),
-            Input::CheckFault { schema, proof } => {
-                Some(Input::CheckOlderFault { schema: schema.clone(), proof: proof.clone() })
-            }
             _ => None,
         }
     }
@@ -179,6 +166,11 @@ impl Input {
 pub enum Outcome {
     Verdict {
         verdict: Verdict,
+        packed: i64,
+    },
+    /// What is said of two texts.
+    Judgement {
+        judgement: Judgement,
         packed: i64,
     },
     SchemaRead {
@@ -204,7 +196,6 @@ pub enum Outcome {
         start: usize,
         length: usize,
     },
-    Fault(Fault),
     /// `None` where there is no such row, or the number passes `usize::MAX`.
     LineNumbers {
         row: Option<(Named, usize)>,
@@ -225,17 +216,22 @@ impl Outcome {
     pub fn answer(&self) -> u8 {
         match self {
             Outcome::Verdict { verdict, .. } => verdict.answer,
+            Outcome::Judgement { judgement, .. } => judgement.verdict.answer,
             Outcome::SchemaRead { read, .. } => read.answer,
             Outcome::ProofRead { read, .. } => read.answer,
             Outcome::ModelRead { read, .. } => read.answer,
             Outcome::Written { written, .. } => written.answer,
-            Outcome::Line { .. } | Outcome::Fault(_) | Outcome::LineNumbers { .. } | Outcome::Compared { .. } => 0,
+            Outcome::Line { .. } | Outcome::LineNumbers { .. } | Outcome::Compared { .. } => 0,
         }
     }
 }
 
 fn of_verdict(verdict: Verdict) -> Outcome {
     Outcome::Verdict { verdict, packed: packed::pack(verdict) }
+}
+
+fn of_judgement(judgement: Judgement) -> Outcome {
+    Outcome::Judgement { judgement, packed: packed::pack_texts(judgement) }
 }
 
 /// Runs this implementation on a case.
@@ -290,11 +286,9 @@ pub fn run(input: &Input) -> Outcome {
             row: text::row_line(*schema_count, *proof_count, *row),
             node: text::node_line(*proof_count, *node),
         },
-        Input::Texts { schema, proof } => of_verdict(program::check_texts(schema, proof)),
-        Input::TextsOlder { schema, proof } => of_verdict(program::check_texts_older(schema, proof)),
-        Input::CheckFault { schema, proof } => Outcome::Fault(program::check_fault(schema, proof)),
-        Input::CheckOlderFault { schema, proof } => Outcome::Fault(program::check_older_fault(schema, proof)),
-        Input::ModelFault { schema, model } => Outcome::Fault(program::model_fault(schema, model)),
+        Input::Texts { schema, proof } => of_judgement(program::check_texts(schema, proof)),
+        Input::TextsOlder { schema, proof } => of_judgement(program::check_older_texts(schema, proof)),
+        Input::TextsModel { schema, model } => of_judgement(program::check_model_texts(schema, model)),
         Input::Compare { rows, row_count, f, g, k } => {
             let Some(formulas) = Formulas::new(rows, *row_count, &[], 0) else {
                 return Outcome::Compared {
@@ -345,15 +339,11 @@ pub fn case(seed: u64, number: u64) -> Case {
         93 | 94 => ("write model", write_model_case(rng)),
         95 => ("line", line_case(rng)),
         96 if rng.chance(30) => ("line numbers", line_numbers_case(rng)),
-        96 => {
+        97 if rng.chance(40) => ("program, model", model_texts(rng)),
+        96 | 97 => {
             let (schema, proof) = record_texts(rng);
             ("program", Input::Texts { schema, proof })
         }
-        97 if rng.chance(60) => {
-            let (schema, proof) = record_texts(rng);
-            ("line at fault", Input::CheckFault { schema, proof })
-        }
-        97 => ("line at fault in a model", model_fault_case(rng)),
         98 | 99 => ("compare rows", compare_case(rng)),
         100..=103 => (EXACT_ANCESTOR, aimed(exact_tables(rng))),
         104..=109 => (SIDES, aimed(sides_tables(rng))),
@@ -1007,7 +997,7 @@ fn record_texts(rng: &mut Rng) -> (Vec<u8>, Vec<u8>) {
 }
 
 /// Both texts of a model, mostly whole.
-fn model_fault_case(rng: &mut Rng) -> Input {
+fn model_texts(rng: &mut Rng) -> Input {
     let m = if rng.chance(30) { found_model(rng) } else { damaged_model(rng) };
     let mut schema = written(|out| text::write_schema(m.root, m.least, &m.schema, m.schema_count, out));
     let mut model = written(|out| text::write_model(m.n, &m.pairs, m.pair_count, out));
@@ -1017,7 +1007,7 @@ fn model_fault_case(rng: &mut Rng) -> Input {
     if rng.chance(20) {
         model = damaged_text(rng, model);
     }
-    Input::ModelFault { schema, model }
+    Input::TextsModel { schema, model }
 }
 
 /// Two rows of one table, often one lowered or one the other's instance, or almost so.

@@ -136,9 +136,9 @@ fn answered(line: &str) -> String {
         }
         "model_rows_again" => call!(entries::model_rows_again, v: number numbers number out lent fixed),
         "line" => format!("0 {}", entries::line(&v.bytes(), v.number())[..].hashed()),
-        "check_fault" => call!(entries::check_fault, v: text text),
-        "check_older_fault" => call!(entries::check_older_fault, v: text text),
-        "model_fault" => call!(entries::model_fault, v: text text),
+        "check_texts" => call!(entries::check_texts, v: text text),
+        "check_older_texts" => call!(entries::check_older_texts, v: text text),
+        "check_model_texts" => call!(entries::check_model_texts, v: text text),
         "find_model" => call!(entries::find_model, v: numbers number number number number lent fixed),
         "convert" => call!(entries::convert, v: numbers number number number lent fixed),
         "next_small" => call!(entries::next_small, v: numbers number lent),

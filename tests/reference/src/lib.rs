@@ -14,7 +14,7 @@
 //! * [`join`]: one record for two (No. 11, "One record for either fault")
 //! * [`grow`]: a tableau that grows row by row (No. 7, "A tableau that grows on screen", and No. 8, "Enquiry and commit")
 //! * [`packed`]: the one number that provers get
-//! * [`program`]: the check program, from texts to the four numbers
+//! * [`program`]: the check programs, from texts to the four numbers and the line at fault
 //! * [`small`]: small schemata one after another (No. 14, "All small schemata")
 //!
 //! Every public function takes plain slices and counts with any values and does not panic.

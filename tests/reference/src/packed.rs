@@ -1,5 +1,7 @@
-//! The one number that provers get: ((answer × 8192 + place + 1) × 8192 + nodes) × 8192 + links.
+//! The one number that provers get: ((answer × 8192 + place + 1) × 8192 + nodes) × 8192 + links. Of two texts the line at fault
+//! stands above it: 2 × line, and 1 more in the second text, times 2^44.
 
+use crate::program::{Fault, Judgement};
 use crate::Verdict;
 
 const STEP: i64 = 8192;
@@ -12,6 +14,12 @@ pub fn pack(verdict: Verdict) -> i64 {
         .wrapping_add(verdict.nodes as i64)
         .wrapping_mul(STEP)
         .wrapping_add(verdict.links as i64)
+}
+
+/// The number for what is said of two texts.
+pub fn pack_texts(judgement: Judgement) -> i64 {
+    let Fault { second, line } = judgement.fault;
+    (2 * line as i64 + i64::from(second)) * (1 << 44) + pack(judgement.verdict)
 }
 
 /// The verdict that a number stands for, if the number is one that `pack` gives for a verdict with

@@ -1,4 +1,4 @@
-//! The check program, without its files: two texts in, the four numbers out, and the line that a refusal speaks of.
+//! The check programs, without their files: two texts in, the four numbers out, and the line that a refusal speaks of.
 
 use crate::tableau::Record;
 use crate::text::Named;
@@ -6,64 +6,11 @@ use crate::{
     model, tableau, text, Verdict, MAX_MEMBERS, MAX_NODES, MAX_PAIRS, MAX_ROWS, NODE_WIDTH, PAIR_WIDTH, ROW_WIDTH,
 };
 
-fn refused(answer: u8, place: i32) -> Verdict {
-    Verdict { answer, place, nodes: 0, links: 0 }
-}
-
-/// A check of tables, present or older.
-type Check = fn(&Record) -> Verdict;
-
-/// Reads the schema text, then the proof text, and checks. A text refused in reading gives its answer
-/// and place with counts 0, and nothing is checked.
-pub fn check_texts(schema_text: &[u8], proof_text: &[u8]) -> Verdict {
-    check_texts_by(tableau::check, schema_text, proof_text)
-}
-
-/// The same with the older check.
-pub fn check_texts_older(schema_text: &[u8], proof_text: &[u8]) -> Verdict {
-    check_texts_by(tableau::check_older, schema_text, proof_text)
-}
-
-fn check_texts_by(check: Check, schema_text: &[u8], proof_text: &[u8]) -> Verdict {
-    let mut schema = vec![0; MAX_ROWS * ROW_WIDTH];
-    let s = text::read_schema(schema_text, &mut schema);
-    if s.answer != 0 {
-        return refused(s.answer, s.place);
-    }
-    let mut proof = vec![0; MAX_ROWS * ROW_WIDTH];
-    let mut nodes = vec![0; MAX_NODES * NODE_WIDTH];
-    let mut members = vec![0; MAX_MEMBERS];
-    let p = text::read_proof(proof_text, &mut proof, &mut nodes, &mut members);
-    if p.answer != 0 {
-        return refused(p.answer, p.place);
-    }
-    check(&Record {
-        root: s.root,
-        least: s.least,
-        schema: &schema,
-        schema_count: s.rows,
-        proof: &proof,
-        proof_count: p.rows,
-        nodes: &nodes,
-        node_count: p.nodes,
-        members: &members,
-        member_count: p.members,
-    })
-}
-
-/// The same with a model text and the model check.
-pub fn check_model_texts(schema_text: &[u8], model_text: &[u8]) -> Verdict {
-    let mut schema = vec![0; MAX_ROWS * ROW_WIDTH];
-    let s = text::read_schema(schema_text, &mut schema);
-    if s.answer != 0 {
-        return refused(s.answer, s.place);
-    }
-    let mut pairs = vec![0; MAX_PAIRS * PAIR_WIDTH];
-    let m = text::read_model(model_text, &mut pairs);
-    if m.answer != 0 {
-        return refused(m.answer, m.place);
-    }
-    model::check_model(s.root, s.least, &schema, s.rows, m.n, &pairs, m.pairs)
+/// What is said of two texts.
+#[derive(Clone, Copy, Debug, PartialEq, Eq)]
+pub struct Judgement {
+    pub verdict: Verdict,
+    pub fault: Fault,
 }
 
 /// The line that a refusal speaks of, from 1, and whether it stands in the second text; line 0 is none.
@@ -80,45 +27,80 @@ impl Fault {
     }
 }
 
-/// The line of [`check_texts`]'s refusal. In reading its place is the line. A formula row and a node
-/// have the lines that the paper gives: "Schema row r is line 4 + r; with S schema and P proof rows,
-/// proof row r is line 2 + r - S and node j line 3 + P + j."
-pub fn check_fault(schema_text: &[u8], proof_text: &[u8]) -> Fault {
-    fault_of(check_texts(schema_text, proof_text), schema_text, proof_text)
+/// A text refused in reading gives its answer and place with counts 0, and nothing is checked. The place is the line.
+fn unread(answer: u8, place: i32, second: bool) -> Judgement {
+    let line = usize::try_from(place).unwrap_or(0);
+    Judgement { verdict: Verdict { answer, place, nodes: 0, links: 0 }, fault: Fault { second, line } }
 }
 
-/// The same of [`check_texts_older`]'s refusal.
-pub fn check_older_fault(schema_text: &[u8], proof_text: &[u8]) -> Fault {
-    fault_of(check_texts_older(schema_text, proof_text), schema_text, proof_text)
+/// A check of tables, present or older.
+type Check = fn(&Record) -> Verdict;
+
+/// Reads the schema text, then the proof text, and checks.
+pub fn check_texts(schema_text: &[u8], proof_text: &[u8]) -> Judgement {
+    check_by(tableau::check, schema_text, proof_text)
 }
 
-fn fault_of(Verdict { answer, place, .. }: Verdict, schema_text: &[u8], proof_text: &[u8]) -> Fault {
-    let place = usize::try_from(place).ok();
-    let s = text::read_schema(schema_text, &mut [0; MAX_ROWS * ROW_WIDTH]);
-    let mut tables = (vec![0; MAX_ROWS * ROW_WIDTH], vec![0; MAX_NODES * NODE_WIDTH], vec![0; MAX_MEMBERS]);
-    let p = text::read_proof(proof_text, &mut tables.0, &mut tables.1, &mut tables.2);
-    let line = match answer {
-        _ if s.answer != 0 => place.map(|line| (Named::Schema, line)),
-        _ if p.answer != 0 => place.map(|line| (Named::Proof, line)),
+/// The same with the older check.
+pub fn check_older_texts(schema_text: &[u8], proof_text: &[u8]) -> Judgement {
+    check_by(tableau::check_older, schema_text, proof_text)
+}
+
+fn check_by(check: Check, schema_text: &[u8], proof_text: &[u8]) -> Judgement {
+    let mut schema = vec![0; MAX_ROWS * ROW_WIDTH];
+    let s = text::read_schema(schema_text, &mut schema);
+    if s.answer != 0 {
+        return unread(s.answer, s.place, false);
+    }
+    let mut proof = vec![0; MAX_ROWS * ROW_WIDTH];
+    let mut nodes = vec![0; MAX_NODES * NODE_WIDTH];
+    let mut members = vec![0; MAX_MEMBERS];
+    let p = text::read_proof(proof_text, &mut proof, &mut nodes, &mut members);
+    if p.answer != 0 {
+        return unread(p.answer, p.place, true);
+    }
+    let verdict = check(&Record {
+        root: s.root,
+        least: s.least,
+        schema: &schema,
+        schema_count: s.rows,
+        proof: &proof,
+        proof_count: p.rows,
+        nodes: &nodes,
+        node_count: p.nodes,
+        members: &members,
+        member_count: p.members,
+    });
+    // A formula row and a node have the lines that the paper gives: "Schema row r is line 4 + r; with S schema and P proof
+    // rows, proof row r is line 2 + r - S and node j line 3 + P + j."
+    let place = usize::try_from(verdict.place).ok();
+    let line = match verdict.answer {
         7 | 8 | 27 => place.and_then(|row| text::row_line(s.rows, p.rows, row)),
         9..=17 => place.and_then(|node| Some((Named::Proof, text::node_line(p.rows, node)?))),
         _ => None,
     };
-    Fault::at(line)
+    Judgement { verdict, fault: Fault::at(line) }
 }
 
-/// The same of [`check_model_texts`]. A model's pairs come after three lines: "Model: `n`, one line,
+/// The same with a model text and the model check. A model's pairs come after three lines: "Model: `n`, one line,
 /// `symbol index`, rows."
-pub fn model_fault(schema_text: &[u8], model_text: &[u8]) -> Fault {
-    let Verdict { answer, place, .. } = check_model_texts(schema_text, model_text);
-    let place = usize::try_from(place).unwrap_or(0);
-    let s = text::read_schema(schema_text, &mut [0; MAX_ROWS * ROW_WIDTH]);
-    let m = text::read_model(model_text, &mut [0; MAX_PAIRS * PAIR_WIDTH]);
-    match answer {
-        _ if s.answer != 0 => Fault { second: false, line: place },
-        _ if m.answer != 0 => Fault { second: true, line: place },
+pub fn check_model_texts(schema_text: &[u8], model_text: &[u8]) -> Judgement {
+    let mut schema = vec![0; MAX_ROWS * ROW_WIDTH];
+    let s = text::read_schema(schema_text, &mut schema);
+    if s.answer != 0 {
+        return unread(s.answer, s.place, false);
+    }
+    let mut pairs = vec![0; MAX_PAIRS * PAIR_WIDTH];
+    let m = text::read_model(model_text, &mut pairs);
+    if m.answer != 0 {
+        return unread(m.answer, m.place, true);
+    }
+    let verdict = model::check_model(s.root, s.least, &schema, s.rows, m.n, &pairs, m.pairs);
+    let place = usize::try_from(verdict.place).unwrap_or(0);
+    let fault = match verdict.answer {
         7 | 8 => Fault::at(text::row_line(s.rows, 0, place)),
         18 => Fault { second: true, line: 3 + place + 1 },
         _ => Fault::default(),
-    }
+    };
+    Judgement { verdict, fault }
 }

@@ -6,10 +6,10 @@ use std::path::Path;
 use zorambi::files::{load, Loaded, Unread};
 use zorambi::words::{about, at, Known};
 use zorambi::{
-    check, check_fault, check_older, check_older_fault, hex, line, read_proof, read_schema, sha256, shown, tidy,
-    Record, Refused, Text, Verdict, MAX_TEXT,
+    check, check_older_texts, check_texts, hex, line, read_proof, read_schema, sha256, shown, tidy, Judgement, Record,
+    Refused, Text, Verdict, MAX_TEXT,
 };
-use zorambi_explain::{Sort as TextSort, Tables, Text as TextRead, Voice};
+use zorambi_explain::{Sort as TextSort, Text as TextRead, Voice};
 
 pub const SCHEMA: &str = "schema.txt";
 pub const PROOF: &str = "proof.txt";
@@ -62,34 +62,32 @@ impl Texts {
         (row, format!("{older}{}", judged.words()))
     }
 
-    /// Reads the schema's text, then the proof's, and checks the record.
+    /// Checks both texts, and finds the one that a refusal speaks of.
     fn judged(&self) -> Judged<'_> {
-        let schema = match read_schema(&self.schema.bytes) {
-            Ok(schema) => schema,
-            Err(refused) => return Judged::in_reading(refused, TextSort::Schema, &self.schema),
+        let check = if self.older { check_older_texts } else { check_texts };
+        let Judgement { verdict, fault } = check(&self.schema.bytes, &self.proof.bytes);
+        let Verdict::Refused { refusal, place } = verdict else {
+            let tidies = self.older && self.record().is_some_and(|record| tidies(&record));
+            return Judged { tidies, ..Judged::of(verdict) };
         };
-        let proof = match read_proof(&self.proof.bytes) {
-            Ok(proof) => proof,
-            Err(refused) => return Judged::in_reading(refused, TextSort::Proof, &self.proof),
-        };
-        let record = Record { schema, proof };
-        let verdict = if self.older { check_older(&record) } else { check(&record) };
-        let why = match verdict {
-            Verdict::Accepted { .. } => {
-                return Judged { tidies: self.older && tidies(&record), ..Judged::of(verdict) };
-            }
-            Verdict::Refused { refusal, place } => {
-                let why = zorambi_explain::check(&Tables::from(&record), Refused { refusal, place }, &Voice::default());
-                Some(why.line)
-            }
-        };
-        let fault = if self.older { check_older_fault } else { check_fault };
-        let (file, text, number) = match fault(&self.schema.bytes, &self.proof.bytes) {
-            None => return Judged { why, ..Judged::of(verdict) },
-            Some((Text::Schema, number)) => (SCHEMA, &self.schema.bytes, number),
-            Some((_, number)) => (PROOF, &self.proof.bytes, number),
-        };
-        Judged { file: Some(file), line: Some((number, line(text, number))), why, ..Judged::of(verdict) }
+        let named = [(TextSort::Schema, &self.schema), (TextSort::Proof, &self.proof)];
+        let read = named.map(|(sort, text)| TextRead::new(sort, text));
+        let why = zorambi_explain::texts(read, Refused { refusal, place }, &Voice::default());
+        let judged = Judged { why: Some(why.line), ..Judged::of(verdict) };
+        let at = fault.map(|(text, number)| (named[usize::from(text != Text::Schema)], number));
+        let too_long = named.into_iter().find(|(_, text)| text.bytes.len() > MAX_TEXT);
+        let Some((sort, text)) = at.map(|(of, _)| of).or(too_long) else { return judged };
+        let number = at.map(|(_, number)| number).filter(|_| text.unread.is_none());
+        Judged {
+            file: Some(sort.file()),
+            unread: text.unread.as_ref(),
+            line: number.map(|number| (number, line(&text.bytes, number))),
+            ..judged
+        }
+    }
+
+    fn record(&self) -> Option<Record> {
+        Some(Record { schema: read_schema(&self.schema.bytes).ok()?, proof: read_proof(&self.proof.bytes).ok()? })
     }
 }
 
@@ -123,19 +121,6 @@ struct Judged<'a> {
 impl<'a> Judged<'a> {
     fn of(verdict: Verdict) -> Judged<'a> {
         Judged { verdict, tidies: false, file: None, unread: None, line: None, why: None }
-    }
-
-    /// A text refused in reading: its place is a line, from 1 on.
-    fn in_reading(refused: Refused, sort: TextSort, text: &'a Loaded) -> Judged<'a> {
-        let why = zorambi_explain::text(&TextRead::new(sort, text), refused);
-        let number = refused.place.filter(|place| *place > 0 && text.unread.is_none());
-        Judged {
-            file: Some(sort.file()),
-            unread: text.unread.as_ref(),
-            line: number.map(|number| (number, line(&text.bytes, number))),
-            why: Some(why.line),
-            ..Judged::of(refused.into())
-        }
     }
 
     fn known(&self) -> Known<'_> {

@@ -10,7 +10,9 @@ fn sentence(name: &str) -> String {
     let folder = Path::new(env!("CARGO_MANIFEST_DIR")).join("../../records/refused").join(name);
     let text = |file: &str| fs::read(folder.join(file)).unwrap();
     let (schema, proof) = (text("schema.txt"), text("proof.txt"));
-    let Verdict::Refused { refusal, place } = check_texts(&schema, &proof) else { panic!("{name} is accepted") };
+    let Verdict::Refused { refusal, place } = check_texts(&schema, &proof).verdict else {
+        panic!("{name} is accepted")
+    };
     let record = Record { schema: read_schema(&schema).unwrap(), proof: read_proof(&proof).unwrap() };
     let why = check(&Tables::from(&record), Refused { refusal, place }, &Voice::default());
     assert!(why.found && !why.mend.is_empty());

@@ -2,7 +2,7 @@
 
 use crate::subject::Texts;
 use zorambi::words::{told, Known};
-use zorambi::{check_fault, check_older_fault, line, shown, Refused, Text, MAX_TEXT};
+use zorambi::{line, shown, Refused, Text, MAX_TEXT};
 use zorambi_explain::{texts as explain, Sort, Text as Read, Voice};
 use zorambi_show::{Names, Style};
 
@@ -22,12 +22,10 @@ pub struct Explained {
     pub line: Option<String>,
 }
 
-/// What is said of a refusal of these texts, with these names of symbols.
-pub fn explained(refused: Refused, texts: &Texts, names: &Names) -> Explained {
+/// What is said of a refusal of these texts and of the line that it points to, with these names of symbols.
+pub fn explained(refused: Refused, fault: Option<(Text, usize)>, texts: &Texts, names: &Names) -> Explained {
     let named = [(Sort::Schema, &texts.schema), (Sort::Proof, &texts.proof)];
-    let fault = if texts.older { check_older_fault } else { check_fault };
-    let at = fault(&texts.schema.bytes, &texts.proof.bytes)
-        .map(|(text, number)| (named[usize::from(text != Text::Schema)], number));
+    let at = fault.map(|(text, number)| (named[usize::from(text != Text::Schema)], number));
     let too_long = named.into_iter().find(|(_, text)| text.bytes.len() > MAX_TEXT);
     let of = at.map(|(of, _)| of).or(too_long);
     let unread = of.and_then(|(_, text)| text.unread.as_ref());

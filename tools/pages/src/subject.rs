@@ -3,7 +3,10 @@
 use crate::explained::{explained, Explained};
 use std::path::Path;
 use zorambi::files::{load, Loaded};
-use zorambi::{check, check_older, read_proof, read_schema, shown_name, Proof, Record, Refused, Schema, Verdict};
+use zorambi::{
+    check, check_older_texts, check_texts, read_proof, read_schema, shown_name, Judgement, Proof, Record, Refused,
+    Verdict,
+};
 use zorambi_show::{read_names, Names};
 
 /// The texts of a record's folder.
@@ -50,14 +53,15 @@ impl Subject {
     pub fn of_texts(name: &str, texts: &Texts) -> Subject {
         let (schema, proof) = (read_schema(&texts.schema.bytes), read_proof(&texts.proof.bytes));
         let (names, notes) = read_names(&texts.names);
-        let verdict = judged(&schema, &proof, texts.older);
+        let check = if texts.older { check_older_texts } else { check_texts };
+        let Judgement { verdict, fault } = check(&texts.schema.bytes, &texts.proof.bytes);
         let is_whole = schema.is_ok() && proof.is_ok();
         // Without its schema a proof says nothing.
         let proof = schema.as_ref().map_or_else(|_| Proof::default(), |_| proof.unwrap_or_default());
         let record = Record { schema: schema.unwrap_or_default(), proof };
         let explained = match verdict {
             Verdict::Accepted { .. } => None,
-            Verdict::Refused { refusal, place } => Some(explained(Refused { refusal, place }, texts, &names)),
+            Verdict::Refused { refusal, place } => Some(explained(Refused { refusal, place }, fault, texts, &names)),
         };
         Subject { name: name.to_string(), record, is_whole, verdict, explained, names, notes, standing: None }
     }
@@ -79,20 +83,5 @@ impl Subject {
     pub fn words(&self) -> String {
         let told = self.explained.as_ref().map(|explained| &explained.words).or(self.standing.as_ref());
         told.cloned().unwrap_or_else(|| self.verdict.to_string())
-    }
-}
-
-/// A text refused in reading gives its refusal, the schema's first, and nothing is checked.
-fn judged(schema: &Result<Schema, Refused>, proof: &Result<Proof, Refused>, older: bool) -> Verdict {
-    match (schema, proof) {
-        (Err(refused), _) | (_, Err(refused)) => Verdict::from(*refused),
-        (Ok(schema), Ok(proof)) => {
-            let record = Record { schema: schema.clone(), proof: proof.clone() };
-            if older {
-                check_older(&record)
-            } else {
-                check(&record)
-            }
-        }
     }
 }

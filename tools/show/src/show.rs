@@ -8,9 +8,8 @@ use std::path::Path;
 use zorambi::files::{load, Loaded, Unread};
 use zorambi::words::{about, because, counted, told, Known};
 use zorambi::{
-    check_fault, check_model_texts, check_older_fault, check_older_texts, check_texts, convert, line, model_fault,
-    read_model, read_proof, read_schema, shown, Growing, Model, Proof, Record, Refusal, Refused, Row, Schema, Text,
-    Verdict, MAX_TEXT,
+    check_model_texts, check_older_texts, check_texts, convert, line, read_model, read_proof, read_schema, shown,
+    Growing, Judgement, Model, Proof, Record, Refusal, Refused, Row, Schema, Text, Verdict, MAX_TEXT,
 };
 use zorambi_explain::{Sort, Tables, Voice, Why};
 use zorambi_notation::bounds::{self, Bound};
@@ -247,7 +246,8 @@ impl<'a> Showing<'a> {
     }
 
     fn record(&mut self, record: &Record) {
-        let (verdict, fault) = self.judged();
+        let check = if self.options.is_older { check_older_texts } else { check_texts };
+        let Judgement { verdict, fault } = check(&self.texts.schema.bytes, &self.texts.proof.bytes);
         let refused = match verdict {
             Verdict::Refused { refusal, place } => Some(Refused { refusal, place }),
             Verdict::Accepted { .. } => None,
@@ -273,14 +273,6 @@ impl<'a> Showing<'a> {
                 let why = zorambi_explain::check(&Tables::from(record), refused, &self.voice());
                 self.refused(refused, of, number, &why);
             }
-        }
-    }
-
-    fn judged(&self) -> (Verdict, Option<(Text, usize)>) {
-        let [schema, proof] = [&self.texts.schema, &self.texts.proof].map(|text| &text.bytes[..]);
-        match self.options.is_older {
-            true => (check_older_texts(schema, proof), check_older_fault(schema, proof)),
-            false => (check_texts(schema, proof), check_fault(schema, proof)),
         }
     }
 
@@ -326,7 +318,7 @@ impl<'a> Showing<'a> {
         }
         self.sheet.line(if model.pairs.is_empty() { "  every pair is false" } else { "  every other pair is false" });
         let Ok(schema) = read_schema(&texts.schema.bytes) else { return };
-        let verdict = check_model_texts(&texts.schema.bytes, &texts.model.bytes);
+        let Judgement { verdict, fault } = check_model_texts(&texts.schema.bytes, &texts.model.bytes);
         match verdict {
             Verdict::Accepted { .. } => {
                 self.values(&schema, &model);
@@ -336,18 +328,14 @@ impl<'a> Showing<'a> {
                 if refusal == Refusal::False {
                     self.values(&schema, &model);
                 }
-                self.refused_model(Refused { refusal, place }, &schema, &model);
+                self.sheet.gap();
+                let refused = Refused { refusal, place };
+                let pairs = (model.pairs.as_flattened(), model.pairs.len());
+                let why = zorambi_explain::model(&(&schema).into(), model.n, pairs, refused, &self.voice());
+                let (of, number) = fault.map_or((None, 0), |(text, number)| (Some(self.text(text)), number));
+                self.refused(refused, of, number, &why);
             }
         }
-    }
-
-    fn refused_model(&mut self, refused: Refused, schema: &Schema, model: &Model) {
-        self.sheet.gap();
-        let pairs = (model.pairs.as_flattened(), model.pairs.len());
-        let why = zorambi_explain::model(&schema.into(), model.n, pairs, refused, &self.voice());
-        let fault = model_fault(&self.texts.schema.bytes, &self.texts.model.bytes);
-        let (of, number) = fault.map_or((None, 0), |(text, number)| (Some(self.text(text)), number));
-        self.refused(refused, of, number, &why);
     }
 
     /// Each iteration that the root reaches, and what it comes to.

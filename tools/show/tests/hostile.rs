@@ -72,7 +72,7 @@ fn is_shown_right(schema: &[u8], proof: &[u8], rng: &mut Rng) {
     let (mut nodes, marked) = drawn(&text);
     nodes.sort_unstable();
     assert_eq!(nodes, (0..read.nodes.len()).collect::<Vec<_>>(), "{text}");
-    match check_texts(schema, proof) {
+    match check_texts(schema, proof).verdict {
         Verdict::Accepted { nodes, links } => {
             let said = Verdict::Accepted { nodes, links }.to_string();
             assert!(text.lines().any(|line| line == said) && marked.is_none() && !text.contains('▲'), "{text}");
@@ -112,11 +112,11 @@ fn generated_records() {
                 Some(texts) => texts,
                 None => continue,
             },
-            Input::Texts { schema, proof } | Input::CheckFault { schema, proof } => [schema, proof],
+            Input::Texts { schema, proof } => [schema, proof],
             _ => continue,
         };
         is_shown_right(&schema, &proof, &mut rng);
-        let answer = match check_texts(&schema, &proof) {
+        let answer = match check_texts(&schema, &proof).verdict {
             Verdict::Accepted { .. } => 0,
             Verdict::Refused { refusal, .. } => refusal.number(),
         };
@@ -161,7 +161,7 @@ fn damaged_models_and_wide_schemata() {
                 damage_text(&mut texts[rng.below(2)], &mut rng);
                 let text = is_shown(&[(name, &texts[0]), (other, &texts[1])], &mut rng);
                 if name == "model.txt" && read_schema(&texts[1]).is_ok() {
-                    let is_accepted = check_model_texts(&texts[1], &texts[0]).is_accepted();
+                    let is_accepted = check_model_texts(&texts[1], &texts[0]).verdict.is_accepted();
                     assert_eq!(text.contains("\naccepted: the schema is true"), is_accepted, "{text}");
                 }
             }
@@ -274,7 +274,7 @@ fn bounds_of_generated_tableaux() {
         let Input::Check(tables) = case(41, number).input else { continue };
         let Some([schema, proof]) = texts_of(&tables) else { continue };
         // From 11 on all parents and sets are right.
-        let has_parents = match check_texts(&schema, &proof) {
+        let has_parents = match check_texts(&schema, &proof).verdict {
             Verdict::Accepted { .. } => true,
             Verdict::Refused { refusal, .. } => (11..=17).contains(&refusal.number()),
         };

@@ -7,8 +7,8 @@ use std::path::Path;
 use zorambi::files::{enter, load, Loaded};
 use zorambi::words::because;
 use zorambi::{
-    check_fault, check_model_texts, check_older_fault, check_older_texts, check_texts, line, model_fault, read_schema,
-    Record, Refused, Text, Verdict, MAX_TEXT,
+    check_model_texts, check_older_texts, check_texts, line, read_schema, Judgement, Record, Refused, Text, Verdict,
+    MAX_TEXT,
 };
 use zorambi_commands::Given;
 use zorambi_explain::{Sort, Tables, Text as TextRead, Voice, Why};
@@ -67,11 +67,12 @@ fn two_texts(folder: &Path, what: &What, voice: &Voice) -> Ended {
     let sorts = [Sort::Schema, what.sort];
     let texts = sorts.map(|sort| load(folder, sort.file(), what.follow));
     let [schema, second] = [&texts[0].bytes[..], &texts[1].bytes];
-    let (verdict, fault) = match (what.sort, what.older) {
-        (Sort::Model, _) => (check_model_texts(schema, second), model_fault(schema, second)),
-        (_, true) => (check_older_texts(schema, second), check_older_fault(schema, second)),
-        (_, false) => (check_texts(schema, second), check_fault(schema, second)),
+    let check = match (what.sort, what.older) {
+        (Sort::Model, _) => check_model_texts,
+        (_, true) => check_older_texts,
+        (_, false) => check_texts,
     };
+    let Judgement { verdict, fault } = check(schema, second);
     let Verdict::Refused { refusal, place } = verdict else { return accepted(&verdict.to_string()) };
     let refused = Refused { refusal, place };
     let given = [0, 1].map(|at| read(folder, sorts[at], &texts[at]));

@@ -10,7 +10,7 @@ use std::os::unix::ffi::OsStrExt;
 use std::path::Path;
 use zorambi::words::{counted, told, Known};
 use zorambi::{
-    check_fault, read_proof, shown, write_proof, Growing, Node, Proof, Record, Refused, Row, Standing, MAX_TEXT,
+    check_texts, read_proof, shown, write_proof, Growing, Node, Proof, Record, Refused, Row, Standing, MAX_TEXT,
 };
 use zorambi_explain::{Sort, Tables, Voice, Why, CHILDREN};
 
@@ -73,7 +73,8 @@ impl Held {
         let row_count = proof.rows.len();
         let mut growing = Growing::begin(schema, proof.rows.clone()).map_err(|refused| {
             let why = zorambi_explain::check(&Tables::from(&record), refused, &voice);
-            Text::refused_by(check_fault, &texts, refused, Some(why))
+            let fault = check_texts(texts[0].bytes(), texts[1].bytes()).fault;
+            Text::refused_at_fault(fault, &texts, refused, Some(why))
         })?;
         for (number, node) in proof.nodes.iter().enumerate() {
             let (row, set) = row_of(node, &proof.members);

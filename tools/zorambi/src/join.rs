@@ -5,7 +5,7 @@ use crate::out::Out;
 use crate::texts::Text;
 use std::ffi::OsString;
 use zorambi::words::Known;
-use zorambi::{check_fault, write_proof, write_schema, Record, Refused, Verdict, MAX_TEXT};
+use zorambi::{check_texts, write_proof, write_schema, Judgement, Record, Refused, Verdict, MAX_TEXT};
 use zorambi_commands::Given;
 use zorambi_explain::{Sort, Tables, Voice, Why};
 
@@ -36,12 +36,13 @@ fn accepted(which: &str, folder: &OsString, follow: bool) -> Result<Record, Stop
     let texts = [Text::of(folder, Sort::Schema, follow)?, Text::of(folder, Sort::Proof, follow)?];
     let checked = || {
         let record = Text::record(&texts)?;
-        match zorambi::check(&record) {
+        let Judgement { verdict, fault } = check_texts(texts[0].bytes(), texts[1].bytes());
+        match verdict {
             Verdict::Accepted { .. } => Ok(record),
             Verdict::Refused { refusal, place } => {
                 let refused = Refused { refusal, place };
                 let why = zorambi_explain::check(&Tables::from(&record), refused, &Voice::default());
-                Err(Text::refused_by(check_fault, &texts, refused, Some(why)))
+                Err(Text::refused_at_fault(fault, &texts, refused, Some(why)))
             }
         }
     };

@@ -8,8 +8,8 @@ use zorambi::words::Known;
 use zorambi::{read_proof, read_schema, shown_name, Proof, Record, Refused, Schema};
 use zorambi_explain::{Sort, Voice, Why};
 
-/// The text and the line that a refusal of a schema text and a proof text points to.
-pub type Fault = fn(&[u8], &[u8]) -> Option<(zorambi::Text, usize)>;
+/// The text and the line that a refusal points to.
+type Fault = Option<(zorambi::Text, usize)>;
 
 /// A text, and its name as it is told; where there are several folders the name of its own is told too.
 pub struct Text {
@@ -66,8 +66,8 @@ impl Text {
     }
 
     /// A refusal of a record, at the line of its schema or its proof that the library points to.
-    pub fn refused_by(fault: Fault, [schema, proof]: &[Text; 2], refused: Refused, why: Option<Why>) -> Stop {
-        match fault(&schema.text.bytes, &proof.text.bytes) {
+    pub fn refused_at_fault(fault: Fault, [schema, proof]: &[Text; 2], refused: Refused, why: Option<Why>) -> Stop {
+        match fault {
             None => schema.refused(refused, 0, why),
             Some((zorambi::Text::Schema, line)) => schema.refused(refused, line, why),
             Some((_, line)) => proof.refused(refused, line, why),

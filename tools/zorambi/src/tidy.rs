@@ -5,7 +5,7 @@ use crate::end::{Ended, Stop};
 use crate::out::Out;
 use crate::texts::Text;
 use zorambi::words::Known;
-use zorambi::{check_older_fault, write_proof};
+use zorambi::{check_older_texts, write_proof};
 use zorambi_commands::Given;
 use zorambi_explain::{Sort, Tables, Voice};
 
@@ -18,7 +18,8 @@ pub fn tidy(given: &Given) -> Result<Ended, Stop> {
         let record = Text::record(&texts)?;
         let tidied = zorambi::tidy(&record).map_err(|refused| {
             let why = zorambi_explain::check(&Tables::from(&record), refused, &Voice::default());
-            Text::refused_by(check_older_fault, &texts, refused, Some(why))
+            let fault = check_older_texts(texts[0].bytes(), texts[1].bytes()).fault;
+            Text::refused_at_fault(fault, &texts, refused, Some(why))
         })?;
         write_proof(&tidied).map_err(|refused| Stop::refused(refused, &Known::default(), None, None))
     };

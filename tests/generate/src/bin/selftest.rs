@@ -15,7 +15,7 @@ use zorambi_generate::{across, ranges, twice};
 use zorambi_generate::{case, run, Case, Input, Outcome, Rng};
 use zorambi_reference::formula::{self, Formulas};
 use zorambi_reference::formula::{AND, BIG_AND, BIG_OR, FALSE, LITERAL, NEGATED, ON_I, ON_N, OR, PLAIN, TRUE};
-use zorambi_reference::program::Fault;
+use zorambi_reference::program::{Fault, Judgement};
 use zorambi_reference::tableau::{self, Record};
 use zorambi_reference::text::{self, Named};
 use zorambi_reference::{model, packed, program, Verdict};
@@ -76,17 +76,17 @@ fn main() {
 // The paper's record
 
 fn check_texts(schema: &[u8], proof: &[u8]) -> (u8, i32, usize, usize) {
-    let verdict = program::check_texts(schema, proof);
+    let verdict = program::check_texts(schema, proof).verdict;
     (verdict.answer, verdict.place, verdict.nodes, verdict.links)
 }
 
-fn check_texts_older(schema: &[u8], proof: &[u8]) -> (u8, i32, usize, usize) {
-    let verdict = program::check_texts_older(schema, proof);
+fn check_older_texts(schema: &[u8], proof: &[u8]) -> (u8, i32, usize, usize) {
+    let verdict = program::check_older_texts(schema, proof).verdict;
     (verdict.answer, verdict.place, verdict.nodes, verdict.links)
 }
 
 fn check_model_texts(schema: &[u8], model: &[u8]) -> (u8, i32) {
-    let verdict = program::check_model_texts(schema, model);
+    let verdict = program::check_model_texts(schema, model).verdict;
     (verdict.answer, verdict.place)
 }
 
@@ -204,14 +204,14 @@ fn rows_again(tally: &mut Tally) {
         let proof = changed(PROOF, "3 0 1 0\n", &format!("3 0 1 0\n{rows}"));
         let texts = [SCHEMA.as_bytes(), proof.as_bytes()];
         tally.equal(name, check_texts(texts[0], texts[1]), present);
-        tally.equal(&format!("{name}, older"), check_texts_older(texts[0], texts[1]), older);
-        let fault = program::check_fault(texts[0], texts[1]);
+        tally.equal(&format!("{name}, older"), check_older_texts(texts[0], texts[1]), older);
+        let fault = program::check_texts(texts[0], texts[1]).fault;
         tally.equal(&format!("{name}, line at fault"), fault, Fault { second: line > 0, line });
         // A root that is not outer comes after all rows.
         let schema = changed(SCHEMA, "4 1\n", "0 1\n");
         let or_root = |answer: (u8, i32, usize, usize)| if answer == accepted { refused(6, -1) } else { answer };
         tally.equal(&format!("{name}, root 0"), check_texts(schema.as_bytes(), texts[1]), or_root(present));
-        let found = check_texts_older(schema.as_bytes(), texts[1]);
+        let found = check_older_texts(schema.as_bytes(), texts[1]);
         tally.equal(&format!("{name}, root 0, older"), found, or_root(older));
         // A root that is no schema row comes before all rows.
         let schema = changed(SCHEMA, "4 1\n", "5 1\n");
@@ -229,7 +229,7 @@ fn rows_again(tally: &mut Tally) {
         let schema = format!("root least\n0 0\nkind a b c\n{schema}");
         let proof = format!("kind a b c\n{proof}{node}");
         tally.equal(name, check_texts(schema.as_bytes(), proof.as_bytes()), present);
-        let older = check_texts_older(schema.as_bytes(), proof.as_bytes());
+        let older = check_older_texts(schema.as_bytes(), proof.as_bytes());
         tally.equal(&format!("{name}, older"), older, (0, 0, 1, 0));
     }
 }
@@ -387,7 +387,7 @@ fn outside_records(tally: &mut Tally, folder: &Path) {
             let name = record.display().to_string();
             let (schema, proof) = (file("schema.txt"), file("proof.txt"));
             let older = record.join("older").is_file();
-            let check = if older { check_texts_older } else { check_texts };
+            let check = if older { check_older_texts } else { check_texts };
             let (answer, place, nodes, links) = check(&schema, &proof);
             let expected = String::from_utf8_lossy(&file("expected")).trim_end().to_string();
             tally.equal(&name, format!("{answer} {place} {nodes} {links}"), expected);
@@ -690,7 +690,11 @@ fn consistent(input: &Input, outcome: &Outcome, rng: &mut Rng) -> Result<(), Str
             let before: usize = lines[..number - 1].iter().map(|line| line.len() + 1).sum();
             ensure((*start, *length) == (before, lines[number - 1].len()), "another line")
         }
-        (Input::Texts { schema, proof } | Input::TextsOlder { schema, proof }, Outcome::Verdict { verdict, .. }) => {
+        (
+            Input::Texts { schema, proof } | Input::TextsOlder { schema, proof },
+            Outcome::Judgement { judgement, packed },
+        ) => {
+            judgement_consistent(*judgement, *packed, [schema, proof])?;
             // The same by its parts, with longer tables.
             let rows = run(&Input::ReadSchema { text: schema.clone(), length: 5000, fill: 1 });
             let tables = run(&Input::ReadProof { text: proof.clone(), lengths: [5000, 10_000, 9000], fill: -1 });
@@ -718,19 +722,10 @@ fn consistent(input: &Input, outcome: &Outcome, rng: &mut Rng) -> Result<(), Str
                     member_count: p.members,
                 })
             };
-            ensure(*verdict == expected, "another answer by its parts")
+            ensure(judgement.verdict == expected, "another answer by its parts")
         }
-        (Input::CheckFault { schema, proof }, Outcome::Fault(fault)) => {
-            let Verdict { answer, place, .. } = program::check_texts(schema, proof);
-            pointed(answer, place, [schema, proof], *fault)
-        }
-        (Input::CheckOlderFault { schema, proof }, Outcome::Fault(fault)) => {
-            let Verdict { answer, place, .. } = program::check_texts_older(schema, proof);
-            pointed(answer, place, [schema, proof], *fault)
-        }
-        (Input::ModelFault { schema, model }, Outcome::Fault(fault)) => {
-            let Verdict { answer, place, .. } = program::check_model_texts(schema, model);
-            pointed(answer, place, [schema, model], *fault)
+        (Input::TextsModel { schema, model }, Outcome::Judgement { judgement, packed }) => {
+            judgement_consistent(*judgement, *packed, [schema, model])
         }
         (
             Input::LineNumbers { schema_count, proof_count, row, node },
@@ -861,6 +856,15 @@ fn verdict_consistent(verdict: Verdict, number: i64) -> Result<(), String> {
     ensure(nodes == 0 && links == 0, "counts of a refusal")?;
     let without_place = matches!(answer, 2 | 5 | 6 | 19 | 20) || (answer == 10 && place == -1);
     ensure(without_place == (place == -1), "place of a refusal")
+}
+
+/// What is said of two texts, and its number.
+fn judgement_consistent(judgement: Judgement, number: i64, texts: [&[u8]; 2]) -> Result<(), String> {
+    let Judgement { verdict, fault } = judgement;
+    ensure(packed::unpack(number % (1 << 44)) == Some(verdict), "packed otherwise")?;
+    let (pointed_to, second) = ((number >> 45) as usize, number >> 44 & 1 == 1);
+    ensure((pointed_to, second) == (fault.line, fault.second), "the line packed otherwise")?;
+    pointed(verdict.answer, verdict.place, texts, fault)
 }
 
 /// The line at fault, found by going through the lines from a text's last heading on.

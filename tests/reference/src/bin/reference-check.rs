@@ -10,11 +10,12 @@ fn main() {
         std::fs::read(path).unwrap_or_default()
     };
     let schema = contents(0, "schema.txt");
-    let verdict = if arguments.get(1).is_some_and(|word| word == "--model") {
+    let judgement = if arguments.get(1).is_some_and(|word| word == "--model") {
         check_model_texts(&schema, &contents(2, "model.txt"))
     } else {
         check_texts(&schema, &contents(1, "proof.txt"))
     };
     println!("answer place nodes links");
+    let verdict = judgement.verdict;
     println!("{} {} {} {}", verdict.answer, verdict.place, verdict.nodes, verdict.links);
 }
