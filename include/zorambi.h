@@ -71,30 +71,6 @@ uint64_t zorambi_write_proof(const int32_t *table, size_t table_len, size_t rows
 uint64_t zorambi_write_model(int32_t n, const int32_t *pairs, size_t pairs_len, size_t pair_rows,
                              uint8_t *out, size_t out_len);
 
-/* A text read into the lent tables and written again into the lent output, which then holds that very text. The number is as
- * from writing; a refusal in reading has its line as the place. After a refusal in either step tables and output are all 0. */
-uint64_t zorambi_schema_again(const uint8_t *text, size_t text_len, int32_t *table, size_t table_len,
-                              uint8_t *out, size_t out_len);
-uint64_t zorambi_proof_again(const uint8_t *text, size_t text_len, int32_t *table, size_t table_len,
-                             int32_t *nodes, size_t nodes_len, int32_t *members, size_t members_len,
-                             uint8_t *out, size_t out_len);
-uint64_t zorambi_model_again(const uint8_t *text, size_t text_len, int32_t *pairs, size_t pairs_len,
-                             uint8_t *out, size_t out_len);
-
-/* Rows written into the lent output and read again into the lent tables, which then hold those very rows. The number and the
- * results are as from reading; a refusal in writing has place -1. After a refusal in either step output, tables and results
- * are all 0. */
-uint64_t zorambi_schema_rows_again(const int32_t *table, size_t table_len, size_t rows, int32_t root, int32_t least,
-                                   uint8_t *out, size_t out_len, int32_t *back, size_t back_len, int32_t results[3]);
-uint64_t zorambi_proof_rows_again(const int32_t *table, size_t table_len, size_t rows,
-                                  const int32_t *nodes, size_t nodes_len, size_t node_rows,
-                                  const int32_t *members, size_t members_len, size_t member_count,
-                                  uint8_t *out, size_t out_len, int32_t *back_table, size_t back_table_len,
-                                  int32_t *back_nodes, size_t back_nodes_len,
-                                  int32_t *back_members, size_t back_members_len, int32_t results[3]);
-uint64_t zorambi_model_rows_again(int32_t n, const int32_t *pairs, size_t pairs_len, size_t pair_rows,
-                                  uint8_t *out, size_t out_len, int32_t *back, size_t back_len, int32_t results[2]);
-
 /* Line k of a text, counted from 1: its start in the text, and its length without its byte 10. Both are 0 if there is no such
  * line; line 0 and an unfinished last line count as none. */
 void zorambi_line(const uint8_t *text, size_t text_len, size_t k, size_t span[2]);
@@ -376,49 +352,6 @@ static inline uint64_t zorambi_c_write_model(int32_t n, const int32_t *pairs, si
   return zorambi_write_model(n, zorambi_numbers_of(pairs, pairs_len), pairs_len, pair_rows, zorambi_lent_bytes(out, out_len),
                              out_len);
 }
-static inline uint64_t zorambi_c_schema_again(const uint8_t *text, size_t text_len, int32_t *table, size_t table_len,
-                                              uint8_t *out, size_t out_len) {
-  return zorambi_schema_again(zorambi_text_of(text, text_len), text_len, zorambi_lent_numbers(table, table_len), table_len,
-                              zorambi_lent_bytes(out, out_len), out_len);
-}
-static inline uint64_t zorambi_c_proof_again(const uint8_t *text, size_t text_len, int32_t *table, size_t table_len,
-                                             int32_t *nodes, size_t nodes_len, int32_t *members, size_t members_len,
-                                             uint8_t *out, size_t out_len) {
-  return zorambi_proof_again(zorambi_text_of(text, text_len), text_len, zorambi_lent_numbers(table, table_len), table_len,
-                             zorambi_lent_numbers(nodes, nodes_len), nodes_len, zorambi_lent_numbers(members, members_len),
-                             members_len, zorambi_lent_bytes(out, out_len), out_len);
-}
-static inline uint64_t zorambi_c_model_again(const uint8_t *text, size_t text_len, int32_t *pairs, size_t pairs_len,
-                                             uint8_t *out, size_t out_len) {
-  return zorambi_model_again(zorambi_text_of(text, text_len), text_len, zorambi_lent_numbers(pairs, pairs_len), pairs_len,
-                             zorambi_lent_bytes(out, out_len), out_len);
-}
-static inline uint64_t zorambi_c_schema_rows_again(const int32_t *table, size_t table_len, size_t rows, int32_t root,
-                                                   int32_t least, uint8_t *out, size_t out_len, int32_t *back, size_t back_len,
-                                                   int32_t results[3]) {
-  return zorambi_schema_rows_again(zorambi_numbers_of(table, table_len), table_len, rows, root, least,
-                                   zorambi_lent_bytes(out, out_len), out_len, zorambi_lent_numbers(back, back_len), back_len,
-                                   results);
-}
-static inline uint64_t zorambi_c_proof_rows_again(const int32_t *table, size_t table_len, size_t rows, const int32_t *nodes,
-                                                  size_t nodes_len, size_t node_rows, const int32_t *members,
-                                                  size_t members_len, size_t member_count, uint8_t *out, size_t out_len,
-                                                  int32_t *back_table, size_t back_table_len, int32_t *back_nodes,
-                                                  size_t back_nodes_len, int32_t *back_members, size_t back_members_len,
-                                                  int32_t results[3]) {
-  return zorambi_proof_rows_again(zorambi_numbers_of(table, table_len), table_len, rows, zorambi_numbers_of(nodes, nodes_len),
-                                  nodes_len, node_rows, zorambi_numbers_of(members, members_len), members_len, member_count,
-                                  zorambi_lent_bytes(out, out_len), out_len, zorambi_lent_numbers(back_table, back_table_len),
-                                  back_table_len, zorambi_lent_numbers(back_nodes, back_nodes_len), back_nodes_len,
-                                  zorambi_lent_numbers(back_members, back_members_len), back_members_len, results);
-}
-static inline uint64_t zorambi_c_model_rows_again(int32_t n, const int32_t *pairs, size_t pairs_len, size_t pair_rows,
-                                                  uint8_t *out, size_t out_len, int32_t *back, size_t back_len,
-                                                  int32_t results[2]) {
-  return zorambi_model_rows_again(n, zorambi_numbers_of(pairs, pairs_len), pairs_len, pair_rows,
-                                  zorambi_lent_bytes(out, out_len), out_len, zorambi_lent_numbers(back, back_len), back_len,
-                                  results);
-}
 static inline void zorambi_c_line(const uint8_t *text, size_t text_len, size_t k, size_t span[2]) {
   zorambi_line(zorambi_text_of(text, text_len), text_len, k, span);
 }
@@ -546,12 +479,6 @@ static inline uint64_t zorambi_c_commit(const int32_t *schema, size_t schema_len
 #define zorambi_write_schema zorambi_c_write_schema
 #define zorambi_write_proof zorambi_c_write_proof
 #define zorambi_write_model zorambi_c_write_model
-#define zorambi_schema_again zorambi_c_schema_again
-#define zorambi_proof_again zorambi_c_proof_again
-#define zorambi_model_again zorambi_c_model_again
-#define zorambi_schema_rows_again zorambi_c_schema_rows_again
-#define zorambi_proof_rows_again zorambi_c_proof_rows_again
-#define zorambi_model_rows_again zorambi_c_model_rows_again
 #define zorambi_line zorambi_c_line
 #define zorambi_check_texts zorambi_c_check_texts
 #define zorambi_check_older_texts zorambi_c_check_older_texts

@@ -141,49 +141,18 @@ static void writing(void) {
   answers("no output for a model", zorambi_write_model(3, NULL, 0, 0, NULL, 0), ZORAMBI_OUTPUT, -1);
 }
 
-/* There and back: a text that is read and written, rows that are written and read. */
+/* There and back: a text that is read is written as it was, rows that are written are read as they were. */
 static void again(void) {
-  static const uint8_t proof_text[] = "kind a b c\nup rule on with other to by set\n";
-  static const uint8_t model_text[] = "n\n1\nsymbol index\n";
-  const uint8_t *text = (const uint8_t *)schema_text;
-  const size_t length = strlen(schema_text);
   int32_t results[3] = {7, 7, 7};
   uint8_t out[100];
-
-  answers("no schema text, again", zorambi_schema_again(NULL, 0, table, 4096, out, sizeof out), ZORAMBI_HEADING, 1);
-  answers("no table, again", zorambi_schema_again(text, length, NULL, 0, out, sizeof out), ZORAMBI_TABLE_TOO_SHORT, 0);
-  answers("no output, again", zorambi_schema_again(text, length, table, 4096, NULL, 0), ZORAMBI_OUTPUT, -1);
-  test("no output, memory", all_zero(table, 4096));
-  answers("no proof text, again", zorambi_proof_again(NULL, 0, table, 4096, nodes, 9216, members, 8192, out, sizeof out),
-          ZORAMBI_HEADING, 1);
-  answers("no tables, again", zorambi_proof_again(proof_text, sizeof proof_text - 1, NULL, 0, NULL, 0, NULL, 0, out, sizeof out),
-          ZORAMBI_TABLE_TOO_SHORT, 0);
-  answers("no output for a proof, again",
-          zorambi_proof_again(proof_text, sizeof proof_text - 1, table, 4096, nodes, 9216, members, 8192, NULL, 0), ZORAMBI_OUTPUT, -1);
-  answers("no model text, again", zorambi_model_again(NULL, 0, members, 8192, out, sizeof out), ZORAMBI_HEADING, 1);
-  answers("no pairs' table, again", zorambi_model_again(model_text, sizeof model_text - 1, NULL, 0, out, sizeof out),
-          ZORAMBI_TABLE_TOO_SHORT, 0);
-  answers("no output for a model, again", zorambi_model_again(model_text, sizeof model_text - 1, members, 8192, NULL, 0),
-          ZORAMBI_OUTPUT, -1);
-
-  answers("no rows, again", zorambi_schema_rows_again(NULL, 0, 0, 4, 1, out, sizeof out, table, 4096, results), ZORAMBI_ACCEPTED, 0);
-  test("no rows, results", results[0] == 4 && results[1] == 1 && results[2] == 0);
-  answers("no output for rows", zorambi_schema_rows_again(schema, 20, 5, 4, 1, NULL, 0, table, 4096, results), ZORAMBI_OUTPUT, -1);
-  answers("no table for rows", zorambi_schema_rows_again(schema, 20, 5, 4, 1, out, sizeof out, NULL, 0, results),
-          ZORAMBI_TABLE_TOO_SHORT, 0);
-  answers("no proof rows, again",
-          zorambi_proof_rows_again(NULL, 0, 0, NULL, 0, 0, NULL, 0, 0, out, sizeof out, table, 4096, nodes, 9216, members, 8192, results),
+  answers("a schema read", zorambi_read_schema((const uint8_t *)schema_text, strlen(schema_text), table, 4096, results),
           ZORAMBI_ACCEPTED, 0);
-  answers("no tables for proof rows",
-          zorambi_proof_rows_again(NULL, 0, 0, NULL, 0, 0, NULL, 0, 0, out, sizeof out, NULL, 0, NULL, 0, NULL, 0, results),
-          ZORAMBI_TABLE_TOO_SHORT, 0);
-  answers("no output for proof rows",
-          zorambi_proof_rows_again(NULL, 0, 0, NULL, 0, 0, NULL, 0, 0, NULL, 0, table, 4096, nodes, 9216, members, 8192, results),
-          ZORAMBI_OUTPUT, -1);
-  answers("no pairs, again", zorambi_model_rows_again(3, NULL, 0, 0, out, sizeof out, members, 8192, results), ZORAMBI_ACCEPTED, 0);
-  answers("no table for pairs", zorambi_model_rows_again(3, NULL, 0, 0, out, sizeof out, NULL, 0, results),
-          ZORAMBI_TABLE_TOO_SHORT, 0);
-  answers("no output for pairs", zorambi_model_rows_again(3, NULL, 0, 0, NULL, 0, members, 8192, results), ZORAMBI_OUTPUT, -1);
+  uint64_t packed = zorambi_write_schema(table, 4096, (size_t)results[2], results[0], results[1], out, sizeof out);
+  wrote("a schema written again", packed, out, schema_text);
+  packed = zorambi_write_schema(schema, 20, 5, 3, 2, out, sizeof out);
+  answers("rows read again", zorambi_read_schema(out, zorambi_bytes(packed), table, 4096, results), ZORAMBI_ACCEPTED, 0);
+  test("rows read again, results", results[0] == 3 && results[1] == 2 && results[2] == 5);
+  test("rows read again, rows", memcmp(table, schema, sizeof schema) == 0 && all_zero(table + 20, 4076));
 }
 
 static void lines(void) {

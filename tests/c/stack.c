@@ -46,21 +46,6 @@ static void write_proof(void) {
                       text_out, 65536);
 }
 static void write_model(void) { zorambi_write_model(3, pairs, 8192, 4096, text_out, 65536); }
-static void schema_again(void) { zorambi_schema_again(schema_text, schema_bytes, more[0], 4096, text_out, 65536); }
-static void proof_again(void) {
-  zorambi_proof_again(proof_text, proof_bytes, more[0], 4096, more[1], 9216, more[2], 8192, text_out, 65536);
-}
-static void model_again(void) { zorambi_model_again(proof_text, proof_bytes, more[0], 8192, text_out, 65536); }
-static void schema_rows_again(void) {
-  zorambi_schema_rows_again(SCHEMA, of_schema[0], of_schema[1], text_out, 65536, more[0], 4096, results);
-}
-static void proof_rows_again(void) {
-  zorambi_proof_rows_again(proof, 4096, (size_t)of_proof[0], nodes, 9216, (size_t)of_proof[1], members, 8192,
-                           (size_t)of_proof[2], text_out, 65536, more[0], 4096, more[1], 9216, more[2], 8192, results);
-}
-static void model_rows_again(void) {
-  zorambi_model_rows_again(3, pairs, 8192, 4096, text_out, 65536, more[0], 8192, results);
-}
 static void line(void) { zorambi_line(proof_text, proof_bytes, 3, span); }
 static void check_texts(void) { zorambi_check_texts(schema_text, schema_bytes, proof_text, proof_bytes); }
 static void check_older_texts(void) { zorambi_check_older_texts(schema_text, schema_bytes, proof_text, proof_bytes); }
@@ -86,10 +71,8 @@ static struct {
     ENTRY(check, ZORAMBI_STACK_CHECK), ENTRY(check_older, ZORAMBI_STACK_CHECK), ENTRY(check_model, ZORAMBI_STACK_CHECK),
     ENTRY(read_schema, ZORAMBI_STACK_CHECK), ENTRY(read_proof, ZORAMBI_STACK_CHECK), ENTRY(read_model, ZORAMBI_STACK_CHECK),
     ENTRY(write_schema, ZORAMBI_STACK_CHECK), ENTRY(write_proof, ZORAMBI_STACK_CHECK), ENTRY(write_model, ZORAMBI_STACK_CHECK),
-    ENTRY(schema_again, ZORAMBI_STACK_CHECK), ENTRY(proof_again, ZORAMBI_STACK_CHECK), ENTRY(model_again, ZORAMBI_STACK_CHECK),
-    ENTRY(schema_rows_again, ZORAMBI_STACK_CHECK), ENTRY(proof_rows_again, ZORAMBI_STACK_CHECK),
-    ENTRY(model_rows_again, ZORAMBI_STACK_CHECK), ENTRY(line, ZORAMBI_STACK_CHECK), ENTRY(check_texts, ZORAMBI_STACK),
-    ENTRY(check_older_texts, ZORAMBI_STACK), ENTRY(check_model_texts, ZORAMBI_STACK), ENTRY(find_model, ZORAMBI_STACK_GROW),
+    ENTRY(line, ZORAMBI_STACK_CHECK), ENTRY(check_texts, ZORAMBI_STACK), ENTRY(check_older_texts, ZORAMBI_STACK),
+    ENTRY(check_model_texts, ZORAMBI_STACK), ENTRY(find_model, ZORAMBI_STACK_GROW),
     ENTRY(convert, ZORAMBI_STACK_CHECK), ENTRY(next_small, ZORAMBI_STACK_CHECK), ENTRY(tidy, ZORAMBI_STACK_CHECK),
     ENTRY(join, ZORAMBI_STACK_JOIN), ENTRY(begin, ZORAMBI_STACK_GROW), ENTRY(enquire, ZORAMBI_STACK_GROW),
     ENTRY(commit, ZORAMBI_STACK_GROW), ENTRY(take_back, ZORAMBI_STACK_GROW), ENTRY(add, ZORAMBI_STACK_GROW)};

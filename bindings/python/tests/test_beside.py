@@ -214,12 +214,6 @@ class Inputs:
             "write_schema": lambda: self.schema() + [self.out()],
             "write_proof": lambda: self.proof_rows() + [self.out()],
             "write_model": lambda: self.model() + [self.out()],
-            "schema_again": lambda: [self.schema_text(), self.lent(4096), self.out()],
-            "proof_again": lambda: [self.proof_text(), *self.proof_lent(), self.out()],
-            "model_again": lambda: [self.text(self.models), self.lent(8192), self.out()],
-            "schema_rows_again": lambda: self.schema() + [self.out(), self.lent(4096), self.fixed(3)],
-            "proof_rows_again": lambda: self.proof_rows() + [self.out(), *self.proof_lent(), self.fixed(3)],
-            "model_rows_again": lambda: self.model() + [self.out(), self.lent(8192), self.fixed(2)],
             "line": lambda: [
                 self.proof_text(), self.rng.choice([0, 1, 2, 3, 7, 30, 2**64 - 1]), Lent([5, 5], sizes=True)
             ],

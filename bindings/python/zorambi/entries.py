@@ -283,42 +283,6 @@ write_model = Entry(
     "zorambi_write_model", "Writes a model text; its bytes are in the lower 26 bits.", *_MODEL_ROWS, _OUT
 )
 
-schema_again = Entry(
-    "zorambi_schema_again", "Reads a schema text and writes it again.", ("text", TEXT), ("table", LENT), _OUT
-)
-proof_again = Entry(
-    "zorambi_proof_again", "Reads a proof text and writes it again.", ("text", TEXT), *_PROOF_TABLES, _OUT
-)
-model_again = Entry(
-    "zorambi_model_again", "Reads a model text and writes it again.", ("text", TEXT), ("pairs", LENT), _OUT
-)
-schema_rows_again = Entry(
-    "zorambi_schema_rows_again",
-    "Writes a schema's rows and reads them again. Results: root, least, rows.",
-    *_SCHEMA_ROWS,
-    _OUT,
-    ("back", LENT),
-    ("results", _results(3)),
-)
-proof_rows_again = Entry(
-    "zorambi_proof_rows_again",
-    "Writes a proof's rows and reads them again. Results: rows, nodes, members.",
-    *_PROOF_ROWS,
-    _OUT,
-    ("back_table", LENT),
-    ("back_nodes", LENT),
-    ("back_members", LENT),
-    ("results", _results(3)),
-)
-model_rows_again = Entry(
-    "zorambi_model_rows_again",
-    "Writes a model's pairs and reads them again. Results: n, pairs.",
-    *_MODEL_ROWS,
-    _OUT,
-    ("back", LENT),
-    ("results", _results(2)),
-)
-
 line = Entry(
     "zorambi_line",
     "Where a line, counted from 1, starts in the text, and its length without its byte 10, in the lent span.",

@@ -1,5 +1,4 @@
 // The entries that provers call, from Rust and C: numbers and slices in, one number back.
-pub mod again;
 pub mod both_texts;
 pub mod enquirer;
 pub mod failing;

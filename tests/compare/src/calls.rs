@@ -147,21 +147,21 @@ pub fn check_model(m: &ModelTables) -> u64 {
     entries::check_model(&schema, m.schema_count, m.root, m.least, m.n, &pairs, m.pair_count)
 }
 
-fn read_schema(text: &[u8], length: usize) -> Seen {
+pub(crate) fn read_schema(text: &[u8], length: usize) -> Seen {
     lent([length], 0, |[rows], _, results| entries::read_schema(&exact(text), rows, results))
 }
 
-fn read_proof(text: &[u8], lengths: [usize; 3]) -> Seen {
+pub(crate) fn read_proof(text: &[u8], lengths: [usize; 3]) -> Seen {
     lent(lengths, 0, |[rows, nodes, members], _, results| {
         entries::read_proof(&exact(text), rows, nodes, members, results)
     })
 }
 
-fn read_model(text: &[u8], length: usize) -> Seen {
+pub(crate) fn read_model(text: &[u8], length: usize) -> Seen {
     lent([length], 0, |[pairs], _, results| entries::read_model(&exact(text), pairs, results))
 }
 
-fn written(length: usize, write: impl FnOnce(&mut [u8]) -> u64) -> Seen {
+pub(crate) fn written(length: usize, write: impl FnOnce(&mut [u8]) -> u64) -> Seen {
     lent([], length, |[], out, _: &mut [i32; 0]| write(out))
 }
 

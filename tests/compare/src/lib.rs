@@ -1,7 +1,7 @@
 //! The proved library beside the other implementation, on the same inputs.
 //!
 //! * [`calls`]: one case put to both, and all that comes back compared
-//! * [`again`]: a text read and written again, rows written and read again, from the same cases
+//! * [`again`]: a text that was read written again, rows that were written read again, from the same cases
 //! * [`convert`]: wide connectives written in plain rows
 //! * `damage`: damage to what an entry is lent
 //! * [`paper`]: the paper's record, its neighbours and its models, with the paper's answers

@@ -1,6 +1,6 @@
 //! What passed and failed, and how often each answer occurred.
 
-use crate::again::ways;
+use crate::again::{way, WAYS};
 use crate::calls::{of_library, of_reference, Seen};
 use crate::sides as of_records;
 use crate::soundness::Soundness;
@@ -10,9 +10,8 @@ use zorambi_generate::sides::{self, Comes};
 use zorambi_generate::{across, exact, ranges, twice, Aim, Case, Input};
 
 /// The entries by what they do, as columns of the table of answers.
-const GROUPS: [&str; 7] = ["check", "older", "model", "read", "write", "program", "again"];
+const GROUPS: [&str; 6] = ["check", "older", "model", "read", "write", "program"];
 const OLDER: usize = 1;
-const AGAIN: usize = 6;
 
 /// The answers that there are.
 const ANSWERS: [usize; 24] = [0, 1, 2, 3, 4, 5, 6, 7, 8, 9, 10, 11, 12, 13, 14, 15, 16, 17, 18, 19, 20, 21, 22, 27];
@@ -46,6 +45,8 @@ pub struct Tally {
     pub failed: u64,
     /// By group and answer.
     answers: [[u64; 28]; GROUPS.len()],
+    /// Ways there and back.
+    ways: [u64; WAYS.len()],
     /// Generated tableaux by sort.
     tableaux: BTreeMap<&'static str, Accepted>,
     /// Generated tableaux that are made to show one thing, by their sort and kind.
@@ -158,10 +159,10 @@ impl Tally {
         if let Some(group) = group(input) {
             self.count(group, ours.answer());
         }
-        for way in ways(input) {
-            let difference = way.library.difference(&way.other);
-            self.test(&format!("{what}, {}", way.what), difference.map_or(Ok(()), Err));
-            self.count(AGAIN, way.library.answer());
+        if let Some((way, back, expected)) = way(input, &ours) {
+            let same = fits(back == expected, || format!("comes back otherwise: {:#x}", back.packed));
+            self.test(&format!("{what}, there and back"), same);
+            self.ways[way] += 1;
         }
         Some(ours)
     }
@@ -238,9 +239,8 @@ impl Tally {
         for answer in ANSWERS {
             self.test(&format!("answer {answer}"), occurred(self.times(answer)));
         }
-        // What reading and writing can answer has occurred there and back too.
-        for answer in [0, 1, 2, 3, 4, 5, 21, 22] {
-            self.test(&format!("answer {answer} there and back"), occurred(self.answers[AGAIN][answer]));
+        for (way, times) in WAYS.into_iter().zip(self.ways) {
+            self.test(&format!("{way}, there and back"), occurred(times));
         }
         // What the older check can answer has occurred there.
         for answer in [0, 2, 5, 6, 7, 8, 9, 10, 11, 12, 13, 14, 15, 16, 17] {
@@ -295,6 +295,8 @@ impl Tally {
             let row: String = self.answers.iter().map(|group| format!("{:>9}", group[answer])).collect();
             println!("{answer:>6}{row}{:>9}", self.times(answer));
         }
+        let ways: Vec<String> = WAYS.iter().zip(self.ways).map(|(way, times)| format!("{way} {times}")).collect();
+        println!("there and back: {}", ways.join(", "));
         let heads = ["cases", "accepted", "with links", "row twice", "older yes"];
         println!("{:26}{}", "generated tableaux", heads.map(|head| format!("{head:>12}")).concat());
         let all = self.all_tableaux();

@@ -127,14 +127,6 @@ fn answered(line: &str) -> String {
         "write_schema" => call!(entries::write_schema, v: numbers number number number out),
         "write_proof" => call!(entries::write_proof, v: numbers number numbers number numbers number out),
         "write_model" => call!(entries::write_model, v: number numbers number out),
-        "schema_again" => call!(entries::schema_again, v: text lent out),
-        "proof_again" => call!(entries::proof_again, v: text lent lent lent out),
-        "model_again" => call!(entries::model_again, v: text lent out),
-        "schema_rows_again" => call!(entries::schema_rows_again, v: numbers number number number out lent fixed),
-        "proof_rows_again" => {
-            call!(entries::proof_rows_again, v: numbers number numbers number numbers number out lent lent lent fixed)
-        }
-        "model_rows_again" => call!(entries::model_rows_again, v: number numbers number out lent fixed),
         "line" => format!("0 {}", entries::line(&v.bytes(), v.number())[..].hashed()),
         "check_texts" => call!(entries::check_texts, v: text text),
         "check_older_texts" => call!(entries::check_older_texts, v: text text),

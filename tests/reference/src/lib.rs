@@ -9,7 +9,6 @@
 //! * [`model`]: the model check and the value of a formula
 //! * [`find`]: the first model at an n that is named (No. 13, "A failing width, shown")
 //! * [`text`]: reading and writing of the three texts, lines by number
-//! * [`again`]: a text read and written again, rows written and read again
 //! * [`tidy`]: older records without rows written twice (No. 10, "Tidying older records")
 //! * [`join`]: one record for two (No. 11, "One record for either fault")
 //! * [`grow`]: a tableau that grows row by row (No. 7, "A tableau that grows on screen", and No. 8, "Enquiry and commit")
@@ -21,7 +20,6 @@
 
 #![forbid(unsafe_code)]
 
-pub mod again;
 pub mod convert;
 pub mod find;
 pub mod formula;
