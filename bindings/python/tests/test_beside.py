@@ -38,6 +38,8 @@ class Inputs:
         self.models += [b"n\n3\nsymbol index\n0 3\n", b"n\n1\nsymbol index\n0 1\n1 -2\n"]
         found = [(schema, zorambi.find_model(schema, n)) for schema in zorambi.small(2) for n in (0, 2, 3)]
         self.found = [(schema, model) for schema, model in found if model is not None]
+        self.modelled = [(schema, model) for schema, _ in self.texts for model in self.models]
+        self.modelled += [(zorambi.write_schema(schema), zorambi.write_model(model)) for schema, model in self.found]
         self.wide = [zorambi.read_schema(file.read_bytes()) for file in sorted(common.ROOT.glob("records/**/wide.txt"))]
 
     def number(self) -> int:
@@ -106,11 +108,9 @@ class Inputs:
     def proof_text(self) -> bytes:
         return self.text([proof for _, proof in self.texts])
 
-    def two_texts(self, second: List[bytes]) -> List[bytes]:
-        """A schema's text and another: of the same record, each changed or not."""
-        at = self.rng.randrange(len(self.texts))
-        schema, proof = self.texts[at]
-        other = proof if not second else self.rng.choice(second)
+    def two_texts(self, pairs: List[Tuple[bytes, bytes]]) -> List[bytes]:
+        """A schema's text and the other one of a pair, each changed or not."""
+        schema, other = self.rng.choice(pairs)
         return [
             self.text([schema]) if self.rng.random() < 0.3 else schema,
             self.text([other]) if self.rng.random() < 0.6 else other,
@@ -217,9 +217,9 @@ class Inputs:
             "line": lambda: [
                 self.proof_text(), self.rng.choice([0, 1, 2, 3, 7, 30, 2**64 - 1]), Lent([5, 5], sizes=True)
             ],
-            "check_texts": lambda: self.two_texts([]),
-            "check_older_texts": lambda: self.two_texts([]),
-            "check_model_texts": lambda: self.two_texts(self.models),
+            "check_texts": lambda: self.two_texts(self.texts),
+            "check_older_texts": lambda: self.two_texts(self.texts),
+            "check_model_texts": lambda: self.two_texts(self.modelled),
             "find_model": lambda: self.schema() + [
                 self.rng.choice([0, 1, 2, 3, self.number()]), self.lent(8192), self.fixed(2)
             ],

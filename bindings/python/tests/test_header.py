@@ -23,7 +23,7 @@ def declared(name: str) -> "tuple[str, list[str]]":
 class Header(unittest.TestCase):
     def test_every_entry_is_declared_alike(self) -> None:
         names = re.findall(r"^(?:uint64_t|void) (zorambi_\w+)\(", HEADER, re.M)
-        self.assertGreaterEqual(len(names), 29)
+        self.assertGreaterEqual(len(names), 23)
         self.assertEqual(sorted(names), sorted(entry.name for entry in entries.ALL))
         for entry in entries.ALL:
             given_back, parameters = declared(entry.name)
