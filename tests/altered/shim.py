@@ -5,6 +5,7 @@ Use: shim.py HEADER SHIM.c SYMBOLS. SYMBOLS gets the lines `zorambi_X true_zoram
 entries. What is altered is said by the environment variable ALTER when the program runs:
   answer   the number of every refusal is one more
   place    the place of every refusal is one more
+  line     the line that a refusal of texts points to is the next one
   count    every acceptance has one link more; a line found, one byte more
   lent     one number or byte of the lent results is another, the last one
   rare     one verdict in a thousand is turned round
@@ -69,6 +70,7 @@ static uint64_t altered(uint64_t r) {
   const int refused = r >> 39 != 0;
   if (is("answer") && refused) return r + ((uint64_t)1 << 39);
   if (is("place") && refused) return r + ((uint64_t)1 << 26);
+  if (is("line") && r >> 44 != 0) return r + ((uint64_t)1 << 45);
   if (is("count") && !refused) return r + 1;
   if (is("rare") && ++calls % 1000 == 0) return refused ? (uint64_t)1 << 26 : (uint64_t)14 << 39;
   return r;
@@ -80,7 +82,7 @@ def main():
     header, shim_file, symbols = sys.argv[1:]
     text = re.sub(r"/\*.*?\*/", "", open(header).read(), flags=re.S)
     entries = DECLARED.findall(text)
-    if len(entries) < 29:
+    if len(entries) < 23:
         sys.exit(f"{header}: only {len(entries)} entries found")
     with open(shim_file, "w") as out:
         out.write(BEFORE)
