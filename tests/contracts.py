@@ -15,6 +15,8 @@ ROOT = Path(__file__).resolve().parent.parent
 # Functions that fall short, by name and parameter, each with a reason. A reason that is no longer needed fails too.
 # Those of a module without `pub` cannot be called from another crate: PRIVATE. That this is so is looked up.
 PRIVATE = {
+    "folds::links::schema_rows next": "an array of `fold`'s own; `Linked` says what is found by it",
+    "folds::links::schema_rows heads": "as next",
     "grow::row::lay saved_node": "an array of `try_row`'s own: the nine numbers that are read are given",
     "grow::row::lay saved_set": "an array of `try_row`'s own: as many numbers as are read are given",
     "jointnodes::node::each_node out_nodes": "`fill_nodes` puts zeros past the nodes, or everywhere",

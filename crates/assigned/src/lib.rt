@@ -14,11 +14,11 @@ ghost use Rattle.pairs.specs.Word.{word};
 ghost use Rattle.assigned.specs.Words.{digit, words, digit_of, turned_word, combined_words};
 ghost use Rattle.assigned.specs.Assignments.{place_of, values_from, looked_at, Evaluable, Searchable};
 
+use formula::kept::kept_at;
 use formula::rows::LOOSE;
 use formula::{A, B};
 use occurring::literal_key;
 use pairs::moved;
-use tables::kept::kept_at;
 use value::{combined, range_size};
 
 // ---- words

@@ -13,8 +13,8 @@ use Rattle.stab.specs.Basic.{nat}
 use Rattle.stab.specs.Node.{Bound, node_at, child_count_of, rank, child_bound, first_bound, bound_of}
 use Rattle.stab.proofs.Bools.{decide}
 use Rattle.stab.proofs.Scans.{below_suc}
-use Rattle.tables.specs.Kept.{kept}
-use Rattle.tables.proofs.KeptLaws.{kept_other, kept_length, kept_first, kept_second, kept_third, kept_fourth}
+use Rattle.formula.specs.Kept.{kept}
+use Rattle.formula.proofs.KeptLaws.{kept_other, kept_length, kept_first, kept_second, kept_third, kept_fourth}
 use Rattle.bounds.specs.Bounds.{Next, work_table, Stays}
 use Rattle.branch.specs.Parents.{AllUpFit}
 use Rattle.branch.specs.Work.{top_of, Worked, AllWorked}

@@ -7,7 +7,7 @@ ghost use Rattle.branch.specs.Parents.{AllUpFit};
 ghost use Rattle.branch.specs.Work.{top_of, AllWorked};
 
 use branch::{node, split, worked};
-use tables::kept;
+use formula::kept;
 
 // Number k of the four of node j.
 fn number_of(work: &[u32], j: usize, k: usize) -> u32

@@ -1,11 +1,10 @@
 -- The key of a row: its kind and two numbers that decide its class, made of what is known of smaller rows. Two well-formed rows
 -- have the same key exactly if they are akin.
-use Rattle.std.specs.Prelude.{ℕ, zero, suc, ◌+◌, ◌*◌, ◌<◌, ◌≡◌, Bool, true, List, eqb, leb, ℤ, neg_ℤ, length, get_or, set}
+use Rattle.std.specs.Prelude.{ℕ, zero, suc, ◌+◌, ◌*◌, ◌/◌, ◌<◌, ◌≡◌, Bool, true, List, eqb, leb, ℤ, neg_ℤ, get_or, set}
 use Rattle.std.proofs.Math.Option.{some}
 use Rattle.stab.specs.Basic.{if◌then◌else◌, nat}
 use Rattle.stab.specs.Formula.{Row, Kind, constant, literal, junction, iteration, unknown, kind_of, Base, nothing, parameter, index, base_of, well_formed}
-use Rattle.tables.specs.Spread.{spread_of}
-use Rattle.tables.specs.Chain.{bucket_of, latest, Chained}
+use Rattle.formula.specs.Spread.{spread_of}
 use Rattle.classes.specs.Class.{shift_code, above, class_of, shift_of, left_code, right_code, lead_of, AllWorked}
 use Rattle.classes.specs.declared.form.Form.{Form}
 
@@ -101,25 +100,31 @@ pub record FormedAt (r : ℕ) (w : Row) : Type 0 where
   pub row : rows r ≡ w
   pub formed : well_formed rows r ≡ true
 
--- ---- rows of one bucket
+-- ---- rows of one hash
 
--- the bucket, one of m, in which rows with such a key are looked for
-abbrev pub hash_of : ℕ → ℕ → ℕ → ℕ → ℕ
-hash_of m kind low high = bucket_of m (spread_of low high kind 0)
+-- where rows with such a key are looked for: one of 512 places, by the high bits
+abbrev pub hash_of : ℕ → ℕ → ℕ → ℕ
+hash_of kind low high = spread_of low high kind 0 / 2097152
 
-unfoldable pub hash_at : ℕ → (ℕ → Row) → ℕ → ℕ
-hash_at m rows r = hash_of m (nat (rows r).kind) (low_of rows r) (high_of rows r)
+unfoldable pub hash_at : (ℕ → Row) → ℕ → ℕ
+hash_at rows r = hash_of (nat (rows r).kind) (low_of rows r) (high_of rows r)
 
--- the two numbers of the key of row r
-pub record Listed (rows : ℕ → Row) (sides : List ℕ) (r : ℕ) : Type 0 where
+-- one more than the last row below n with that hash, 0 where there is none
+unfoldable pub latest : (ℕ → Row) → ℕ → ℕ → ℕ
+latest rows h zero = zero
+latest rows h (suc n) = if eqb (hash_at rows n) h then suc n else latest rows h n
+
+-- the fourth number of row r, the row before it of the same hash, and the two numbers of its key
+pub record Listed (rows : ℕ → Row) (forms sides : List ℕ) (r : ℕ) : Type 0 where
+  pub before : get_or forms (4 * r + 3) 0 ≡ latest rows (hash_at rows r) r
   pub low : get_or sides (2 * r) 0 ≡ low_of rows r
   pub high : get_or sides (2 * r + 1) 0 ≡ high_of rows r
 
--- the tables after n rows, with a bucket for each number of `heads`; the fourth number of a row leads to the row before it in its bucket
+-- the tables after n rows
 pub record Done (rows : ℕ → Row) (forms sides heads : List ℕ) (n : ℕ) : Type 0 where
   pub worked : AllWorked rows forms n
-  pub listed : (r : ℕ) → r < n → Listed rows sides r
-  pub chained : Chained (hash_at (length heads) rows) (λ q. get_or forms (4 * q + 3) 0) heads n
+  pub listed : (r : ℕ) → r < n → Listed rows forms sides r
+  pub latest_of : (h : ℕ) → h < 512 → get_or heads h 0 ≡ latest rows h n
 
 -- the tables with the numbers of row r
 unfoldable pub forms_with : List ℕ → ℕ → ℕ → Form → ℕ → List ℕ
@@ -128,11 +133,15 @@ forms_with forms r class f before = set (set (set (set forms (4 * r) class) (4 *
 unfoldable pub sides_with : List ℕ → ℕ → Form → List ℕ
 sides_with sides r f = set (set sides (2 * r) f.low) (2 * r + 1) f.high
 
--- the tables with the numbers of the first n rows, which are in m buckets; past these they are as they were
-unfoldable pub forms_after : ℕ → (ℕ → Row) → List ℕ → ℕ → List ℕ
-forms_after m rows forms zero = forms
-forms_after m rows forms (suc n) = forms_with (forms_after m rows forms n) n (class_of rows n) (form_of rows n) (latest (hash_at m rows) (hash_at m rows n) n)
+-- the tables with the numbers of the first n rows; past these they are as they were
+unfoldable pub forms_after : (ℕ → Row) → List ℕ → ℕ → List ℕ
+forms_after rows forms zero = forms
+forms_after rows forms (suc n) = forms_with (forms_after rows forms n) n (class_of rows n) (form_of rows n) (latest rows (hash_at rows n) n)
 
 unfoldable pub sides_after : (ℕ → Row) → List ℕ → ℕ → List ℕ
 sides_after rows sides zero = sides
 sides_after rows sides (suc n) = sides_with (sides_after rows sides n) n (form_of rows n)
+
+unfoldable pub heads_after : (ℕ → Row) → List ℕ → ℕ → List ℕ
+heads_after rows heads zero = heads
+heads_after rows heads (suc n) = set (heads_after rows heads n) (hash_at rows n) (n + 1)

@@ -1,4 +1,4 @@
-// Rows in buckets by their key: among the rows of a bucket an earlier row of the same class is looked for.
+// Rows of one hash, each with the one before it: among them an earlier row of the same class is looked for.
 ghost use Rattle.std.specs.Prelude.{◌≡◌, ◌+◌, ◌*◌, ◌<◌, ◌≤◌, ◌^◌, eqb, length, get_or, set};
 ghost use Rattle.stab.specs.Basic.{◌and◌, nat};
 ghost use Rattle.stab.specs.Formula.{formula_rows};
@@ -8,16 +8,14 @@ ghost use Rattle.classes.specs.Key.{form_of, hash_of, hash_at, Done, forms_with,
 
 use crate::form::Form;
 use crate::held::{head_at, held_at};
+use formula::spread::spread;
 use formula::{KIND, natural_in};
-use tables::chain::bucket;
-use tables::spread::spread;
 
-// The bucket, one of m, of a row with this key.
-pub fn hash(kind: usize, low: usize, high: usize, m: usize) -> usize
-    requires { (kind < 2 ^ 32) × (low < 2 ^ 32) × (high < 2 ^ 32) × (0 < m) × (m ≤ 65536) }
-    ensures { (result ≡ hash_of m kind low high) × (result < m) }
+pub fn hash(kind: usize, low: usize, high: usize) -> usize
+    requires { (kind < 2 ^ 32) × (low < 2 ^ 32) × (high < 2 ^ 32) }
+    ensures { result ≡ hash_of kind low high }
 {
-    bucket(spread(low, high, kind, 0), m)
+    spread(low, high, kind, 0) / 2097152
 }
 
 // Row q has that key.
@@ -43,7 +41,7 @@ fn has_key(
     held_at(sides, 2 * q + 1) == high
 }
 
-// The class of row r, whose kind is given, whose numbers are f and whose bucket is h: that of an earlier row with its key, else its
+// The class of row r, whose kind is given, whose numbers are f and whose hash is h: that of an earlier row with its key, else its
 // own number.
 pub fn class_of(
     schema: &[i32],
@@ -60,7 +58,7 @@ pub fn class_of(
     requires r_bound { (r < 1024) × (kind ≡ nat (formula_rows schema.now s proof.now r).kind) × (4 * r ≤ length forms.now) × (2 * r ≤ length sides.now) × (h < length heads.now) }
     requires all_formed { AllFormed (formula_rows schema.now s proof.now) (r + 1) }
     requires done { Done (formula_rows schema.now s proof.now) forms.now sides.now heads.now r }
-    requires f_value { (f ≡ form_of (formula_rows schema.now s proof.now) r) × (h ≡ hash_at (length heads.now) (formula_rows schema.now s proof.now) r) }
+    requires f_value { (f ≡ form_of (formula_rows schema.now s proof.now) r) × (h ≡ hash_at (formula_rows schema.now s proof.now) r) }
     ensures { result ≡ class_of (formula_rows schema.now s proof.now) r }
 {
     let mut next = head_at(heads, h);
@@ -74,7 +72,7 @@ pub fn class_of(
     r
 }
 
-// The numbers of row r are kept, and it is the latest row of its bucket.
+// The numbers of row r are kept, and it is the latest row of its hash.
 pub fn keep(
     r: usize,
     h: usize,

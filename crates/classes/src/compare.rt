@@ -10,9 +10,9 @@ ghost use Rattle.classes.specs.Agreed.{Remembers};
 use crate::agreed::{is_known, remember};
 use crate::numbers::{literals_agree, ranges_agree, shifts_fit};
 use formula::cells::Cells;
+use formula::kept::kept_at;
 use formula::rows::LOOSE;
 use formula::{A, C, cells, natural_in, under_in};
-use tables::kept::kept_at;
 
 // The part of a row with the columns w that part p is not.
 fn besides(w: Cells, p: usize) -> usize

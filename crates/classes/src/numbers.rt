@@ -8,7 +8,7 @@ ghost use Rattle.classes.specs.Class.{ground};
 ghost use Rattle.classes.specs.Key.{fitting};
 
 use formula::cells::Cells;
-use tables::kept::kept_at;
+use formula::kept::kept_at;
 
 // z and up - down more is x.
 fn is_raised(z: i32, x: i32, up: usize, down: usize) -> bool

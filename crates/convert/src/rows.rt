@@ -9,8 +9,8 @@ ghost use Rattle.wide.specs.WideFormula.{wide_kind_of, wide_formed};
 ghost use Rattle.wide.specs.Plain.{rows_given, start_of, image, row, given, plain_rows, columns};
 ghost use Rattle.convert.specs.Emission.{paired, swapped, parts_row, both_rows, six_rows, written, image_kept, image_at, Imaged, Emits, Given};
 
+use formula::kept::kept_at;
 use formula::{A, B, C};
-use tables::kept::kept_at;
 
 // The rows that stand for a wide row and for its negation.
 #[derive(Drop)]

@@ -10,8 +10,8 @@ ghost use Rattle.stab.specs.Lent.{lent};
 ghost use Rattle.branch.specs.Lent.{SetHeld, ChildKnown};
 
 use branch::{member, node, worked};
+use formula::kept;
 use stab::Header;
-use tables::kept;
 
 // z is a part of row r.
 fn is_part(schema: &[i32], s: usize, proof: &[i32], r: usize, z: i32) -> bool

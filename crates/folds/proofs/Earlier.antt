@@ -1,20 +1,19 @@
 -- The earliest row with the columns of another, by links; and rows that agree below a number.
 use Prim.Native.Nat.{ℕ, zero, suc, ◌-◌, ◌<◌, ◌≤◌}
 use native.Mathlib.Omega.{arith}
-use mathlib.Core.Path.{◌≡◌, refl, sym, ◌∙◌, ap, subst}
+use mathlib.Core.Path.{◌≡◌, refl, sym, ◌∙◌, ap, ap₂, subst}
 use mathlib.Core.Logic.{⊎_elim}
 use mathlib.Core.Bool.{true, false, false≢true}
 use mathlib.Core.List.{List}
 use mathlib.Core.Option.{Option, none, some, or_else}
-use lib.ListN.{length}
-use Rattle.stab.specs.Basic.{if◌then◌else◌, first}
+use lib.ListN.{get_or}
+use Rattle.stab.specs.Basic.{if◌then◌else◌, ◌or◌, first}
 use Rattle.stab.specs.Formula.{Row}
 use Rattle.stab.specs.Check.{same_row, stands_before}
 use Rattle.stab.proofs.Bools.{decide, or_first_false, or_false_left, or_false_right, if_true, if_false}
 use Rattle.stab.proofs.Scans.{below_suc}
 use Rattle.stab.proofs.Firsts.{else_none, else_some, search_same}
 use Rattle.repeats.specs.Places.{place_of, Leads, Linked}
-use Rattle.tables.proofs.ChainLaws.{chained_agree}
 use Rattle.tidied.specs.Tidied.{earliest}
 use Rattle.tidied.proofs.Foldings.{earliest_some}
 use Rattle.folds.specs.Folds.{row_or}
@@ -64,7 +63,7 @@ module _ (rows : ℕ → Row) (w : Row) where
       (decide (stands_before rows n w))
 
   -- the links lead to it
-  leads_earliest : {b : ℕ} (m v : ℕ) → Leads b rows w m v → earliest rows m w ≡ earliest rows v w
+  leads_earliest : (m v : ℕ) → Leads rows w m v → earliest rows m w ≡ earliest rows v w
   leads_earliest m v l =
       ⊎_elim
       (λ t. let s = stands_some v t in earliest_stays v s.0 s.1 m l.within ∙ sym s.1)
@@ -98,24 +97,24 @@ module _ (rows : ℕ → Row) (w : Row) where
     pub found_small : q ≤ n
     found_small = omega (arith, small n (earliest rows n w) refl)
 
--- ---- going back through the rows of one bucket, one of m
+-- ---- going back through the rows of one place
 
 -- `best` is the earliest equal of row r from `rest` on, or r
-pub record Walk (m : ℕ) (rows : ℕ → Row) (r best rest : ℕ) : Type 0 where
+pub record Walk (rows : ℕ → Row) (r best rest : ℕ) : Type 0 where
   pub within : rest ≤ r
-  pub of_place : 0 < rest → place_of m (rows (rest - 1)) ≡ place_of m (rows r)
+  pub of_place : 0 < rest → place_of (rows (rest - 1)) ≡ place_of (rows r)
   pub finds : row_or r (earliest rows r (rows r)) ≡ row_or best (earliest rows rest (rows r))
 
-module _ (m : ℕ) (rows : ℕ → Row) (r : ℕ) where
-  pub walk_start : (v : ℕ) → Leads m rows (rows r) r v → Walk m rows r r v
+module _ (rows : ℕ → Row) (r : ℕ) where
+  pub walk_start : (v : ℕ) → Leads rows (rows r) r v → Walk rows r r v
   walk_start v l = record { within = l.within; of_place = l.of-place; finds = ap (row_or r) (leads_earliest rows (rows r) r v l) }
 
-  pub walk_end : (best rest : ℕ) → rest ≤ 0 → Walk m rows r best rest → best ≡ row_or r (earliest rows r (rows r))
+  pub walk_end : (best rest : ℕ) → rest ≤ 0 → Walk rows r best rest → best ≡ row_or r (earliest rows r (rows r))
   unfolding row_or earliest first
   walk_end best zero h k = sym k.finds
   walk_end best (suc n) h k = absurd (omega arith)
 
-  module _ (best rest : ℕ) (more : 0 < rest) (k : Walk m rows r best rest) (u : ℕ) (l : Leads m rows (rows r) (rest - 1) u) where
+  module _ (best rest : ℕ) (more : 0 < rest) (k : Walk rows r best rest) (u : ℕ) (l : Leads rows (rows r) (rest - 1) u) where
     last : rest ≡ suc (rest - 1)
     last = omega arith
 
@@ -126,14 +125,14 @@ module _ (m : ℕ) (rows : ℕ → Row) (r : ℕ) where
         ∙ earliest_more rows (rows r) (rest - 1)
         ∙ ap (λ (o : Option ℕ). or_else o (if same_row (rows (rest - 1)) (rows r) then some (rest - 1) else none)) (leads_earliest rows (rows r) (rest - 1) u l)
 
-    pub walk_found : same_row (rows (rest - 1)) (rows r) ≡ true → Walk m rows r (rest - 1) u
+    pub walk_found : same_row (rows (rest - 1)) (rows r) ≡ true → Walk rows r (rest - 1) u
     walk_found h = record {
       within = omega (arith, l.within, k.within);
       of_place = l.of-place;
       finds = k.finds ∙ ap (row_or best) (here ∙ ap (λ (o : Option ℕ). or_else (earliest rows u (rows r)) o) (if_true (same_row (rows (rest - 1)) (rows r)) _ _ h)) ∙ or_this (earliest rows u (rows r)) best (rest - 1);
     }
 
-    pub walk_on : same_row (rows (rest - 1)) (rows r) ≡ false → Walk m rows r best u
+    pub walk_on : same_row (rows (rest - 1)) (rows r) ≡ false → Walk rows r best u
     walk_on h = record {
       within = omega (arith, l.within, k.within);
       of_place = l.of-place;
@@ -147,5 +146,20 @@ module _ (rows rows' : ℕ → Row) (n : ℕ) (agree : (q : ℕ) → q < n → r
   unfolding earliest
   earliest_agree w = search_same _ _ n (λ k l. ap (λ (v : Row). if same_row v w then some k else none) (agree k l))
 
+  stands_agree : (w : Row) (m : ℕ) → m ≤ n → stands_before rows m w ≡ stands_before rows' m w
+  unfolding stands_before
+  stands_agree w zero l = refl
+  stands_agree w (suc m) l = ap₂ ◌or◌ (stands_agree w m (omega arith)) (ap (λ (v : Row). same_row v w) (agree m l))
+
+  leads_agree : (w : Row) (m v : ℕ) → m ≤ n → Leads rows w m v → Leads rows' w m v
+  leads_agree w m v h l = record {
+    within = l.within;
+    of_place = λ p. ap place_of (sym (agree (v - 1) (omega (arith, l.within)))) ∙ l.of-place p;
+    same = sym (stands_agree w m h) ∙ l.same ∙ stands_agree w v (omega (arith, l.within));
+  }
+
   pub linked_agree : {next heads : List ℕ} → Linked rows next heads n → Linked rows' next heads n
-  linked_agree {heads = heads} c = record { chained = chained_agree _ _ n (λ q l. ap (place_of (length heads)) (agree q l)) c.chained }
+  linked_agree {next} {heads} c = record {
+    first = λ w. leads_agree w n (get_or heads (place_of w) 0) (omega arith) (c.first w);
+    onward = λ q l w e. leads_agree w q (get_or next q 0) (omega arith) (c.onward q l w (ap place_of (agree q l) ∙ e));
+  }

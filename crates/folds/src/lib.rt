@@ -10,7 +10,6 @@ ghost use Rattle.folds.specs.Folds.{AllSmall, Folds};
 
 use formula::cells;
 use repeats::places;
-use tables::chain;
 
 // Proof row k, with its parts under their new numbers, takes the number of its earliest equal, or stays and takes the next. It is
 // put after the rows that stay, where it is overwritten if it does not. How many rows stay.
@@ -25,19 +24,19 @@ fn step(
     next: &mut [u16],
     heads: &mut [u16],
 ) -> usize
-    requires k_bound { (s + k < 2049) × (count ≤ k) × (4 * k + 3 < length out.old) × (k < length numbers.old) × (2049 ≤ length next.old) × (0 < length heads.old) × (length heads.old ≤ 65536) }
+    requires k_bound { (s + k < 2049) × (count ≤ k) × (4 * k + 3 < length out.old) × (k < length numbers.old) × (2049 ≤ length next.old) × (1024 ≤ length heads.old) }
     requires folds { Folds schema.now s (folding schema.now s proof.now k) count out.old numbers.old next.old heads.old }
     ensures { Folds schema.now s (folding schema.now s proof.now (k + 1)) result out.new numbers.new next.new heads.new }
 {
     row::put(proof, k, s, numbers, out, count);
     let r = s + count;
-    let h = places::place(cells::of_row(schema, s, out, r), heads.len());
+    let h = places::place(cells::of_row(schema, s, out, r));
     let q = links::first(schema, s, out, r, h, next, heads);
     numbers[k] = q as u32;
     if q < r {
         return count;
     }
-    chain::keep(r, h, next, heads);
+    places::keep(r, h, next, heads);
     count + 1
 }
 
@@ -52,7 +51,7 @@ fn each(
     next: &mut [u16],
     heads: &mut [u16],
 ) -> usize
-    requires p_bound { (s + p ≤ 2049) × (4 * p ≤ length out.old) × (p ≤ length numbers.old) × (2049 ≤ length next.old) × (0 < length heads.old) × (length heads.old ≤ 65536) }
+    requires p_bound { (s + p ≤ 2049) × (4 * p ≤ length out.old) × (p ≤ length numbers.old) × (2049 ≤ length next.old) × (1024 ≤ length heads.old) }
     requires folds { Folds schema.now s (folding schema.now s proof.now 0) 0 out.old numbers.old next.old heads.old }
     ensures { Folds schema.now s (folding schema.now s proof.now p) result out.new numbers.new next.new heads.new }
 {
@@ -82,8 +81,8 @@ pub fn fold(
     ensures numbers_after { (numbers.new ≡ padded 0 (length numbers.old) (folding schema.now s proof.now p).numbers) × AllSmall numbers.new }
 {
     let mut next = [0u16; 2049];
-    let mut heads = [0u16; 4096];
-    places::schema_rows(schema, s, out, &mut next, &mut heads);
+    let mut heads = [0u16; 1024];
+    links::schema_rows(schema, s, out, &mut next, &mut heads);
     let count = each(schema, s, proof, p, out, numbers, &mut next, &mut heads);
     signed::clear(out, 4 * count);
     count

@@ -3,7 +3,7 @@ ghost use Rattle.std.specs.Prelude.{◌≡◌};
 ghost use Rattle.tidied.specs.Tidied.{through, new_number};
 ghost use Rattle.folds.specs.Folds.{AllSmall};
 
-use tables::kept::kept_at;
+use formula::kept::kept_at;
 
 // A row's number put through the new numbers, one for each proof row; the s schema rows keep theirs, and a number that names no row,
 // -1, stays.

@@ -30,7 +30,7 @@ use Rattle.formula.specs.Rows.{facts_of, facts_at, both_facts, over_facts, kept_
 use Rattle.formula.specs.declared.rows.Facts.{Facts}
 use Rattle.formula.specs.declared.rows.Judged.{Judged}
 use Rattle.formula.specs.declared.rows.Judged.TheVariants.{Ill, Formed}
-use Rattle.tables.proofs.KeptLaws.{kept_other, kept_length, kept_first, kept_second, kept_third, kept_fourth}
+use Rattle.formula.proofs.KeptLaws.{kept_other, kept_length, kept_first, kept_second, kept_third, kept_fourth}
 
 -- ---- what a function said of a test, and the branch that it led to
 

@@ -9,7 +9,7 @@ use Rattle.stab.specs.Formula.{Row, Formula, tree, offset, base_of, on_index, we
 use Rattle.stab.specs.declared.Finding.{Finding}
 use Rattle.stab.specs.declared.Finding.TheVariants.{Nothing, Found}
 use Rattle.formula.specs.Facts.{bit, AllKnown, AllFormed}
-use Rattle.tables.specs.Kept.{kept}
+use Rattle.formula.specs.Kept.{kept}
 use Rattle.formula.specs.declared.rows.Facts.{Facts}
 use Rattle.formula.specs.declared.rows.Judged.{Judged}
 use Rattle.formula.specs.declared.rows.Judged.TheVariants.{Ill, Formed}

@@ -1,6 +1,8 @@
 // Formula rows: which are well formed, and how large they are.
 pub mod cells;
+pub mod kept;
 pub mod rows;
+pub mod spread;
 
 ghost use Rattle.std.specs.Prelude.{◌≡◌, ◌<◌, ◌^◌, neg_ℤ};
 ghost use Rattle.stab.specs.Basic.{eq_z, nat};

@@ -9,10 +9,9 @@ ghost use Rattle.formula.specs.Cells.{row_of};
 ghost use Rattle.formula.specs.Facts.{bit};
 ghost use Rattle.formula.specs.Rows.{facts_of, facts_at, both_facts, over_facts, kept_if, judged, constant_judged, literal_judged, pair_judged, body_judged, judged_refusal, kept_judged, Summable, Passed};
 
-use crate::cells;
 use crate::cells::Cells;
+use crate::{cells, kept};
 use stab::{Finding, Place, Refusal};
-use tables::kept;
 
 // What is worked out for a row. loose and fixed are 1 where a literal on i stands outside an iteration, and where a literal
 // not on i, or an iteration, stands in it; else 0.

@@ -1,5 +1,5 @@
 // The pass over formula rows: the root and the least value, then each row, then the root again.
-ghost use Rattle.std.specs.Prelude.{◌≡◌, true, false, List, ℕ, ◌+◌, ◌*◌, ◌<◌, ◌≤◌, length, get_or};
+ghost use Rattle.std.specs.Prelude.{◌≡◌, true, false, ℕ, ◌+◌, ◌*◌, ◌<◌, ◌≤◌, length, get_or};
 ghost use Rattle.stab.specs.Basic.{scan};
 ghost use Rattle.stab.specs.Formula.{row_at, formula_rows, tree};
 ghost use Rattle.stab.specs.Lent.{lent_schema};
@@ -9,12 +9,11 @@ ghost use Rattle.formula.specs.Rows.{facts_of, kept_if, facts_table, formulas_ta
 ghost use Rattle.repeats.specs.Places.{Linked};
 
 use formula::rows;
-use repeats::places::schema_rows;
 use repeats::repeats;
 use stab::{Finding, Header, Place, Refusal, SchemaHeader};
 
-// What is found of row r: 7, 8 and, of a proof row that may not repeat, 27. Where that is nothing, its numbers are kept, and the row is the
-// last of its bucket.
+// What is found of row r: 7, 8 and, unless rows may repeat, 27. Where that is nothing, its numbers are kept, and the row is the last of its
+// place.
 fn row(
     older: bool,
     schema: &[i32],
@@ -25,7 +24,7 @@ fn row(
     next: &mut [u16],
     heads: &mut [u16],
 ) -> Finding
-    requires r_bound { (r < 1024) × (4 * r + 3 < length facts.old) × (older ≡ false → (s ≤ r) × (r < length next.old) × (0 < length heads.old) × (length heads.old ≤ 65536)) }
+    requires r_bound { (r < 1024) × (4 * r + 3 < length facts.old) × (older ≡ false → (r < length next.old) × (1024 ≤ length heads.old)) }
     requires passed { Passed (formula_rows schema.now s proof.now) facts.old r }
     requires linked { older ≡ false → Linked (formula_rows schema.now s proof.now) next.old heads.old r }
     ensures value { result ≡ formula_refusal older (formula_rows schema.now s proof.now) s r }
@@ -40,7 +39,7 @@ fn row(
     if older {
         return Finding::Nothing;
     }
-    if repeats(schema, s, proof, r, next, heads) {
+    if repeats(schema, s, proof, s, r, next, heads) {
         return Finding::Found {
             why: Refusal::Repeated,
             place: Place::At(r),
@@ -49,27 +48,24 @@ fn row(
     Finding::Nothing
 }
 
-// What is found first among n rows, of which those before `from` have passed. The table goes on from theirs.
+// What is found first among n rows. The table holds the numbers of each before it.
 fn each(
     older: bool,
     schema: &[i32],
     s: usize,
     proof: &[i32],
-    from: usize,
     n: usize,
     facts: &mut [u32],
     next: &mut [u16],
     heads: &mut [u16],
 ) -> Finding
-    requires from_le_n { (from ≤ n) × (n ≤ 1024) × (4 * n ≤ length facts.old) × (older ≡ false → (s ≤ from) × (n ≤ length next.old) × (0 < length heads.old) × (length heads.old ≤ 65536)) }
-    requires from_value { scan (formula_refusal older (formula_rows schema.now s proof.now) s) from ≡ Nothing }
-    requires passed { Passed (formula_rows schema.now s proof.now) facts.old from }
-    requires linked { older ≡ false → Linked (formula_rows schema.now s proof.now) next.old heads.old from }
+    requires n_bound { (n ≤ 1024) × (4 * n ≤ length facts.old) × (older ≡ false → (n ≤ length next.old) × (1024 ≤ length heads.old)) }
+    requires h_value { older ≡ false → (h : ℕ) → h < 1024 → get_or heads.old h 0 ≡ 0 }
     ensures value { result ≡ scan (formula_refusal older (formula_rows schema.now s proof.now) s) n }
-    ensures passed_2 { scan (formula_refusal older (formula_rows schema.now s proof.now) s) n ≡ Nothing → Passed (formula_rows schema.now s proof.now) facts.new n }
-    ensures by_index { (t : List ℕ) → facts.old ≡ facts_table older (formula_rows schema.now s proof.now) s t from → facts.new ≡ facts_table older (formula_rows schema.now s proof.now) s t n }
+    ensures passed { scan (formula_refusal older (formula_rows schema.now s proof.now) s) n ≡ Nothing → Passed (formula_rows schema.now s proof.now) facts.new n }
+    ensures facts_after { facts.new ≡ facts_table older (formula_rows schema.now s proof.now) s facts.old n }
 {
-    let mut r = from;
+    let mut r: usize = 0;
     while r < n {
         let found = row(older, schema, s, proof, r, facts, next, heads);
         let Finding::Nothing = found else {
@@ -80,75 +76,21 @@ fn each(
     Finding::Nothing
 }
 
-// What is found first among n rows that may repeat: 7 and 8. The table holds the numbers of each before it.
-fn repeating(schema: &[i32], s: usize, proof: &[i32], n: usize, facts: &mut [u32]) -> Finding
-    requires { (n ≤ 1024) × (4 * n ≤ length facts.old) }
-    ensures value { result ≡ scan (formula_refusal true (formula_rows schema.now s proof.now) s) n }
-    ensures passed { scan (formula_refusal true (formula_rows schema.now s proof.now) s) n ≡ Nothing → Passed (formula_rows schema.now s proof.now) facts.new n }
-    ensures facts_after { facts.new ≡ facts_table true (formula_rows schema.now s proof.now) s facts.old n }
-{
-    let mut next = [0u16; 1];
-    let mut heads = [0u16; 1];
-    each(true, schema, s, proof, 0, n, facts, &mut next, &mut heads)
-}
-
-// What is found first among n rows, of which the schema rows have passed and the proof rows may not repeat. What is lent: a number for each
-// row, and one for each bucket, which are 0.
-fn linked(
-    schema: &[i32],
-    s: usize,
-    proof: &[i32],
-    n: usize,
-    facts: &mut [u32],
-    next: &mut [u16],
-    heads: &mut [u16],
-) -> Finding
-    requires s_le_n { (s ≤ n) × (n ≤ 1024) × (4 * n ≤ length facts.old) × (n ≤ length next.old) × (0 < length heads.old) × (length heads.old ≤ 65536) }
-    requires by_index { (h : ℕ) → h < length heads.old → get_or heads.old h 0 ≡ 0 }
-    requires s_value { scan (formula_refusal false (formula_rows schema.now s proof.now) s) s ≡ Nothing }
-    requires passed { Passed (formula_rows schema.now s proof.now) facts.old s }
-    ensures value { result ≡ scan (formula_refusal false (formula_rows schema.now s proof.now) s) n }
-    ensures passed_2 { scan (formula_refusal false (formula_rows schema.now s proof.now) s) n ≡ Nothing → Passed (formula_rows schema.now s proof.now) facts.new n }
-    ensures by_index_2 { (t : List ℕ) → facts.old ≡ facts_table false (formula_rows schema.now s proof.now) s t s → facts.new ≡ facts_table false (formula_rows schema.now s proof.now) s t n }
-{
-    schema_rows(schema, s, proof, next, heads);
-    each(false, schema, s, proof, s, n, facts, next, heads)
-}
-
-// The same with tables that are as large as the rows want.
-fn unrepeated(schema: &[i32], s: usize, proof: &[i32], n: usize, facts: &mut [u32]) -> Finding
-    requires s_le_n { (s ≤ n) × (n ≤ 1024) × (4 * n ≤ length facts.old) }
-    requires s_value { scan (formula_refusal false (formula_rows schema.now s proof.now) s) s ≡ Nothing }
-    requires passed { Passed (formula_rows schema.now s proof.now) facts.old s }
-    ensures value { result ≡ scan (formula_refusal false (formula_rows schema.now s proof.now) s) n }
-    ensures passed_2 { scan (formula_refusal false (formula_rows schema.now s proof.now) s) n ≡ Nothing → Passed (formula_rows schema.now s proof.now) facts.new n }
-    ensures by_index { (t : List ℕ) → facts.old ≡ facts_table false (formula_rows schema.now s proof.now) s t s → facts.new ≡ facts_table false (formula_rows schema.now s proof.now) s t n }
-{
-    if n <= 256 {
-        let mut next = [0u16; 256];
-        let mut heads = [0u16; 512];
-        return linked(schema, s, proof, n, facts, &mut next, &mut heads);
-    }
-    let mut next = [0u16; 1024];
-    let mut heads = [0u16; 4096];
-    linked(schema, s, proof, n, facts, &mut next, &mut heads)
-}
-
-// What is found first among n rows, of which the s schema rows may repeat, and the others in an older record.
+// The same; rows that may not repeat are looked up in tables of their own.
 fn all(older: bool, schema: &[i32], s: usize, proof: &[i32], n: usize, facts: &mut [u32]) -> Finding
-    requires { (s ≤ n) × (n ≤ 1024) × (4 * n ≤ length facts.old) }
+    requires { (n ≤ 1024) × (4 * n ≤ length facts.old) }
     ensures value { result ≡ scan (formula_refusal older (formula_rows schema.now s proof.now) s) n }
     ensures passed { scan (formula_refusal older (formula_rows schema.now s proof.now) s) n ≡ Nothing → Passed (formula_rows schema.now s proof.now) facts.new n }
     ensures facts_after { facts.new ≡ facts_table older (formula_rows schema.now s proof.now) s facts.old n }
 {
     if older {
-        return repeating(schema, s, proof, n, facts);
+        let mut next = [0u16; 1];
+        let mut heads = [0u16; 1];
+        return each(older, schema, s, proof, n, facts, &mut next, &mut heads);
     }
-    let found = repeating(schema, s, proof, s, facts);
-    let Finding::Nothing = found else {
-        return found;
-    };
-    unrepeated(schema, s, proof, n, facts)
+    let mut next = [0u16; 1024];
+    let mut heads = [0u16; 1024];
+    each(older, schema, s, proof, n, facts, &mut next, &mut heads)
 }
 
 // What is found of n rows, of which s are schema rows.

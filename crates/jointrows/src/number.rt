@@ -4,7 +4,7 @@ ghost use Rattle.tidied.specs.Tidied.{new_number};
 ghost use Rattle.folds.specs.Folds.{AllSmall};
 ghost use Rattle.jointrows.specs.Kept.{placed, Gives};
 
-use tables::kept::kept_at;
+use formula::kept::kept_at;
 
 // Where row r goes: t schema rows stand from `base` on, and proof rows from `after` on.
 fn place(t: usize, base: usize, after: usize, r: usize) -> usize

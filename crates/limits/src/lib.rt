@@ -13,8 +13,8 @@ ghost use Rattle.stab.specs.Lent.{lent};
 ghost use Rattle.branch.specs.Lent.{upper, bounded, bound_by, FieldsKnown};
 
 use branch::{node, split, worked};
+use formula::kept;
 use stab::Header;
-use tables::kept;
 
 // Rule 2: K is at least L, and below H, or at most 9998 where there is none.
 fn split_fits(nodes: &[i32], j: usize, l: usize, h: usize) -> bool

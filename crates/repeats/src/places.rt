@@ -1,28 +1,24 @@
-// Rows in buckets by their columns: among the rows of a bucket an equal one is looked for.
-ghost use Rattle.std.specs.Prelude.{◌≡◌, ℕ, ◌<◌, ◌≤◌, length, get_or};
+// Rows of one place, each with the one before it: among them an equal row is looked for.
+ghost use Rattle.std.specs.Prelude.{◌≡◌, ◌+◌, ◌<◌, length, get_or, set};
 ghost use Rattle.stab.specs.Formula.{formula_rows};
 ghost use Rattle.stab.specs.Check.{stands_before};
-ghost use Rattle.tables.specs.Chain.{next_with, heads_with};
 ghost use Rattle.formula.specs.Cells.{row_of};
 ghost use Rattle.repeats.specs.Places.{place_of, Linked};
 
 use crate::row;
-use formula::cells;
 use formula::cells::Cells;
+use formula::kept::number_at;
+use formula::spread::spread;
 use signed::rank;
-use tables::chain;
-use tables::kept::number_at;
-use tables::spread::spread;
 
-// The bucket, one of m, of a row with these columns.
-pub fn place(w: Cells, m: usize) -> usize
-    requires { (0 < m) × (m ≤ 65536) }
-    ensures { (result ≡ place_of m (row_of w)) × (result < m) }
+// The place of a row with these columns.
+pub fn place(w: Cells) -> usize
+    ensures { result ≡ place_of (row_of w) }
 {
-    chain::bucket(spread(rank(w.kind), rank(w.a), rank(w.b), rank(w.c)), m)
+    spread(rank(w.kind), rank(w.a), rank(w.b), rank(w.c)) / 1048576
 }
 
-// A row with the columns of row r, whose bucket is h, stands before it.
+// A row with the columns of row r, whose place is h, stands before it.
 pub fn stands(
     schema: &[i32],
     s: usize,
@@ -32,9 +28,9 @@ pub fn stands(
     next: &[u16],
     heads: &[u16],
 ) -> bool
-    requires r_bound { (r < 1024) × (h < length heads.now) }
+    requires r_bound { r < 1024 }
     requires linked { Linked (formula_rows schema.now s proof.now) next.now heads.now r }
-    requires h_value { h ≡ place_of (length heads.now) (formula_rows schema.now s proof.now r) }
+    requires h_value { h ≡ place_of (formula_rows schema.now s proof.now r) }
     ensures { result ≡ stands_before (formula_rows schema.now s proof.now) r (formula_rows schema.now s proof.now r) }
 {
     let mut rest = number_at(heads, h);
@@ -48,18 +44,12 @@ pub fn stands(
     false
 }
 
-// The schema rows are linked. What is lent: a number for each row, and one for each bucket, which are 0.
-pub fn schema_rows(schema: &[i32], s: usize, proof: &[i32], next: &mut [u16], heads: &mut [u16])
-    requires s_bound { (s ≤ 2049) × (s ≤ length next.old) × (0 < length heads.old) × (length heads.old ≤ 65536) }
-    requires by_index { (h : ℕ) → h < length heads.old → get_or heads.old h 0 ≡ 0 }
-    ensures linked { Linked (formula_rows schema.now s proof.now) next.new heads.new s }
-    ensures next_after { next.new ≡ next_with (λ r. place_of (length heads.old) (formula_rows schema.now s proof.now r)) next.old s }
-    ensures heads_after { heads.new ≡ heads_with (λ r. place_of (length heads.old) (formula_rows schema.now s proof.now r)) heads.old s }
+// Row r is the last of its place.
+pub fn keep(r: usize, h: usize, next: &mut [u16], heads: &mut [u16])
+    requires { (r < 65535) × (r < length next.old) × (h < length heads.old) }
+    ensures next_after { next.new ≡ set next.old r (get_or heads.old h 0) }
+    ensures heads_after { heads.new ≡ set heads.old h (r + 1) }
 {
-    let mut r: usize = 0;
-    while r < s {
-        let h = place(cells::of_row(schema, s, proof, r), heads.len());
-        chain::keep(r, h, next, heads);
-        r += 1;
-    }
+    next[r] = heads[h];
+    heads[h] = (r + 1) as u16;
 }

@@ -15,8 +15,8 @@ use crate::partners;
 use alike::lowered;
 use branch::{node, worked};
 use fields::rules;
+use formula::kept;
 use stab::{Finding, Header, Place, Refusal};
-use tables::kept;
 
 // 11: the set of node j is drawn from its parent's. Node 0 has none.
 fn drawn_fits(

@@ -1,5 +1,5 @@
 // The check of a record, whole or held while it grows.
-ghost use Rattle.std.specs.Prelude.{◌≡◌, [], ℕ, ◌+◌, ◌*◌, ◌<◌, ◌≤◌, ltb, length, get_or};
+ghost use Rattle.std.specs.Prelude.{◌≡◌, [], ℕ, ◌+◌, ◌*◌, ◌≤◌, ltb, length};
 ghost use Rattle.stab.specs.Basic.{◌implies◌, scan};
 ghost use Rattle.stab.specs.Formula.{formula_rows};
 ghost use Rattle.stab.specs.Node.{schema_of};
@@ -91,19 +91,12 @@ fn nodes_pass(
 }
 
 // What two well-formed rows are compared by is kept; the rest of what it is worked out with is not needed again.
-fn classify(
-    schema: &[i32],
-    proof: &[i32],
-    h: Header,
-    forms: &mut [u32],
-    sides: &mut [u32],
-    heads: &mut [u16],
-)
+fn classify(schema: &[i32], proof: &[i32], h: Header, forms: &mut [u32], sides: &mut [u32])
     requires proof_rows_bound { (h.schema_rows + h.proof_rows ≤ 1024) × (4 * (h.schema_rows + h.proof_rows) ≤ length forms.old) × (2 * (h.schema_rows + h.proof_rows) ≤ length sides.old) }
     requires all_formed { AllFormed (formula_rows schema.now h.schema_rows proof.now) (h.schema_rows + h.proof_rows) }
-    requires heads_nonzero { (0 < length heads.old) × (length heads.old ≤ 65536) × ((b : ℕ) → b < length heads.old → get_or heads.old b 0 ≡ 0) }
     ensures { AllClassed (formula_rows schema.now h.schema_rows proof.now) forms.new (h.schema_rows + h.proof_rows) }
 {
+    let mut heads = [0u16; 512];
     classes::work_out(
         schema,
         h.schema_rows,
@@ -111,7 +104,7 @@ fn classify(
         row_count(h),
         forms,
         sides,
-        heads,
+        &mut heads,
     );
 }
 
@@ -150,17 +143,15 @@ fn single_steps(
     sides: &mut [u32],
     work: &mut [u32],
     agreed: &mut [u32],
-    heads: &mut [u16],
 ) -> Finding
     requires proof_rows_bound { (h.schema_rows + h.proof_rows ≤ 1024) × (4 * (h.schema_rows + h.proof_rows) ≤ length forms.old) × (2 * (h.schema_rows + h.proof_rows) ≤ length sides.old) × (h.node_rows ≤ 1024) × (h.member_count ≤ 8192) × (9 * h.node_rows ≤ length nodes.now) × (h.member_count ≤ length members.now) × (4 * h.node_rows ≤ length work.old) }
     requires all_known { AllKnown (formula_rows schema.now h.schema_rows proof.now) facts.now (h.schema_rows + h.proof_rows) × AllFormed (formula_rows schema.now h.schema_rows proof.now) (h.schema_rows + h.proof_rows) }
     requires h_value { passes_refusal m (lent schema.now proof.now nodes.now members.now h) ≡ Nothing }
     requires remembers { Remembers (formula_rows schema.now h.schema_rows proof.now) agreed.old × (h.schema_rows + h.proof_rows ≤ length agreed.old) }
-    requires heads_nonzero { (0 < length heads.old) × (length heads.old ≤ 65536) × ((b : ℕ) → b < length heads.old → get_or heads.old b 0 ≡ 0) }
     ensures { result ≡ scan (node_refusal m.whole (lent schema.now proof.now nodes.now members.now h)) h.node_rows }
 {
     bounds::work_out(nodes, h.node_rows, h.least, work);
-    classify(schema, proof, h, forms, sides, heads);
+    classify(schema, proof, h, forms, sides);
     steps::steps::each_node(
         m.whole, schema, proof, nodes, members, facts, forms, work, h, agreed,
     )
@@ -187,7 +178,6 @@ fn small_record(
     let mut sides = [0u32; 512];
     let mut work = [0u32; 1024];
     let mut agreed = [0u32; 256];
-    let mut heads = [0u16; 512];
     single_steps(
         m,
         schema,
@@ -200,7 +190,6 @@ fn small_record(
         &mut sides,
         &mut work,
         &mut agreed,
-        &mut heads,
     )
 }
 
@@ -225,7 +214,6 @@ fn large_record(
     let mut sides = [0u32; 2048];
     let mut work = [0u32; 4096];
     let mut agreed = [0u32; 1024];
-    let mut heads = [0u16; 2048];
     single_steps(
         m,
         schema,
@@ -238,7 +226,6 @@ fn large_record(
         &mut sides,
         &mut work,
         &mut agreed,
-        &mut heads,
     )
 }
 

@@ -28,7 +28,7 @@ use Rattle.formula.specs.Facts.{bit}
 use Rattle.formula.specs.Rows.{facts_of, facts_at, both_facts, over_facts, kept_if, judged, pair_judged, body_judged, judged_refusal, kept_judged, Summable}
 use Rattle.formula.specs.declared.rows.Facts.{Facts}
 use Rattle.formula.specs.declared.rows.Judged.TheVariants.{Ill, Formed}
-use Rattle.tables.proofs.KeptLaws.{kept_length}
+use Rattle.formula.proofs.KeptLaws.{kept_length}
 use Rattle.formula.proofs.RowLaws.{unknown_kind, facts_same, bit_or_lem, formed_as, pair_same, body_same, judged_refusal_lem, judged_kept, facts_other, facts_here, each_more}
 use Rattle.widerows.specs.WideRows.{wide_facts_of, not_facts, not_judged, wide_judged, WidePassed}
 

@@ -6,7 +6,7 @@ use mathlib.Core.List.{List}
 use lib.IntN.{pos}
 use lib.ListN.{length, set}
 use Rattle.stab.specs.Node.{Bound, bound_of}
-use Rattle.tables.proofs.KeptLaws.{kept_length}
+use Rattle.formula.proofs.KeptLaws.{kept_length}
 use Rattle.branch.specs.Work.{top_of, AllWorked}
 use Rattle.bounds.specs.Bounds.{Stays}
 use Rattle.bounds.proofs.WorkLaws.{parent_before, l_small, rank_small, bound_at, work_more, work_stays}

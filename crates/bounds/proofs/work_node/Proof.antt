@@ -6,7 +6,7 @@ use mathlib.Core.List.{List}
 use lib.IntN.{pos}
 use lib.ListN.{get_or}
 use Rattle.stab.specs.Basic.{nat}
-use Rattle.tables.proofs.KeptLaws.{kept_other}
+use Rattle.formula.proofs.KeptLaws.{kept_other}
 use Rattle.branch.specs.Work.{AllWorked}
 use Rattle.bounds.proofs.WorkLaws.{work_first}
 use Rattle.bounds.proofs.work_node.Statement.{statement}

@@ -2,19 +2,18 @@ use native.Mathlib.Omega.{arith}
 use Prim.Native.Nat.{ℕ, ◌+◌}
 use mathlib.Core.Path.{◌≡◌, sym, ◌∙◌, ap, ap₂}
 use borrow.Author.Rules.{rules}
-use lib.ListN.{length, get_or, set}
+use lib.ListN.{get_or, set}
 use Rattle.stab.specs.Basic.{nat}
 use Rattle.stab.specs.Formula.{Row, formula_rows}
 use Rattle.signed.proofs.Signs.{read_back}
 use Rattle.formula.specs.Cells.{row_of}
-use Rattle.tables.specs.Chain.{latest}
 use Rattle.classes.specs.Class.{class_of}
-use Rattle.classes.specs.Key.{form_of, kept_form, hash_of, hash_at, forms_with, sides_with}
+use Rattle.classes.specs.Key.{form_of, kept_form, hash_of, hash_at, latest, forms_with, sides_with}
 use Rattle.classes.specs.declared.form.Form.{Form}
 use Rattle.classes.proofs.Least.{class_small}
 use Rattle.classes.proofs.ByKind.{kind_small}
 use Rattle.classes.proofs.Forms.{kept_form_lem, form_small}
-use Rattle.classes.proofs.GoingBack.{done_more}
+use Rattle.classes.proofs.GoingBack.{hash_small, done_more}
 use Rattle.classes.proofs.step.Statement.{statement}
 use Rattle.classes.proofs.step.Tie as tie
 
@@ -49,14 +48,13 @@ form_is c =
     ∙ ap (λ (u : Row). kept_form b.args.r u b.args.forms.now) (columns_are c.before.before)
     ∙ kept_form_lem (rows c) b.args.r b.pre.0.0 b.pre.1.0 b.args.forms.now b.pre.1.1.worked
 
-hash_is : (c : tie.After-hash) → let a = (start c.before).args in c.hash.result ≡ hash_at (length a.heads.now) (rows c.before) a.r
+hash_is : (c : tie.After-hash) → c.hash.result ≡ hash_at (rows c.before) (start c.before).args.r
 unfolding hash_at form_of
 hash_is c =
     let f = form_is c.before in
-    let m = length (start c.before).args.heads.now in
-    c.hash.ensures.0
-    ∙ ap (λ (k : ℕ). hash_of m k c.before.of-row2.result.low c.before.of-row2.result.high) (kind_is c.before)
-    ∙ ap (λ (g : Form). hash_of m (nat (rows c.before (start c.before).args.r).kind) g.low g.high) f
+    c.hash.ensures
+    ∙ ap (λ (k : ℕ). hash_of k c.before.of-row2.result.low c.before.of-row2.result.high) (kind_is c.before)
+    ∙ ap (λ (g : Form). hash_of (nat (rows c.before (start c.before).args.r).kind) g.low g.high) f
 
 of_row_requires : tie.Need-of-row-requires
 of_row_requires c κs = search rules
@@ -74,20 +72,20 @@ hash-requires : tie.Need-hash-requires
 hash-requires c κs =
     let b = start c in
     let s = form_small (rows c) b.args.r b.pre.0.0 b.pre.1.0 (form_is c) in
-    (omega (arith, kind_is c, kind_small (rows c) b.args.r (b.pre.1.0 b.args.r (omega arith))), s.2, s.3, b.pre.0.3, b.pre.0.4)
+    (omega (arith, kind_is c, kind_small (rows c) b.args.r (b.pre.1.0 b.args.r (omega arith))), s.2, s.3)
 
 class-of-requires : tie.Need-class-of-requires
 class-of-requires c κs =
     let d = c.before.before.before in
     let b = start d.before in
-    ((b.pre.0.0, kind_is d.before, omega (arith, b.pre.0.1), omega (arith, b.pre.0.2), d.hash.ensures.1), (b.pre.1.0, (b.pre.1.1, (form_is d.before, hash_is d))))
+    ((b.pre.0.0, kind_is d.before, omega (arith, b.pre.0.1), omega (arith, b.pre.0.2), omega (arith, hash_is d, hash_small (rows d.before) b.args.r, b.pre.0.3)), (b.pre.1.0, (b.pre.1.1, (form_is d.before, hash_is d))))
 
 keep-requires : tie.Need-keep-requires
 keep-requires c κs =
     let d = c.before.before.before.before.before.before.before in
     let b = start d.before in
     let s = form_small (rows d.before) b.args.r b.pre.0.0 b.pre.1.0 (form_is d.before) in (
-      (b.pre.0.0, b.pre.0.1, b.pre.0.2, d.hash.ensures.1),
+      (b.pre.0.0, b.pre.0.1, b.pre.0.2, omega (arith, hash_is d, hash_small (rows d.before) b.args.r, b.pre.0.3)),
       (omega (arith, c.before.before.before.class_of.ensures, class_small (rows d.before) b.args.r, b.pre.0.0), s.0, s.1, s.2, s.3),
     )
 
@@ -109,7 +107,8 @@ returns c =
     let a = b.args in
     let f = form_is d.before in
     let h = hash_is d in
-    let first = b.pre.1.1.chained.first _ d.hash.ensures.1 ∙ ap (λ (x : ℕ). latest (hash_at (length a.heads.now) (rows d.before)) x a.r) h in (
+    let small = hash_small (rows d.before) a.r in
+    let first = b.pre.1.1.latest-of _ (omega (arith, h, small)) ∙ ap (λ (x : ℕ). latest (rows d.before) x a.r) h in (
       k.keep.ensures.0
           ∙ ap (λ (m : ℕ). forms_with a.forms.now a.r m d.before.of-row2.result (get_or a.heads.now d.hash.result 0)) e.class_of.ensures
           ∙ ap₂ (forms_with a.forms.now a.r (class_of (rows d.before) a.r)) f first,
@@ -119,7 +118,8 @@ returns c =
           k.keep.ensures.1.1 ∙ ap (λ (x : ℕ). set a.heads.now x (a.r + 1)) h,
           done_more (rows d.before) _ _ _ a.r d.before.of-row2.result d.hash.result
               b.pre.1.1 b.pre.0.1 b.pre.0.2
-              d.hash.ensures.1
+              (omega (arith, h, small))
+              (omega (arith, h, small, b.pre.0.3))
               f
               h
               e.class_of.ensures

@@ -19,7 +19,7 @@ use Rattle.stab.specs.Lent.{lent}
 use Rattle.branch.specs.Lent.{SetHeld}
 use Rattle.branch.proofs.Ascending.{ascending_at}
 use Rattle.branch.proofs.HeldLaws.{set_length, set_at}
-use Rattle.tables.proofs.KeptLaws.{first_at_lem}
+use Rattle.formula.proofs.KeptLaws.{first_at_lem}
 use Rattle.sets.proofs.SetLaws.{all_at, at_all, fails}
 use Rattle.drawn.proofs.DrawnLaws.{drawn_same}
 use Rattle.drawn.proofs.Rests.{next_place}

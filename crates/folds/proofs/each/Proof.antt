@@ -39,7 +39,7 @@ step-requires c κs =
     let a = b.args in
     let l = t.before.loop in
     let i = l.invariant in
-    ((omega (arith, b.pre.0.0, t.loop-test.true), omega (arith, i.5.counted, (counted a.schema.now a.s a.proof.now l.k).few), omega (arith, b.pre.0.1, i.1, t.loop-test.true), omega (arith, b.pre.0.2, i.2, t.loop-test.true), omega (arith, b.pre.0.3, i.3), omega (arith, b.pre.0.4, i.4), omega (arith, b.pre.0.5, i.4)), i.5)
+    ((omega (arith, b.pre.0.0, t.loop-test.true), omega (arith, i.5.counted, (counted a.schema.now a.s a.proof.now l.k).few), omega (arith, b.pre.0.1, i.1, t.loop-test.true), omega (arith, b.pre.0.2, i.2, t.loop-test.true), omega (arith, b.pre.0.3, i.3), omega (arith, b.pre.0.4, i.4)), i.5)
 
 add_k : tie.Need-overflow-add-k invariant_loop decreases_loop
 add_k c =

@@ -37,7 +37,7 @@ slice-aggregate-schema-rows-2 c = search rules
 schema-rows-requires : tie.Need-schema-rows-requires
 schema-rows-requires c κs =
     let b = c.before.before.before.before in
-    ((omega (arith, b.requires.0.0), omega (arith, b.requires.0.0), omega arith, omega arith), λ h l. get_or-replicate 4096 h 0 0 l)
+    ((omega (arith, b.requires.0.0), omega (arith, b.requires.0.0), omega arith), λ h l. get_or-replicate 1024 h 0 0 l)
 
 slice-aggregate-each : tie.Need-slice-aggregate-each
 slice-aggregate-each c = search rules
@@ -50,8 +50,8 @@ each-requires c κs =
     let d = c.before.before.before.before.before.before in
     let b = d.before.before.before.before.before in
     let same = d.schema-rows.auto.1.1.1 in (
-      (b.requires.0.0, b.requires.0.1, b.requires.0.2, omega (arith, same.0), omega (arith, same.1.0), omega (arith, same.1.0)),
-      folds_none _ _ _ _ _ _ _ b.requires.1 d.schema-rows.ensures.0,
+      (b.requires.0.0, b.requires.0.1, b.requires.0.2, omega (arith, same.0), omega (arith, same.1.0)),
+      folds_none _ _ _ _ _ _ _ b.requires.1 d.schema-rows.ensures,
     )
 
 mul-clear : tie.Need-overflow-mul-clear

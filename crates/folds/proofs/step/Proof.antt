@@ -7,7 +7,7 @@ use lib.IntN.{ℤ}
 use lib.ListN.{length}
 use Rattle.stab.specs.Formula.{Row, formula_rows}
 use Rattle.repeats.specs.Places.{place_of, Linked}
-use Rattle.repeats.proofs.Links.{linked_more}
+use Rattle.repeats.proofs.Links.{place_small, linked_more}
 use Rattle.folds.proofs.Steps.{still_linked, number_small, folds_away, folds_stays}
 use Rattle.folds.proofs.step.Statement.{statement}
 use Rattle.folds.proofs.step.Tie as tie
@@ -40,11 +40,14 @@ linked c = still_linked _ _ _ _ _ _ _ _ _ (start c).requires.1 (room c) (table c
 row_few : (c : tie.After-put) → let a = (start c).args in a.s + a.count < 2049
 row_few c = let p = (start c).requires.0 in omega (arith, p.0, p.1)
 
-is_place : (c : tie.After-place) → let a = (start (put_at_lem c)).args in c.place.result ≡ place_of (length a.heads.now) (rows (put_at_lem c) (a.s + a.count))
-is_place c = c.place.ensures.0 ∙ ap (place_of (length (start (put_at_lem c)).args.heads.now)) c.before.of_row.ensures
+is_place : (c : tie.After-place) → let a = (start (put_at_lem c)).args in c.place.result ≡ place_of (rows (put_at_lem c) (a.s + a.count))
+is_place c = c.place.ensures ∙ ap place_of c.before.of_row.ensures
 
 place_within : (c : tie.After-place) → c.place.result < length (start (put_at_lem c)).args.heads.now
-place_within c = c.place.ensures.1
+place_within c =
+    let p = put_at_lem c in
+    let a = (start p).args in
+    omega (arith, is_place c, place_small (rows p (a.s + a.count)), (start p).pre.0.5)
 
 put-requires : tie.Need-put-requires
 put-requires c κs = search rules
@@ -62,7 +65,7 @@ first_requires : tie.Need-first-requires
 first_requires c κs =
     let d = c.before.before.before in
     let p = put_at_lem d in
-    ((row_few p, place_within d), (linked p, is_place d))
+    (row_few p, (linked p, is_place d))
 
 cast-numbers : tie.Need-overflow-cast-numbers
 cast-numbers c =

@@ -38,8 +38,7 @@ repeats-requires : tie.Need-repeats-requires
 repeats-requires c κs =
     let b = c.before.before.before.before.before.before.before.before.before.before.before.before in
     let f = c.before.before.if1.false in
-    let p = b.requires.0.2 f in
-    ((b.requires.0.0, p.1, p.2, p.3), b.requires.1.1 f)
+    ((b.requires.0.0, (b.requires.0.2 f).0, (b.requires.0.2 f).1), b.requires.1.1 f)
 
 same_length_3 : tie.Need-same-length-3
 same_length_3 c = search rules
@@ -56,8 +55,7 @@ returns_3 c =
     let r = c.before.before.before.before.before in
     let h = sym k.step.ensures.0 ∙ c.before.before.before.before.before.before.before.before.before.enum_told.given.1 in
     let f = c.before.before.before.before.before.before.before.before.if1.false in
-    let a = (c.before.before.before.before.before.before.before.before.before.before.before.before.before.before.before.before.before.before.requires.0.2 f).0 in
-    let e = row_repeats _ _ _ _ f a h (sym r.repeats.ensures.0 ∙ c.if2.true) in
+    let e = row_repeats _ _ _ _ f h (sym r.repeats.ensures.0 ∙ c.if2.true) in
     (sym e, (λ q. never refl q, (λ q _. never refl q, k.step.ensures.1.1)))
 
 same-length-6 : tie.Need-same-length-6

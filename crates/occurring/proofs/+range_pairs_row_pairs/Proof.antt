@@ -30,7 +30,7 @@ use Rattle.occurring.proofs.+range_pairs_row_pairs.Lts-range_pairs as range-pair
 use Rattle.occurring.proofs.row_pairs.Reads as row-pairs
 use Rattle.occurring.proofs.row_pairs.Kinds as row-pairs-kinds
 use Rattle.occurring.proofs.+range_pairs_row_pairs.Lts-row_pairs as row-pairs-lts
-use Rattle.tables.proofs.kept.kept_at.Reads as kept-at-reads
+use Rattle.formula.proofs.kept.kept_at.Reads as kept-at-reads
 use Rattle.occurring.proofs.insert.Reads as insert-reads
 use Rattle.occurring.proofs.literal_key.Reads as literal-key-reads
 use Rattle.pairs.proofs.moved.Reads as moved-reads

@@ -5,7 +5,7 @@ use lib.ListN.{length, get_or, set}
 use borrow.Author.Rules.{rules}
 use Rattle.stab.specs.Formula.{Row, formula_rows}
 use Rattle.repeats.specs.Places.{place_of}
-use Rattle.repeats.proofs.Links.{linked_more}
+use Rattle.repeats.proofs.Links.{place_small, linked_more}
 use Rattle.repeats.proofs.repeats.Statement.{statement}
 use Rattle.repeats.proofs.repeats.Tie as tie
 
@@ -16,11 +16,13 @@ start c = c.before.before.before.before
 abbrev rows : tie.Start → ℕ → Row
 rows b = let a = b.args in formula_rows a.schema.now a.s a.proof.now
 
-is_place : (c : tie.After-place) → c.place.result ≡ place_of (length (start c).args.heads.now) (rows (start c) (start c).args.r)
-is_place c = c.place.ensures.0 ∙ ap (place_of (length (start c).args.heads.now)) c.before.of_row.ensures
+is_place : (c : tie.After-place) → c.place.result ≡ place_of (rows (start c) (start c).args.r)
+is_place c = c.place.ensures ∙ ap place_of c.before.of_row.ensures
 
 place_within : (c : tie.After-place) → c.place.result < length (start c).args.heads.now
-place_within c = c.place.ensures.1
+place_within c =
+    let b = start c in
+    omega (arith, is_place c, place_small (rows b b.args.r), b.pre.0.2)
 
 of_row_requires : tie.Need-of-row-requires
 of_row_requires c κs = search rules
@@ -28,11 +30,11 @@ of_row_requires c κs = search rules
 place-requires : tie.Need-place-requires
 place-requires c κs = search rules
 
-stands-requires : tie.Need-stands-requires
-stands-requires c κs =
+again-requires : tie.Need-again-requires
+again-requires c κs =
     let d = c.before.before in
     let b = start d in
-    ((b.pre.0.0, place_within d), (b.pre.1, is_place d))
+    (b.pre.0.0, (b.pre.1, is_place d))
 
 keep-requires : tie.Need-keep-requires
 keep-requires c κs =
@@ -52,7 +54,7 @@ returns c =
     let f = k.before.before.before in
     let d = f.before.before.before in
     let b = start d in (
-      f.stands.ensures,
+      f.again.ensures,
       (
         linked_more (rows b) _ _ b.args.r _ b.pre.1 b.pre.0.1
             (place_within d)
@@ -67,4 +69,4 @@ returns c =
     )
 
 pub repeats_spec : {M : Type 1} → statement M
-repeats_spec = tie.close (tie.spec of_row_requires place-requires stands-requires keep-requires same_length same_length_2 returns)
+repeats_spec = tie.close (tie.spec of_row_requires place-requires again-requires keep-requires same_length same_length_2 returns)

@@ -1,17 +1,15 @@
 use native.Mathlib.Omega.{arith}
 use Prim.Native.Nat.{ℕ, ◌-◌, ◌<◌}
 use mathlib.Core.Path.{◌≡◌, sym, ◌∙◌}
-use lib.ListN.{length}
 use borrow.Author.Rules.{rules}
 use Rattle.stab.specs.Basic.{nat}
 use Rattle.stab.specs.Formula.{Row, formula_rows}
-use Rattle.classes.specs.Key.{hash_at}
-use Rattle.classes.proofs.GoingBack.{Walk, walk_start, walk_end, walk_row, walk_found, walk_falls, walk_next}
+use Rattle.classes.proofs.GoingBack.{Walk, hash_small, walk_start, walk_end, walk_row, walk_found, walk_falls, walk_next}
 use Rattle.classes.proofs.chain.class_of.Statement.{statement}
 use Rattle.classes.proofs.chain.class_of.Tie as tie
 
 abbrev invariant_loop : tie.invariant-loop
-invariant_loop schema s proof r kind f h forms sides heads next₀ next = Walk (hash_at (length heads) (formula_rows schema s proof)) (formula_rows schema s proof) r h next
+invariant_loop schema s proof r kind f h forms sides heads next₀ next = Walk (formula_rows schema s proof) r h next
 
 abbrev decreases_loop : tie.decreases-loop
 decreases_loop schema s proof r kind f h forms sides heads next₀ next = next
@@ -32,7 +30,7 @@ kind_is c = (start c).requires.0.1
 row_below : (c : Turn) → c.before.loop.next - 1 < (start c).args.r
 row_below c =
     let b = start c in
-    walk_row _ (rows c) b.args.r b.pre.0.0 b.pre.1.0 b.args.h c.before.loop.next b.pre.1.1.1.1 c.before.loop.invariant c.loop-test.true
+    walk_row (rows c) b.args.r b.pre.0.0 b.pre.1.0 b.args.h c.before.loop.next b.pre.1.1.1.1 c.before.loop.invariant c.loop-test.true
 
 head-at-requires : tie.Need-head-at-requires invariant_loop decreases_loop
 head-at-requires c κs = search rules
@@ -40,7 +38,7 @@ head-at-requires c κs = search rules
 loop_holds : tie.Need-loop-init invariant_loop decreases_loop
 loop_holds c =
     let b = c.before.before.before.before in
-    walk_start _ _ b.args.r b.requires.0.0 b.requires.1.0 b.args.h _ (c.head_at.ensures ∙ b.requires.1.1.0.chained.first b.args.h b.requires.0.4)
+    walk_start _ b.args.r b.requires.0.0 b.requires.1.0 b.args.h _ (c.head_at.ensures ∙ b.requires.1.1.0.latest-of b.args.h (omega (arith, b.requires.1.1.1.1, hash_small (formula_rows b.args.schema.now b.args.s b.args.proof.now) b.args.r)))
 
 sub-q : tie.Need-overflow-sub-q invariant_loop decreases_loop
 sub-q c = omega arith
@@ -60,7 +58,7 @@ returns c =
     let b = start d in
     c.held_at.ensures.0
     ∙ (b.pre.1.1.0.worked _ (row_below d)).class
-    ∙ walk_found _ (rows d) b.args.r b.pre.0.0 b.pre.1.0 b.args.h _ b.pre.1.1.1.1 d.before.loop.invariant d.loop-test.true (kind_is d) b.pre.1.1.1.0 (b.pre.1.1.0.listed _ (row_below d))
+    ∙ walk_found (rows d) b.args.r b.pre.0.0 b.pre.1.0 b.args.h _ b.pre.1.1.1.1 d.before.loop.invariant d.loop-test.true (kind_is d) b.pre.1.1.1.0 (b.pre.1.1.0.listed _ (row_below d))
     (sym c.before.before.has_key_lem.ensures ∙ c.before.if1.true)
 
 mul-held-at-2 : tie.Need-overflow-mul-held-at-2 invariant_loop decreases_loop
@@ -76,20 +74,20 @@ loop_less : tie.Need-loop-smaller invariant_loop decreases_loop
 loop_less c =
     let d = c.before.before.before in
     let b = start d in
-    walk_falls _ (rows d) b.args.r b.pre.0.0 b.pre.1.0 b.args.h _ b.pre.1.1.1.1 d.before.loop.invariant d.loop-test.true (kind_is d) b.pre.1.1.1.0 (b.pre.1.1.0.listed _ (row_below d)) (c.held-at2.ensures.0 ∙ b.pre.1.1.0.chained.onward _ (row_below d))
+    walk_falls (rows d) b.args.r b.pre.0.0 b.pre.1.0 b.args.h _ b.pre.1.1.1.1 d.before.loop.invariant d.loop-test.true (kind_is d) b.pre.1.1.1.0 (b.pre.1.1.0.listed _ (row_below d)) c.held-at2.ensures.0
 
 loop_again : tie.Need-loop-preserved invariant_loop decreases_loop
 loop_again c =
     let d = c.before.before.before in
     let b = start d in
-    walk_next _ (rows d) b.args.r b.pre.0.0 b.pre.1.0 b.args.h _ b.pre.1.1.1.1 d.before.loop.invariant d.loop-test.true (kind_is d) b.pre.1.1.1.0 (b.pre.1.1.0.listed _ (row_below d))
+    walk_next (rows d) b.args.r b.pre.0.0 b.pre.1.0 b.args.h _ b.pre.1.1.1.1 d.before.loop.invariant d.loop-test.true (kind_is d) b.pre.1.1.1.0 (b.pre.1.1.0.listed _ (row_below d))
     (sym c.before.before.has_key_lem.ensures ∙ c.before.if1.false)
-    (c.held-at2.ensures.0 ∙ b.pre.1.1.0.chained.onward _ (row_below d))
+    c.held-at2.ensures.0
 
 returns_2 : tie.Need-returns-2 invariant_loop decreases_loop
 returns_2 c =
     let b = c.before.before.before.before.before.before in
-    walk_end _ _ b.args.r b.requires.0.0 b.requires.1.0 b.args.h _ b.requires.1.1.1.1 c.before.loop.invariant c.loop-test.false
+    walk_end _ b.args.r b.requires.0.0 b.requires.1.0 b.args.h _ b.requires.1.1.1.1 c.before.loop.invariant c.loop-test.false
 
 pub class_of_spec : {M : Type 1} → statement M
 class_of_spec =

@@ -38,7 +38,7 @@ use Rattle.classes.proofs.agreed.remember.Reads as remember-reads
 use Rattle.classes.proofs.numbers.literals_agree.Reads as literals-agree-reads
 use Rattle.classes.proofs.numbers.ranges_agree.Reads as ranges-agree-reads
 use Rattle.formula.proofs.cells.of_row.Reads as of-row-reads
-use Rattle.tables.proofs.kept.kept_at.Reads as kept-at-reads
+use Rattle.formula.proofs.kept.kept_at.Reads as kept-at-reads
 use Rattle.signed.proofs.natural.Reads as natural-reads
 use Rattle.classes.proofs.compare.+agrees_agrees_anew_gone_down.{statement}
 use Rattle.classes.proofs.compare.+agrees_agrees_anew_gone_down.Tie.{close}

@@ -1,6 +1,6 @@
 use mathlib.Core.Path.{refl}
 use Rattle.formula.specs.Rows.{facts_at}
-use Rattle.tables.proofs.KeptLaws.{first_at_lem}
+use Rattle.formula.proofs.KeptLaws.{first_at_lem}
 use Rattle.formula.proofs.RowLaws.{facts_same}
 use borrow.Author.Rules.{rules}
 use Rattle.formula.proofs.rows.known.Statement.{statement}

@@ -1,5 +1,4 @@
 use native.Mathlib.Omega.{arith}
-use lib.ListN.{get_or-replicate}
 use borrow.Author.Rules.{rules}
 use Rattle.stab.proofs.Findings.{stays, nothing_found, later}
 use Rattle.classes.proofs.Remembering.{nothing_agreed}
@@ -38,23 +37,20 @@ slice-aggregate-single-steps-4 c = search rules
 slice-aggregate-single-steps-5 : tie.Need-slice-aggregate-single-steps-5
 slice-aggregate-single-steps-5 c = search rules
 
-slice-aggregate-single-steps-6 : tie.Need-slice-aggregate-single-steps-6
-slice-aggregate-single-steps-6 c = search rules
-
 single-steps-requires : tie.Need-single-steps-requires
 single-steps-requires c κs =
-    let p = c.before.before.before.before.before.before.before.before.before.before.before.requires in
-    let k = c.before.before.before.before.before.before.before.before.before.passes.ensures in
-    let n = c.before.before.before.before.before.before.enum_told.given.1 in (
+    let p = c.before.before.before.before.before.before.before.before.before.before.requires in
+    let k = c.before.before.before.before.before.before.before.before.passes.ensures in
+    let n = c.before.before.before.before.before.enum_told.given.1 in (
       (omega (arith, p.0), omega (arith, p.0), omega (arith, p.0), omega (arith, p.1), p.2, p.3, p.4, omega (arith, p.1)),
-      ((k.1.0 n, k.1.1 n), (nothing_found _ _ k.0 n, ((nothing_agreed _ 1024, omega (arith, p.0)), (omega arith, omega arith, λ b l. get_or-replicate 2048 b 0 0 l)))),
+      ((k.1.0 n, k.1.1 n), (nothing_found _ _ k.0 n, (nothing_agreed _ 1024, omega (arith, p.0)))),
     )
 
 returns_2 : tie.Need-returns-2
 unfolding later_refusal
 returns_2 c =
-    let found = c.before.before.before.before.before.before.before.before.before.before.before.before.before.before.before.passes.ensures.0 in
-    later _ _ _ (nothing_found _ _ found c.before.before.before.before.before.before.before.before.before.before.before.before.enum_told.given.1) c.before.before.before.before.before.single-steps.ensures
+    let found = c.before.before.before.before.before.before.before.before.before.before.before.before.before.passes.ensures.0 in
+    later _ _ _ (nothing_found _ _ found c.before.before.before.before.before.before.before.before.before.before.enum_told.given.1) c.before.before.before.before.single-steps.ensures
 
 pub large_record_spec : {M : Type 1} → statement M
 large_record_spec =
@@ -70,6 +66,5 @@ large_record_spec =
     slice-aggregate-single-steps-3
     slice-aggregate-single-steps-4
     slice-aggregate-single-steps-5
-    slice-aggregate-single-steps-6
     single-steps-requires
     returns_2)

@@ -28,12 +28,12 @@ unfolding passes_refusal
 nodes_passed s = otherwise_second (rows_refusal s.args.m.older (Lent s)) _ s.requires.1.1.0
 
 -- the least value as it is passed on
-least_is : (c : tie.After-struct-told) → to_z w32 (of_z w32 c.before.before.before.before.before.before.before.before.args.h.least) ≡ c.before.before.before.before.before.before.before.before.args.h.least
-least_is c = read_back c.before.before.before.before.before.before.before.before.args.h.least c.struct_told.given.1.1.1.0.1
+least_is : (c : tie.After-struct-told) → to_z w32 (of_z w32 c.before.before.before.before.before.before.before.args.h.least) ≡ c.before.before.before.before.before.before.before.args.h.least
+least_is c = read_back c.before.before.before.before.before.before.before.args.h.least c.struct_told.given.1.1.1.0.1
 
 work-out-requires : tie.Need-work-out-requires
 work-out-requires c κs =
-    let start = c.before.before.before.before.before.before.before.before in (
+    let start = c.before.before.before.before.before.before.before in (
       start.requires.0.3,
       start.requires.0.7,
       ap (within (pos 0) (pos 9999)) (least_is c) ∙ least_fits (Lent start) _ (rows_passed start),
@@ -46,9 +46,9 @@ classify-requires c κs = search rules
 each-node-requires : tie.Need-each-node-requires
 unfolding rows row_count
 each-node-requires c κs =
-    let start = c.before.before.before.before.before.before.before.before.before.before.before.before.before.before.before.before.before.before.before.before.before.before.before.before in
+    let start = c.before.before.before.before.before.before.before.before.before.before.before.before.before.before.before.before.before.before.before.before in
     let T = Lent start in
-    let w = c.before.before.before.before.before.before.before.before.before.before.before.before.before.before.before in (
+    let w = c.before.before.before.before.before.before.before.before.before.before.before.before in (
       record {
         node_limit = start.requires.0.3;
         member_limit = start.requires.0.4;
@@ -56,12 +56,12 @@ each-node-requires c κs =
         members_held = start.requires.0.6;
         least_fits = least_fits T _ (rows_passed start);
         known = start.requires.1.0.0;
-        compared = record { few = start.requires.0.0; formed = start.requires.1.0.1; worked = c.before.before.before.before.before.before.before.before.before.classify.ensures };
+        compared = record { few = start.requires.0.0; formed = start.requires.1.0.1; worked = c.before.before.before.before.before.before.before.classify.ensures };
         sets = set_fits_lem T _ (nodes_passed start);
         parents = parent_fits_lem T _ (nodes_passed start);
         worked = subst (λ (z : ℤ). AllWorked T.nodes z T.node_rows w.work-out.new.1.1.1.0 T.node_rows) (least_is w.before) w.work-out.ensures.0;
       },
-      start.requires.1.1.1.0,
+      start.requires.1.1.1,
     )
 
 same_length : tie.Need-same-length
@@ -75,9 +75,6 @@ same_length_3 c = search rules
 
 same-length-4 : tie.Need-same-length-4
 same-length-4 c = search rules
-
-same-length-5 : tie.Need-same-length-5
-same-length-5 c = search rules
 
 returns : tie.Need-returns
 returns c = search rules
@@ -93,5 +90,4 @@ single_steps_spec =
     same_length_2
     same_length_3
     same-length-4
-    same-length-5
     returns)

@@ -1,7 +1,7 @@
 use borrow.Author.Rules.{rules}
-use Rattle.tables.specs.Spread.{spread_of}
-use Rattle.tables.proofs.spread.spread.Statement.{statement}
-use Rattle.tables.proofs.spread.spread.Tie as tie
+use Rattle.formula.specs.Spread.{spread_of}
+use Rattle.formula.proofs.spread.spread.Statement.{statement}
+use Rattle.formula.proofs.spread.spread.Tie as tie
 
 mul_low : tie.Need-overflow-mul-low
 mul_low c = search rules

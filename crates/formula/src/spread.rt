@@ -1,6 +1,6 @@
 // One number made of four, by which a table finds what may be equal.
 ghost use Rattle.std.specs.Prelude.{◌≡◌, ◌<◌, ◌^◌};
-ghost use Rattle.tables.specs.Spread.{spread_of};
+ghost use Rattle.formula.specs.Spread.{spread_of};
 
 pub fn spread(a: usize, b: usize, c: usize, d: usize) -> usize
     requires { (a < 2 ^ 32) × (b < 2 ^ 32) × (c < 2 ^ 32) × (d < 2 ^ 32) }

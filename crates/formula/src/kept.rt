@@ -1,6 +1,6 @@
 // What is worked out of each row or node, kept in a lent table, four numbers for each.
 ghost use Rattle.std.specs.Prelude.{◌≡◌, ◌+◌, ◌*◌, ◌<◌, ◌^◌, length, get_or};
-ghost use Rattle.tables.specs.Kept.{kept};
+ghost use Rattle.formula.specs.Kept.{kept};
 
 // What is kept at i, and 0 past the end.
 pub fn kept_at(t: &[u32], i: usize) -> usize

@@ -1,7 +1,7 @@
 use borrow.Author.Rules.{rules}
 use mathlib.Core.Path.{refl}
-use Rattle.tables.proofs.chain.keep.Statement.{statement}
-use Rattle.tables.proofs.chain.keep.Tie as tie
+use Rattle.repeats.proofs.places.keep.Statement.{statement}
+use Rattle.repeats.proofs.places.keep.Tie as tie
 
 mul_next : tie.Need-overflow-mul-next
 mul_next c = search rules

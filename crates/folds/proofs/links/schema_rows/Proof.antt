@@ -4,41 +4,36 @@ use Prim.Native.Nat.{ℕ, ◌-◌, ◌<◌, ◌≤◌}
 use mathlib.Core.Path.{◌≡◌, refl, ◌∙◌, ap, subst}
 use lib.ListN.{length}
 use Rattle.stab.specs.Formula.{Row, formula_rows}
-use Rattle.tables.specs.Chain.{latest, next_with, heads_with}
-use Rattle.tables.proofs.ChainLaws.{next_more, heads_more}
 use Rattle.repeats.specs.Places.{place_of, Linked}
-use Rattle.repeats.proofs.Links.{linked_none, linked_more}
-use Rattle.repeats.proofs.places.schema_rows.Statement.{statement}
-use Rattle.repeats.proofs.places.schema_rows.Tie as tie
+use Rattle.repeats.proofs.Links.{place_small, linked_none, linked_more}
+use Rattle.folds.proofs.links.schema_rows.Statement.{statement}
+use Rattle.folds.proofs.links.schema_rows.Tie as tie
 
 abbrev invariant_loop : tie.invariant-loop
-invariant_loop schema s proof next₀ heads₀ r₀ next heads r =
-    (r ≤ s)
-    × (length next ≡ length next₀)
-    × (length heads ≡ length heads₀)
-    × Linked (formula_rows schema s proof) next heads r
-    × (next ≡ next_with (λ q. place_of (length heads₀) (formula_rows schema s proof q)) next₀ r)
-    × (heads ≡ heads_with (λ q. place_of (length heads₀) (formula_rows schema s proof q)) heads₀ r)
+invariant_loop schema s table next₀ heads₀ r₀ next heads r =
+    (r ≤ s) × (length next ≡ length next₀) × (length heads ≡ length heads₀) × Linked (formula_rows schema s table) next heads r
 
 abbrev decreases_loop : tie.decreases-loop
-decreases_loop schema s proof next₀ heads₀ r₀ next heads r = s - r
+decreases_loop schema s table next₀ heads₀ r₀ next heads r = s - r
 
 -- where the place of a row is known
 abbrev start : tie.After-place invariant_loop decreases_loop → tie.Start invariant_loop decreases_loop
 start c = c.before.before.before.before.before.before
 
 abbrev rows : tie.Start invariant_loop decreases_loop → ℕ → Row
-rows b = let a = b.args in formula_rows a.schema.now a.s a.proof.now
+rows b = let a = b.args in formula_rows a.schema.now a.s a.table.now
 
-is_place : (c : tie.After-place invariant_loop decreases_loop) → let l = c.before.before.before.loop in c.place.result ≡ place_of (length l.heads) (rows (start c) l.r)
-is_place c = c.place.ensures.0 ∙ ap (place_of (length c.before.before.before.loop.heads)) c.before.of_row.ensures
+is_place : (c : tie.After-place invariant_loop decreases_loop) → c.place.result ≡ place_of (rows (start c) c.before.before.before.loop.r)
+is_place c = c.place.ensures ∙ ap place_of c.before.of_row.ensures
 
 place_within : (c : tie.After-place invariant_loop decreases_loop) → c.place.result < length c.before.before.before.loop.heads
-place_within c = c.place.ensures.1
+place_within c =
+    let b = start c in
+    let l = c.before.before.before.loop in
+    omega (arith, is_place c, place_small (rows b l.r), b.pre.0.2, l.invariant.2)
 
 loop_holds : tie.Need-loop-init invariant_loop decreases_loop
-unfolding next_with heads_with
-loop_holds c = let b = c.before.before in (omega arith, refl, refl, linked_none _ _ _ b.requires.1, refl, refl)
+loop_holds c = let b = c.before.before in (omega arith, refl, refl, linked_none _ _ _ b.requires.1)
 
 of_row_requires : tie.Need-of-row-requires invariant_loop decreases_loop
 of_row_requires c κs = let b = c.before.before.before.before in omega (arith, b.requires.0.0, c.loop-test.true)
@@ -66,18 +61,11 @@ loop_again c =
     let k = c.before.before.before.before in
     let d = k.before.before.before in
     let l = d.before.before.before.loop in
-    let b = start d in
-    let in-bucket = is_place d ∙ ap (λ (m : ℕ). place_of m (rows b l.r)) l.invariant.2 in
-    let before =
-    l.invariant.3.chained.first _ (place_within d)
-    ∙ ap (λ (m : ℕ). latest (λ q. place_of m (rows b q)) d.place.result l.r) l.invariant.2
-    ∙ ap (λ (h : ℕ). latest (λ q. place_of (length b.args.heads.now) (rows b q)) h l.r) in-bucket in (
+    let b = start d in (
       omega (arith, d.before.before.loop-test.true),
       k.keep.auto.1.1.0 ∙ l.invariant.1,
       k.keep.auto.1.1.1.0 ∙ l.invariant.2,
       linked_more (rows b) _ _ l.r _ l.invariant.3 (omega (arith, b.pre.0.1, d.before.before.loop-test.true, l.invariant.1)) (place_within d) (is_place d) k.keep.ensures.0 k.keep.ensures.1,
-      next_more _ _ _ l.invariant.4 before k.keep.ensures.0,
-      heads_more _ _ _ l.invariant.5 in-bucket k.keep.ensures.1,
     )
 
 same_length : tie.Need-same-length invariant_loop decreases_loop
@@ -91,7 +79,7 @@ returns c =
     let b = c.before.before.before.before in
     let l = c.before.loop in
     let e : l.r ≡ b.args.s = omega (arith, c.loop-test.false, l.invariant.0) in
-    (subst (Linked (rows b) l.next l.heads) e l.invariant.3, (l.invariant.4 ∙ ap (next_with _ _) e, l.invariant.5 ∙ ap (heads_with _ _) e))
+    subst (Linked (rows b) l.next l.heads) e l.invariant.3
 
 pub schema_rows_spec : {M : Type 1} → statement M
 schema_rows_spec =

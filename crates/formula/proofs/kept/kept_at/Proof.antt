@@ -2,8 +2,8 @@ use borrow.Author.Rules.{rules}
 use native.Mathlib.Omega.{arith}
 use mathlib.Core.Path.{refl, sym}
 use lib.ListN.{get_or-eq_default}
-use Rattle.tables.proofs.kept.number_at.Statement.{statement}
-use Rattle.tables.proofs.kept.number_at.Tie as tie
+use Rattle.formula.proofs.kept.kept_at.Statement.{statement}
+use Rattle.formula.proofs.kept.kept_at.Tie as tie
 
 mul-result : tie.Need-overflow-mul-result
 mul-result c = search rules
@@ -15,11 +15,11 @@ cast-result : tie.Need-overflow-cast-result
 cast-result c = omega (arith, c.shared-slice-known.given c.before.before.args.i)
 
 returns : tie.Need-returns
-returns c = refl
+returns c = (refl, omega (arith, c.shared-slice-known.given c.before.before.args.i))
 
 returns_2 : tie.Need-returns-2
-returns_2 c = sym (get_or-eq_default c.before.args.t.now 0 c.if1.false)
+returns_2 c = (sym (get_or-eq_default c.before.args.t.now 0 c.if1.false), omega arith)
 
-pub number_at_spec : {M : Type 1} → statement M
-number_at_spec =
+pub kept_at_spec : {M : Type 1} → statement M
+kept_at_spec =
     tie.close (tie.spec mul-result shared-slice-read-result cast-result returns returns_2)

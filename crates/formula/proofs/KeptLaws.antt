@@ -5,7 +5,7 @@ use mathlib.Core.Path.{◌≡◌, ◌∙◌, ap}
 use mathlib.Core.List.{List}
 use lib.ListN.{length, get_or, set, length-set}
 use lib.Seq.{get_or-set_same, get_or-set_other}
-use Rattle.tables.specs.Kept.{kept}
+use Rattle.formula.specs.Kept.{kept}
 
 -- the first of the four, by its place
 pub first_at_lem : (t : List ℕ) (i : ℕ) → get_or t (4 * i + 0) 0 ≡ get_or t (4 * i) 0

@@ -1,10 +1,10 @@
 use native.Mathlib.Omega.{arith}
 use mathlib.Core.Path.{refl}
 use lib.ListN.{length-set}
-use Rattle.tables.specs.Kept.{kept}
+use Rattle.formula.specs.Kept.{kept}
 use borrow.Author.Rules.{rules}
-use Rattle.tables.proofs.kept.keep.Statement.{statement}
-use Rattle.tables.proofs.kept.keep.Tie as tie
+use Rattle.formula.proofs.kept.keep.Statement.{statement}
+use Rattle.formula.proofs.kept.keep.Tie as tie
 
 mul_at : tie.Need-overflow-mul-at
 mul_at c = search rules
