@@ -1,2 +1,4 @@
 // The lowered rows of a link.
+#![tactic(auto)]
+
 pub mod lowered;

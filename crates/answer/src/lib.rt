@@ -1,4 +1,6 @@
 // Answers as the paper's numbers.
+#![tactic(auto)]
+
 ghost use Rattle.std.specs.Prelude.{◌≡◌};
 ghost use Rattle.stab.specs.Answer.{refusal_number, place_code, packed, Packs};
 ghost use Rattle.answer.specs.Near.{Coded};

@@ -1,5 +1,7 @@
 // The least number of an assignment that makes a schema true. One walk over the formula rows gives the values of 4,096
 // assignments, as the digits of 64 words. The length of a lent array is not known where a function begins, so it is asked for.
+#![tactic(auto)]
+
 ghost use Rattle.std.specs.Prelude.{◌≡◌, ◌+◌, ◌*◌, ◌<◌, ◌≤◌, ◌%◌, ◌^◌, eqb, length, get_or, take, pos};
 ghost use Rattle.stab.specs.Basic.{all_of, nat};
 ghost use Rattle.stab.specs.Formula.{row_at, tree};

@@ -1,4 +1,6 @@
 // What is worked out once for each node: its rank, its bound, its number of children.
+#![tactic(auto)]
+
 ghost use Rattle.std.specs.Prelude.{◌≡◌, true, ◌++◌, ◌+◌, ◌*◌, ◌<◌, ◌≤◌, ◌^◌, pos, get_or, length, drop};
 ghost use Rattle.stab.specs.Basic.{within};
 ghost use Rattle.stab.specs.Node.{Bound, node_at, child_bound};

@@ -1,4 +1,6 @@
 // The nodes of a tableau: their numbers, members, splits and links.
+#![tactic(auto)]
+
 pub mod links;
 pub mod member;
 pub mod node;

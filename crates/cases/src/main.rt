@@ -1,5 +1,7 @@
 // The paper's cases that no lemma computes, and the shipped records, through the functions that the programs are made of:
 // a line for each, its name and the four numbers.
+#![tactic(auto)]
+
 use libc::STDOUT_FILENO;
 
 // The record's schema with root 3.

@@ -1,4 +1,6 @@
 // The model check program: reads schema.txt and model.txt, prints the verdict, and shows the line that a refusal points to.
+#![tactic(auto)]
+
 use libc::STDOUT_FILENO;
 
 fn main() {

@@ -1,4 +1,6 @@
 // The check program for older records, whose proof rows may repeat: reads schema.txt and proof.txt, prints the verdict, and shows the line that a refusal points to.
+#![tactic(auto)]
+
 use libc::STDOUT_FILENO;
 
 fn main() {

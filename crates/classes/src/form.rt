@@ -11,7 +11,7 @@ use crate::held::held_at;
 use formula::cells::Cells;
 
 // The shift, 0 where there is none; the leading part; and the two numbers that, with the kind, decide the class.
-#[derive(Drop)]
+#[derive(Clone, Copy)]
 pub struct Form {
     pub shift: usize,
     pub lead: usize,

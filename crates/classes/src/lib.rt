@@ -1,4 +1,6 @@
 // Classes of formula rows that are alike up to one shift, worked out once for each row.
+#![tactic(auto)]
+
 mod agreed;
 mod chain;
 pub mod compare;

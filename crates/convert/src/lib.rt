@@ -1,4 +1,6 @@
 // 02, No. 1: the converter of wide schemata.
+#![tactic(auto)]
+
 mod rows;
 
 ghost use Rattle.std.specs.Prelude.{◌≡◌, [], ◌*◌, ◌≤◌, pos, length};

@@ -13,7 +13,7 @@ use formula::kept::kept_at;
 use formula::{A, B, C};
 
 // The rows that stand for a wide row and for its negation.
-#[derive(Drop)]
+#[derive(Clone, Copy)]
 pub struct Stands {
     pub own: usize,
     pub negated: usize,

@@ -1,4 +1,6 @@
 // Numbers in decimal: how long they are, and their digits written into the front of an output.
+#![tactic(auto)]
+
 ghost use Rattle.std.specs.Prelude.{◌≡◌, true, ◌≤◌, length};
 ghost use Rattle.stab.specs.Text.{digits_n, decimal, five_digits};
 ghost use Rattle.digits.specs.Over.{over};

@@ -1,4 +1,6 @@
 // What a child's set is drawn from: refusal 11.
+#![tactic(auto)]
+
 ghost use Rattle.std.specs.Prelude.{◌≡◌, [], ◌∷◌, ◌+◌, ◌-◌, ◌<◌, ◌≤◌, ◌^◌, pos, get_or, length, take, drop};
 ghost use Rattle.stab.specs.Basic.{nat, has};
 ghost use Rattle.stab.specs.Formula.{formula_rows};

@@ -1,4 +1,6 @@
 // Enquiry and commit: a row is judged before the engineer settles on it, and waits in lent memory.
+#![tactic(auto)]
+
 mod memory;
 
 ghost use Rattle.std.specs.Prelude.{◌≡◌, true, length};

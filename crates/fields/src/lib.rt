@@ -1,4 +1,6 @@
 // A node's fields against the rule table: refusal 12.
+#![tactic(auto)]
+
 pub mod rules;
 
 ghost use Rattle.std.specs.Prelude.{◌≡◌, true, ◌+◌, ◌<◌, ◌≤◌, ◌^◌};

@@ -1,4 +1,6 @@
 // What the programs do with files: a text is read whole, and the line at fault is shown. What is read and what is written no contract can say.
+#![tactic(auto)]
+
 ghost use Rattle.std.specs.Prelude.{◌≡◌, length, replicate};
 ghost use Rattle.io.specs.Counts.{IsPrefixLen};
 ghost use Rattle.line.specs.LineParts.{named};

@@ -1,4 +1,6 @@
 // A failing width, shown: the first assignment that makes a schema true at n.
+#![tactic(auto)]
+
 ghost use Rattle.std.specs.Prelude.{◌≡◌, ◌+◌, ◌*◌, ◌<◌, ◌≤◌, pos, length, take, get_or};
 ghost use Rattle.stab.specs.Basic.{if◌then◌else◌};
 ghost use Rattle.stab.specs.Lent.{lent_schema};

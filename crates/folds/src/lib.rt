@@ -1,4 +1,6 @@
 // Proof rows folded into their earliest equals, found by links between rows that may be equal.
+#![tactic(auto)]
+
 mod links;
 pub mod number;
 pub mod row;

@@ -3,7 +3,7 @@ ghost use Rattle.std.specs.Prelude.{◌≡◌, ◌<◌, ◌^◌};
 ghost use Rattle.stab.specs.Formula.{row_at, formula_rows};
 ghost use Rattle.formula.specs.Cells.{row_of};
 
-#[derive(Drop)]
+#[derive(Clone, Copy)]
 pub struct Cells {
     pub kind: i32,
     pub a: i32,

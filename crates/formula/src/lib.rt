@@ -1,4 +1,6 @@
 // Formula rows: which are well formed, and how large they are.
+#![tactic(auto)]
+
 pub mod cells;
 pub mod kept;
 pub mod rows;

@@ -15,7 +15,7 @@ use stab::{Finding, Place, Refusal};
 
 // What is worked out for a row. loose and fixed are 1 where a literal on i stands outside an iteration, and where a literal
 // not on i, or an iteration, stands in it; else 0.
-#[derive(Drop)]
+#[derive(Clone, Copy)]
 pub struct Facts {
     pub size: u32,
     pub depth: u32,
@@ -33,7 +33,7 @@ pub const LOOSE: usize = 2;
 pub const FIXED: usize = 3;
 
 // What is found of a row before its size is looked at.
-#[derive(Drop)]
+#[derive(Clone, Copy)]
 pub enum Judged {
     Ill,
     Formed(Facts),

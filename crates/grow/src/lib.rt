@@ -1,4 +1,6 @@
 // A tableau that grows row by row in lent tables. Each call puts the rows held under the check first.
+#![tactic(auto)]
+
 mod children;
 mod row;
 

@@ -1,4 +1,6 @@
 // One record for either fault: two accepted records joined into one, under the or of their roots.
+#![tactic(auto)]
+
 ghost use Rattle.std.specs.Prelude.{◌≡◌, true};
 ghost use Rattle.stab.specs.Lent.{lent};
 ghost use Rattle.stab.specs.declared.Finding.TheVariants.{Nothing};

@@ -1,4 +1,6 @@
 // The nodes of two records with their sets as those of one, under a node of rule 1 on the or.
+#![tactic(auto)]
+
 mod node;
 
 ghost use Rattle.std.specs.Prelude.{◌≡◌, [], ◌+◌, ◌<◌, ◌≤◌, leb, pos, length};

@@ -1,4 +1,6 @@
 // Why two records are not joined, as far as that is known before anything is written; and a refusal.
+#![tactic(auto)]
+
 mod measure;
 
 ghost use Rattle.std.specs.Prelude.{◌≡◌, [], pos, length};

@@ -1,4 +1,6 @@
 // The formula rows of two records as those of one: the schema rows of both and the or of their roots, and the proof rows of both, tidied.
+#![tactic(auto)]
+
 mod number;
 mod row;
 

@@ -1,4 +1,6 @@
 // One column of a formula row against another's.
+#![tactic(auto)]
+
 ghost use Rattle.std.specs.Prelude.{◌≡◌, ◌<◌, ◌^◌, pos, get_or};
 ghost use Rattle.stab.specs.Basic.{eq_z};
 ghost use Rattle.stab.specs.Formula.{formula_rows};

@@ -1,5 +1,7 @@
 // A node's bound against its rule, and the index of a clash: refusal 14.
 // A sum of table numbers is compared by natural parts: what lies below 0 goes to the other side.
+#![tactic(auto)]
+
 ghost use Rattle.std.specs.Prelude.{◌≡◌, true, [], ◌+◌, ◌<◌, ◌≤◌, ◌^◌, pos, ◌+ℤ◌};
 ghost use Rattle.std.specs.Int.Signed.{le_z};
 ghost use Rattle.stab.specs.Basic.{◌and◌, eq_z, nat};

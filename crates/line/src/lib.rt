@@ -1,4 +1,6 @@
 // A line of a text by its number, handed over as that very part of the text; and the numbers of lines.
+#![tactic(auto)]
+
 ghost use Rattle.std.specs.Prelude.{◌≡◌, ◌+◌, ◌≤◌, ◌<◌, ◌^◌, length, drop};
 ghost use Rattle.stab.specs.Text.{lines};
 ghost use Rattle.stab.specs.LineNumber.{span_from, line_span, line_of, schema_row_line, proof_row_line, node_line};
@@ -38,7 +40,7 @@ fn start_of(text: &[u8], k: usize) -> usize
 }
 
 // Where a line stands in its text: its start, and its length without its byte 10.
-#[derive(Drop)]
+#[derive(Clone, Copy)]
 pub struct Span {
     pub start: usize,
     pub len: usize,

@@ -1,4 +1,6 @@
 // All small schemata: from a table on the list to the next one.
+#![tactic(auto)]
+
 mod list;
 mod rows;
 

@@ -7,7 +7,7 @@ ghost use Rattle.small.specs.Fits.{columns};
 ghost use Rattle.nextsmall.specs.Places.{as_row, RowPlace};
 
 // The four numbers of a row.
-#[derive(Drop)]
+#[derive(Clone, Copy)]
 pub struct Columns {
     pub kind: i32,
     pub a: i32,

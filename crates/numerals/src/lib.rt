@@ -1,4 +1,6 @@
 // Parts of a line: headings; and numbers, the bytes of a field, its digits, and what goes into a lent table.
+#![tactic(auto)]
+
 ghost use Rattle.std.specs.Prelude.{◌≡◌, true, ◌+◌, ◌≤◌, pos, length, get_or, drop, set};
 ghost use Rattle.stab.specs.Text.{lacks};
 ghost use Rattle.numerals.specs.Headings.{after_heading};
@@ -38,7 +40,7 @@ pub fn heading(text: &[u8], at: usize, h: &[u8]) -> usize
 }
 
 // Digits that were read: the number that they stand for, and the place after them.
-#[derive(Drop)]
+#[derive(Clone, Copy)]
 pub struct Run {
     pub value: usize,
     pub next: usize,
@@ -68,7 +70,7 @@ fn digits(text: &[u8], at: usize, first: usize) -> Run
 
 // A natural number that is the whole of a field: the place after the field's end, and the space or byte 10 that ends it.
 // All 0 where there is no such number.
-#[derive(Drop)]
+#[derive(Clone, Copy)]
 pub struct Numeral {
     pub value: usize,
     pub next: usize,
@@ -153,7 +155,7 @@ pub fn put_natural(table: &mut [i32], k: usize, v: usize)
 }
 
 // What reading a number comes to: none, or one that the line goes on after, or the line's last; and the place to read on from.
-#[derive(Drop)]
+#[derive(Clone, Copy)]
 pub enum Step {
     Bad,
     More(usize),

@@ -1,4 +1,6 @@
 // What the two texts of a record come to: each is read into tables, the schema first, and what was read is checked.
+#![tactic(auto)]
+
 ghost use Rattle.std.specs.Prelude.{◌≡◌};
 ghost use Rattle.stab.specs.Read.{read_proof, read_model};
 ghost use Rattle.outcome.specs.Outcomes.{verdict_of, check_outcome, check_after, model_outcome, model_after};
@@ -7,7 +9,7 @@ use stab::{Header, ModelRead, Place, ProofRead, Refusal, SchemaHeader, SchemaRea
 use text::read;
 
 // The first text or the second is refused in reading; or both are read, and the verdict stands beside the counts of their formula rows.
-#[derive(Drop)]
+#[derive(Clone, Copy)]
 pub enum Outcome {
     First {
         why: Refusal,

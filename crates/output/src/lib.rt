@@ -1,5 +1,7 @@
 // Rows put as lines into a lent output. Each function is lent what is left of the output, writes into its front, and
 // says how many bytes it wrote.
+#![tactic(auto)]
+
 ghost use Rattle.std.specs.Prelude.{◌≡◌, true, ◌∷◌, [], ◌++◌, ◌≤◌, length, replicate};
 ghost use Rattle.stab.specs.Basic.{all_of};
 ghost use Rattle.stab.specs.Text.{five_digits, row_line, heading_line};

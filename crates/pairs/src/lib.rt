@@ -1,6 +1,8 @@
 // The pairs of a model: in order and range, and the values that they give a symbol at up to 63 numbers, as the digits of
 // one. An index can be negative: it is carried as a natural number 65536 above it (specs/Index.antt), so that no arithmetic
 // here is signed.
+#![tactic(auto)]
+
 ghost use Rattle.std.specs.Prelude.{◌≡◌, ◌+◌, ◌<◌, ◌≤◌, ◌^◌, pos, neg_ℤ, ◌+ℤ◌, true, get_or};
 ghost use Rattle.stab.specs.Basic.{◌and◌, within, scan};
 ghost use Rattle.stab.specs.Model.{listed, pair_in_range, pair_follows, pair_refusal};

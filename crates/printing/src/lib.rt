@@ -1,4 +1,6 @@
 // A verdict as it is printed: a heading, and the paper's four numbers.
+#![tactic(auto)]
+
 ghost use Rattle.std.specs.Prelude.{◌≡◌, true, ◌≤◌, length};
 ghost use Rattle.stab.specs.Basic.{all_of};
 ghost use Rattle.stab.specs.Text.{five_digits, padded};

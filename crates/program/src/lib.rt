@@ -1,4 +1,6 @@
 // The programs as functions: two texts in, read and checked once, the verdict and the line at fault out, and the verdict as it is printed.
+#![tactic(auto)]
+
 mod fault;
 
 ghost use Rattle.std.specs.Prelude.{◌≡◌, length};
@@ -11,7 +13,7 @@ use printing::print;
 use stab::{Fault, Verdict};
 
 // What two texts come to: the verdict, and where its refusal points.
-#[derive(Drop)]
+#[derive(Clone, Copy)]
 pub struct Judgement {
     pub verdict: Verdict,
     pub fault: Fault,
@@ -40,7 +42,7 @@ pub fn check_model(schema: &[u8], model: &[u8]) -> Judgement
 }
 
 // What a program tells: how many bytes it prints, and where the refusal points.
-#[derive(Drop)]
+#[derive(Clone, Copy)]
 pub struct Told {
     pub bytes: usize,
     pub fault: Fault,

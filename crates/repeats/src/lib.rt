@@ -1,4 +1,6 @@
 // Proof rows written twice, found by links between rows that may be equal.
+#![tactic(auto)]
+
 pub mod places;
 pub mod row;
 

@@ -1,5 +1,7 @@
 // Ways there and back: a text is read and written again, rows are written and read again. After a refusal in either step all
 // lent memory is 0, what the other step left there too.
+#![tactic(auto)]
+
 ghost use Rattle.std.specs.Prelude.{◌≡◌, ◌*◌, leb, pos, length, take};
 ghost use Rattle.stab.specs.Basic.{◌and◌};
 ghost use Rattle.stab.specs.Read.{read_schema, schema_table, read_proof, proof_table, node_table, member_table, read_model, pair_table};

@@ -1,4 +1,6 @@
 // The sets of nodes: where they lie, in which order, and of which rows.
+#![tactic(auto)]
+
 pub mod parents;
 
 ghost use Rattle.std.specs.Prelude.{◌≡◌, ◌+◌, ◌*◌, ◌<◌, ◌≤◌, ◌^◌, pos, length, take, drop};

@@ -1,4 +1,6 @@
 // A line as the programs show it: its file's name, its number, the line.
+#![tactic(auto)]
+
 ghost use Rattle.std.specs.Prelude.{◌≡◌, ◌++◌, ◌+◌, ◌≤◌, leb, pos, length};
 ghost use Rattle.stab.specs.Text.{bytes, decimal, padded};
 ghost use Rattle.digits.specs.Over.{over};

@@ -1,5 +1,7 @@
 // The one leaf with signed numbers: what stands in a lent table, taken apart into naturals; numbers made of naturals; a lent
 // table cleared.
+#![tactic(auto)]
+
 ghost use Rattle.std.specs.Prelude.{◌≡◌, get_or, length, pos, negsuc, neg_ℤ, ◌-ℤ◌, ◌<◌, ◌≤◌, ◌^◌};
 ghost use Rattle.std.specs.Int.Signed.{lt_z};
 ghost use Rattle.stab.specs.Basic.{eq_z, nat};

@@ -49,11 +49,11 @@ inside_trans {C} {B} {A} i k = record {
 
 module _ (T : Tableau) (parents : (k : ℕ) → k < T.node_rows → KeepsParent T k) where
   -- a node's range lies within its ancestors'
-  pub ancestor_inside : (j : ℕ) → j < T.node_rows → RightSplits T parents j → {i : ℕ} → Ancestor T.nodes i j → Inside (bound T j) (bound T i)
-  ancestor_inside j l splits {i} (parent e) = parent_inside T parents j i l splits e
-  ancestor_inside j l splits {i} (further {k = k} e a) =
+  pub ancestor_inside : {i : ℕ} (j : ℕ) → j < T.node_rows → RightSplits T parents j → Ancestor T.nodes i j → Inside (bound T j) (bound T i)
+  ancestor_inside {i = i} j l splits (parent e) = parent_inside T parents j i l splits e
+  ancestor_inside {i = i} j l splits (further {k = k} e a) =
       let m : k < j = parent_below T j k (parents j l) e in
-      inside_trans (parent_inside T parents j k l splits e) (ancestor_inside k (omega arith) (λ h p. splits h (omega arith)) a)
+      inside_trans (parent_inside T parents j k l splits e) (ancestor_inside {i = i} k (omega arith) (λ h p. splits h (omega arith)) a)
 
   -- ---- what the tests of 13 and 14 say
 

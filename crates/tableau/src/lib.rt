@@ -1,2 +1,4 @@
 // The check.
+#![tactic(auto)]
+
 pub mod check;

@@ -12,7 +12,7 @@ use crate::{nodes, rows};
 use stab::heading;
 
 // A line that is awaited, with how much was read before it; then what reading came to, or the line where it stopped.
-#[derive(Drop)]
+#[derive(Clone, Copy)]
 pub enum Awaited {
     Row {
         rows: usize,
@@ -77,7 +77,7 @@ pub fn goes_on(p: Awaited) -> bool
 }
 
 // What a line came to: the place after it, and what is awaited there. Where no more is awaited, the place stays.
-#[derive(Drop)]
+#[derive(Clone, Copy)]
 pub struct Taken {
     pub next: usize,
     pub got: Awaited,

@@ -1,4 +1,6 @@
 // The texts of schemas, proofs and models, read.
+#![tactic(auto)]
+
 mod awaited;
 mod nodes;
 pub mod read;

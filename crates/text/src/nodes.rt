@@ -10,7 +10,7 @@ use crate::rows;
 use crate::rows::Part;
 
 // The place after a row's line, and the place after its members.
-#[derive(Drop)]
+#[derive(Clone, Copy)]
 pub enum NodeFound {
     At { next: usize, last: usize },
     Nothing,

@@ -6,7 +6,7 @@ use numerals::Step;
 
 // What reading numbers of a line comes to: one is no number, or the line has ended, or it goes on after as many as were asked for.
 // `to` is the place after the last in the table, `next` the place to read on from.
-#[derive(Drop)]
+#[derive(Clone, Copy)]
 pub enum Part {
     Bad,
     Ended { to: usize, next: usize },
@@ -39,7 +39,7 @@ pub fn numbers(text: &[u8], at: usize, table: &mut [i32], to: usize, w: usize) -
 }
 
 // The place after a line that is as it has to be.
-#[derive(Drop)]
+#[derive(Clone, Copy)]
 pub enum Found {
     At(usize),
     Nothing,

@@ -1,4 +1,6 @@
 // Tidying older records: proof rows folded, and nodes and sets under the new numbers.
+#![tactic(auto)]
+
 pub mod node;
 pub mod set;
 

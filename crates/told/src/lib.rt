@@ -1,4 +1,6 @@
 // What the entries tell: the answer of a call as the one number, and the numbers that go with it in lent results, all 0 after a refusal.
+#![tactic(auto)]
+
 ghost use Rattle.std.specs.Prelude.{◌≡◌, [], ◌∷◌, pos, ◌≤◌, ◌<◌};
 ghost use Rattle.stab.specs.Basic.{if◌then◌else◌};
 ghost use Rattle.stab.specs.Answer.{Packs};

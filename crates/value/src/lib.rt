@@ -1,4 +1,6 @@
 // The value of a formula under a list of true pairs, at up to 63 numbers at once.
+#![tactic(auto)]
+
 ghost use Rattle.std.specs.Prelude.{◌≡◌, ◌+◌, ◌<◌, ◌≤◌, ◌^◌, pos, ◌-ℤ◌, eqb};
 ghost use Rattle.stab.specs.Formula.{row_at, base_of, tree};
 ghost use Rattle.stab.specs.Meaning.{base, range_size, over, value};

@@ -1,5 +1,7 @@
 // The pass over wide rows: which are well formed and small enough. The numbers worked out for a row, and the table that keeps them,
 // are those of the pass over 01's rows.
+#![tactic(auto)]
+
 ghost use Rattle.std.specs.Prelude.{◌≡◌, ◌+◌, ◌*◌, ◌<◌, ◌≤◌, length, pos};
 ghost use Rattle.stab.specs.Basic.{scan};
 ghost use Rattle.stab.specs.Formula.{formula_rows};

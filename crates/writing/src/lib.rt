@@ -1,4 +1,6 @@
 // Rows written as texts into a lent output.
+#![tactic(auto)]
+
 ghost use Rattle.std.specs.Prelude.{◌≡◌, ◌+◌, ◌*◌, ◌≤◌, length, take, leb, pos};
 ghost use Rattle.stab.specs.Basic.{all_of, ◌and◌, eq_z, nat};
 ghost use Rattle.stab.specs.Node.{set_start, set_follows};

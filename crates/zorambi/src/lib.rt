@@ -1,4 +1,6 @@
 // The entries that provers call, from Rust and C: numbers and slices in, one number back.
+#![tactic(auto)]
+
 pub mod both_texts;
 pub mod enquirer;
 pub mod failing;
