@@ -6,20 +6,20 @@ use Rattle.answer.specs.Near.{Coded}
 use Rattle.answer.proofs.coded.Statement.{statement}
 use Rattle.answer.proofs.coded.Tie as tie
 
-enum_told : tie.Need-enum-told
-enum_told c = search rules
+enum_told-1 : tie.Need-enum_told-1
+enum_told-1 c = search rules
 
-enum-known-place : tie.Need-enum-known-place
-enum-known-place c = search rules
+enum_known-place : tie.Need-enum_known-place
+enum_known-place c = search rules
 
-add-result : tie.Need-overflow-add-result
-add-result c = record { fits = omega (arith, subst Coded c.before.place.given.1 c.before.before.before.requires) }
+overflow_add-result : tie.Need-overflow_add-result
+overflow_add-result c = record { fits = omega (arith, subst Coded c.in-At.is c.requires) }
 
-returns : tie.Need-returns
-returns c = search rules
+returns-in-Whole : tie.Need-returns-in-Whole
+returns-in-Whole c = search rules
 
-returns_2 : tie.Need-returns-2
-returns_2 c = ap place_code (sym c.before.place.given.1)
+returns-in-At : tie.Need-returns-in-At
+returns-in-At c = ap place_code (sym c.in-At.is)
 
 pub coded_spec : {M : Type 1} → statement M
-coded_spec = tie.close (tie.spec enum_told enum-known-place add-result returns returns_2)
+coded_spec = tie.close (tie.spec enum_told-1 enum_known-place overflow_add-result returns-in-Whole returns-in-At)

@@ -4,255 +4,255 @@ use borrow.Author.Rules.{rules}
 use Rattle.answer.proofs.number.Statement.{statement}
 use Rattle.answer.proofs.number.Tie as tie
 
-enum_told : tie.Need-enum-told
-enum_told c = search rules
+enum_told-1 : tie.Need-enum_told-1
+enum_told-1 c = search rules
 
-enum-told-2 : tie.Need-enum-told-2
-enum-told-2 c = search rules
+enum_told-in-TableTooShort : tie.Need-enum_told-in-TableTooShort
+enum_told-in-TableTooShort c = search rules
 
-enum-told-3 : tie.Need-enum-told-3
-enum-told-3 c = search rules
+enum_told-in-Heading : tie.Need-enum_told-in-Heading
+enum_told-in-Heading c = search rules
 
-enum-told-4 : tie.Need-enum-told-4
-enum-told-4 c = search rules
+enum_told-in-Line : tie.Need-enum_told-in-Line
+enum_told-in-Line c = search rules
 
-enum-told-5 : tie.Need-enum-told-5
-enum-told-5 c = search rules
+enum_told-in-TooMany : tie.Need-enum_told-in-TooMany
+enum_told-in-TooMany c = search rules
 
-enum-told-6 : tie.Need-enum-told-6
-enum-told-6 c = search rules
+enum_told-in-Root : tie.Need-enum_told-in-Root
+enum_told-in-Root c = search rules
 
-enum-told-7 : tie.Need-enum-told-7
-enum-told-7 c = search rules
+enum_told-in-IllFormed : tie.Need-enum_told-in-IllFormed
+enum_told-in-IllFormed c = search rules
 
-enum-told-8 : tie.Need-enum-told-8
-enum-told-8 c = search rules
+enum_told-in-TooLarge : tie.Need-enum_told-in-TooLarge
+enum_told-in-TooLarge c = search rules
 
-enum-told-9 : tie.Need-enum-told-9
-enum-told-9 c = search rules
+enum_told-in-Set : tie.Need-enum_told-in-Set
+enum_told-in-Set c = search rules
 
-enum-told-10 : tie.Need-enum-told-10
-enum-told-10 c = search rules
+enum_told-in-Parent : tie.Need-enum_told-in-Parent
+enum_told-in-Parent c = search rules
 
-enum-told-11 : tie.Need-enum-told-11
-enum-told-11 c = search rules
+enum_told-in-Drawn : tie.Need-enum_told-in-Drawn
+enum_told-in-Drawn c = search rules
 
-enum-told-12 : tie.Need-enum-told-12
-enum-told-12 c = search rules
+enum_told-in-Fields : tie.Need-enum_told-in-Fields
+enum_told-in-Fields c = search rules
 
-enum-told-13 : tie.Need-enum-told-13
-enum-told-13 c = search rules
+enum_told-in-Target : tie.Need-enum_told-in-Target
+enum_told-in-Target c = search rules
 
-enum-told-14 : tie.Need-enum-told-14
-enum-told-14 c = search rules
+enum_told-in-Bound : tie.Need-enum_told-in-Bound
+enum_told-in-Bound c = search rules
 
-enum-told-15 : tie.Need-enum-told-15
-enum-told-15 c = search rules
+enum_told-in-Partner : tie.Need-enum_told-in-Partner
+enum_told-in-Partner c = search rules
 
-enum-told-16 : tie.Need-enum-told-16
-enum-told-16 c = search rules
+enum_told-in-Lowered : tie.Need-enum_told-in-Lowered
+enum_told-in-Lowered c = search rules
 
-enum-told-17 : tie.Need-enum-told-17
-enum-told-17 c = search rules
+enum_told-in-Children : tie.Need-enum_told-in-Children
+enum_told-in-Children c = search rules
 
-enum-told-18 : tie.Need-enum-told-18
-enum-told-18 c = search rules
+enum_told-in-Pair : tie.Need-enum_told-in-Pair
+enum_told-in-Pair c = search rules
 
-enum-told-19 : tie.Need-enum-told-19
-enum-told-19 c = search rules
+enum_told-in-Width : tie.Need-enum_told-in-Width
+enum_told-in-Width c = search rules
 
-enum-told-20 : tie.Need-enum-told-20
-enum-told-20 c = search rules
+enum_told-in-False : tie.Need-enum_told-in-False
+enum_told-in-False c = search rules
 
-enum-told-21 : tie.Need-enum-told-21
-enum-told-21 c = search rules
+enum_told-in-Number : tie.Need-enum_told-in-Number
+enum_told-in-Number c = search rules
 
-enum-told-22 : tie.Need-enum-told-22
-enum-told-22 c = search rules
+enum_told-in-Output : tie.Need-enum_told-in-Output
+enum_told-in-Output c = search rules
 
-enum-told-23 : tie.Need-enum-told-23
-enum-told-23 c = search rules
+enum_told-in-Plain : tie.Need-enum_told-in-Plain
+enum_told-in-Plain c = search rules
 
-enum-told-24 : tie.Need-enum-told-24
-enum-told-24 c = search rules
+enum_told-in-Room : tie.Need-enum_told-in-Room
+enum_told-in-Room c = search rules
 
-enum-told-25 : tie.Need-enum-told-25
-enum-told-25 c = search rules
+enum_told-in-NoRow : tie.Need-enum_told-in-NoRow
+enum_told-in-NoRow c = search rules
 
-enum-told-26 : tie.Need-enum-told-26
-enum-told-26 c = search rules
+enum_told-in-Waiting : tie.Need-enum_told-in-Waiting
+enum_told-in-Waiting c = search rules
 
-enum-told-27 : tie.Need-enum-told-27
-enum-told-27 c = search rules
+enum_told-in-Repeated : tie.Need-enum_told-in-Repeated
+enum_told-in-Repeated c = search rules
 
-enum-told-28 : tie.Need-enum-told-28
-enum-told-28 c = search rules
+enum_told-in-Leasts : tie.Need-enum_told-in-Leasts
+enum_told-in-Leasts c = search rules
 
-enum-told-29 : tie.Need-enum-told-29
-enum-told-29 c = search rules
+enum_told-in-Joint : tie.Need-enum_told-in-Joint
+enum_told-in-Joint c = search rules
 
-enum-told-30 : tie.Need-enum-told-30
-enum-told-30 c = search rules
+enum_told-in-Wires : tie.Need-enum_told-in-Wires
+enum_told-in-Wires c = search rules
 
-enum-told-31 : tie.Need-enum-told-31
-enum-told-31 c = search rules
+enum_told-in-NotListed : tie.Need-enum_told-in-NotListed
+enum_told-in-NotListed c = search rules
 
-returns : tie.Need-returns
-returns c = ap refusal_number (sym c.enum_told.given.1)
+returns-in-TextTooLong : tie.Need-returns-in-TextTooLong
+returns-in-TextTooLong c = ap refusal_number (sym c.in-TextTooLong.is)
 
-returns_2 : tie.Need-returns-2
-returns_2 c = ap refusal_number (sym c.enum-told2.given.1)
+returns-in-TableTooShort : tie.Need-returns-in-TableTooShort
+returns-in-TableTooShort c = ap refusal_number (sym c.in-TableTooShort.is)
 
-returns_3 : tie.Need-returns-3
-returns_3 c = ap refusal_number (sym c.enum-told3.given.1)
+returns-in-Heading : tie.Need-returns-in-Heading
+returns-in-Heading c = ap refusal_number (sym c.in-Heading.is)
 
-returns_4 : tie.Need-returns-4
-returns_4 c = ap refusal_number (sym c.enum-told4.given.1)
+returns-in-Line : tie.Need-returns-in-Line
+returns-in-Line c = ap refusal_number (sym c.in-Line.is)
 
-returns_5 : tie.Need-returns-5
-returns_5 c = ap refusal_number (sym c.enum-told5.given.1)
+returns-in-TooMany : tie.Need-returns-in-TooMany
+returns-in-TooMany c = ap refusal_number (sym c.in-TooMany.is)
 
-returns_6 : tie.Need-returns-6
-returns_6 c = ap refusal_number (sym c.enum-told6.given.1)
+returns-in-Root : tie.Need-returns-in-Root
+returns-in-Root c = ap refusal_number (sym c.in-Root.is)
 
-returns_7 : tie.Need-returns-7
-returns_7 c = ap refusal_number (sym c.enum-told7.given.1)
+returns-in-IllFormed : tie.Need-returns-in-IllFormed
+returns-in-IllFormed c = ap refusal_number (sym c.in-IllFormed.is)
 
-returns-8 : tie.Need-returns-8
-returns-8 c = ap refusal_number (sym c.enum-told8.given.1)
+returns-in-TooLarge : tie.Need-returns-in-TooLarge
+returns-in-TooLarge c = ap refusal_number (sym c.in-TooLarge.is)
 
-returns-9 : tie.Need-returns-9
-returns-9 c = ap refusal_number (sym c.enum-told9.given.1)
+returns-in-Set : tie.Need-returns-in-Set
+returns-in-Set c = ap refusal_number (sym c.in-Set.is)
 
-returns-10 : tie.Need-returns-10
-returns-10 c = ap refusal_number (sym c.enum-told10.given.1)
+returns-in-Parent : tie.Need-returns-in-Parent
+returns-in-Parent c = ap refusal_number (sym c.in-Parent.is)
 
-returns-11 : tie.Need-returns-11
-returns-11 c = ap refusal_number (sym c.enum-told11.given.1)
+returns-in-Drawn : tie.Need-returns-in-Drawn
+returns-in-Drawn c = ap refusal_number (sym c.in-Drawn.is)
 
-returns-12 : tie.Need-returns-12
-returns-12 c = ap refusal_number (sym c.enum-told12.given.1)
+returns-in-Fields : tie.Need-returns-in-Fields
+returns-in-Fields c = ap refusal_number (sym c.in-Fields.is)
 
-returns-13 : tie.Need-returns-13
-returns-13 c = ap refusal_number (sym c.enum-told13.given.1)
+returns-in-Target : tie.Need-returns-in-Target
+returns-in-Target c = ap refusal_number (sym c.in-Target.is)
 
-returns-14 : tie.Need-returns-14
-returns-14 c = ap refusal_number (sym c.enum-told14.given.1)
+returns-in-Bound : tie.Need-returns-in-Bound
+returns-in-Bound c = ap refusal_number (sym c.in-Bound.is)
 
-returns-15 : tie.Need-returns-15
-returns-15 c = ap refusal_number (sym c.enum-told15.given.1)
+returns-in-Partner : tie.Need-returns-in-Partner
+returns-in-Partner c = ap refusal_number (sym c.in-Partner.is)
 
-returns-16 : tie.Need-returns-16
-returns-16 c = ap refusal_number (sym c.enum-told16.given.1)
+returns-in-Lowered : tie.Need-returns-in-Lowered
+returns-in-Lowered c = ap refusal_number (sym c.in-Lowered.is)
 
-returns-17 : tie.Need-returns-17
-returns-17 c = ap refusal_number (sym c.enum-told17.given.1)
+returns-in-Children : tie.Need-returns-in-Children
+returns-in-Children c = ap refusal_number (sym c.in-Children.is)
 
-returns-18 : tie.Need-returns-18
-returns-18 c = ap refusal_number (sym c.enum-told18.given.1)
+returns-in-Pair : tie.Need-returns-in-Pair
+returns-in-Pair c = ap refusal_number (sym c.in-Pair.is)
 
-returns-19 : tie.Need-returns-19
-returns-19 c = ap refusal_number (sym c.enum-told19.given.1)
+returns-in-Width : tie.Need-returns-in-Width
+returns-in-Width c = ap refusal_number (sym c.in-Width.is)
 
-returns-20 : tie.Need-returns-20
-returns-20 c = ap refusal_number (sym c.enum-told20.given.1)
+returns-in-False : tie.Need-returns-in-False
+returns-in-False c = ap refusal_number (sym c.in-False.is)
 
-returns-21 : tie.Need-returns-21
-returns-21 c = ap refusal_number (sym c.enum-told21.given.1)
+returns-in-Number : tie.Need-returns-in-Number
+returns-in-Number c = ap refusal_number (sym c.in-Number.is)
 
-returns-22 : tie.Need-returns-22
-returns-22 c = ap refusal_number (sym c.enum-told22.given.1)
+returns-in-Output : tie.Need-returns-in-Output
+returns-in-Output c = ap refusal_number (sym c.in-Output.is)
 
-returns-23 : tie.Need-returns-23
-returns-23 c = ap refusal_number (sym c.enum-told23.given.1)
+returns-in-Plain : tie.Need-returns-in-Plain
+returns-in-Plain c = ap refusal_number (sym c.in-Plain.is)
 
-returns-24 : tie.Need-returns-24
-returns-24 c = ap refusal_number (sym c.enum-told24.given.1)
+returns-in-Room : tie.Need-returns-in-Room
+returns-in-Room c = ap refusal_number (sym c.in-Room.is)
 
-returns-25 : tie.Need-returns-25
-returns-25 c = ap refusal_number (sym c.enum-told25.given.1)
+returns-in-NoRow : tie.Need-returns-in-NoRow
+returns-in-NoRow c = ap refusal_number (sym c.in-NoRow.is)
 
-returns-26 : tie.Need-returns-26
-returns-26 c = ap refusal_number (sym c.enum-told26.given.1)
+returns-in-Waiting : tie.Need-returns-in-Waiting
+returns-in-Waiting c = ap refusal_number (sym c.in-Waiting.is)
 
-returns-27 : tie.Need-returns-27
-returns-27 c = ap refusal_number (sym c.enum-told27.given.1)
+returns-in-Repeated : tie.Need-returns-in-Repeated
+returns-in-Repeated c = ap refusal_number (sym c.in-Repeated.is)
 
-returns-28 : tie.Need-returns-28
-returns-28 c = ap refusal_number (sym c.enum-told28.given.1)
+returns-in-Leasts : tie.Need-returns-in-Leasts
+returns-in-Leasts c = ap refusal_number (sym c.in-Leasts.is)
 
-returns-29 : tie.Need-returns-29
-returns-29 c = ap refusal_number (sym c.enum-told29.given.1)
+returns-in-Joint : tie.Need-returns-in-Joint
+returns-in-Joint c = ap refusal_number (sym c.in-Joint.is)
 
-returns-30 : tie.Need-returns-30
-returns-30 c = ap refusal_number (sym c.enum-told30.given.1)
+returns-in-Wires : tie.Need-returns-in-Wires
+returns-in-Wires c = ap refusal_number (sym c.in-Wires.is)
 
-returns-31 : tie.Need-returns-31
-returns-31 c = ap refusal_number (sym c.enum-told31.given.1)
+returns-in-NotListed : tie.Need-returns-in-NotListed
+returns-in-NotListed c = ap refusal_number (sym c.in-NotListed.is)
 
 pub number_spec : {M : Type 1} → statement M
 number_spec =
     tie.close
     (tie.spec
-    enum_told
-    enum-told-2
-    enum-told-3
-    enum-told-4
-    enum-told-5
-    enum-told-6
-    enum-told-7
-    enum-told-8
-    enum-told-9
-    enum-told-10
-    enum-told-11
-    enum-told-12
-    enum-told-13
-    enum-told-14
-    enum-told-15
-    enum-told-16
-    enum-told-17
-    enum-told-18
-    enum-told-19
-    enum-told-20
-    enum-told-21
-    enum-told-22
-    enum-told-23
-    enum-told-24
-    enum-told-25
-    enum-told-26
-    enum-told-27
-    enum-told-28
-    enum-told-29
-    enum-told-30
-    enum-told-31
-    returns
-    returns_2
-    returns_3
-    returns_4
-    returns_5
-    returns_6
-    returns_7
-    returns-8
-    returns-9
-    returns-10
-    returns-11
-    returns-12
-    returns-13
-    returns-14
-    returns-15
-    returns-16
-    returns-17
-    returns-18
-    returns-19
-    returns-20
-    returns-21
-    returns-22
-    returns-23
-    returns-24
-    returns-25
-    returns-26
-    returns-27
-    returns-28
-    returns-29
-    returns-30
-    returns-31)
+    enum_told-1
+    enum_told-in-TableTooShort
+    enum_told-in-Heading
+    enum_told-in-Line
+    enum_told-in-TooMany
+    enum_told-in-Root
+    enum_told-in-IllFormed
+    enum_told-in-TooLarge
+    enum_told-in-Set
+    enum_told-in-Parent
+    enum_told-in-Drawn
+    enum_told-in-Fields
+    enum_told-in-Target
+    enum_told-in-Bound
+    enum_told-in-Partner
+    enum_told-in-Lowered
+    enum_told-in-Children
+    enum_told-in-Pair
+    enum_told-in-Width
+    enum_told-in-False
+    enum_told-in-Number
+    enum_told-in-Output
+    enum_told-in-Plain
+    enum_told-in-Room
+    enum_told-in-NoRow
+    enum_told-in-Waiting
+    enum_told-in-Repeated
+    enum_told-in-Leasts
+    enum_told-in-Joint
+    enum_told-in-Wires
+    enum_told-in-NotListed
+    returns-in-TextTooLong
+    returns-in-TableTooShort
+    returns-in-Heading
+    returns-in-Line
+    returns-in-TooMany
+    returns-in-Root
+    returns-in-IllFormed
+    returns-in-TooLarge
+    returns-in-Set
+    returns-in-Parent
+    returns-in-Drawn
+    returns-in-Fields
+    returns-in-Target
+    returns-in-Bound
+    returns-in-Partner
+    returns-in-Lowered
+    returns-in-Children
+    returns-in-Pair
+    returns-in-Width
+    returns-in-False
+    returns-in-Number
+    returns-in-Output
+    returns-in-Plain
+    returns-in-Room
+    returns-in-NoRow
+    returns-in-Waiting
+    returns-in-Repeated
+    returns-in-Leasts
+    returns-in-Joint
+    returns-in-Wires
+    returns-in-NotListed)

@@ -20,74 +20,73 @@ code_below : (p : Place) → Coded p → place_code p < 8192
 code_below Whole h = omega arith
 code_below (At k) h = h
 
-enum-known-v : tie.Need-enum-known-v
-enum-known-v c = search rules
+enum_known-v : tie.Need-enum_known-v
+enum_known-v c = search rules
 
 -- the counts of an acceptance
-small : (c : tie.After-known-told) → Packs (Accepted c.before.v.given.0.0 c.before.v.given.0.1.0)
-small c = subst Packs c.before.v.given.1 c.before.before.before.requires
+small : (c : tie.In-Accepted) → Packs (Accepted c.in-Accepted.nodes c.in-Accepted.links)
+small c = subst Packs c.in-Accepted.is c.requires
 
-add-result : tie.Need-overflow-add-result
-add-result c = record { fits = omega (arith, (small c).0) }
+overflow_add-result : tie.Need-overflow_add-result
+overflow_add-result c = record { fits = omega (arith, (small c).0) }
 
-mul-result : tie.Need-overflow-mul-result
-mul-result c = record { fits = omega (arith, (small c).0) }
+overflow_mul-result : tie.Need-overflow_mul-result
+overflow_mul-result c = record { fits = omega (arith, (small c).0) }
 
-add-result-2 : tie.Need-overflow-add-result-2
-add-result-2 c = record { fits = omega (arith, (small c).0, (small c).1) }
+overflow_add-result-in-Accepted : tie.Need-overflow_add-result-in-Accepted
+overflow_add-result-in-Accepted c = record { fits = omega (arith, (small c).0, (small c).1) }
 
-enum-known-v-2 : tie.Need-enum-known-v-2
-enum-known-v-2 c = search rules
+enum_known-v-in-Refused-1 : tie.Need-enum_known-v-in-Refused-1
+enum_known-v-in-Refused-1 c = search rules
 
 number-requires : tie.Need-number-requires
 number-requires c κs = search rules
 
-mul-result-2 : tie.Need-overflow-mul-result-2
-mul-result-2 c = record { fits = omega (arith, c.number.ensures, (number_range c.before.before.v2.given.0.0).1) }
+overflow_mul-result-in-Refused : tie.Need-overflow_mul-result-in-Refused
+overflow_mul-result-in-Refused c = record { fits = omega (arith, c.number.ensures, (number_range c.in-Refused.why).1) }
 
 coded-requires : tie.Need-coded-requires
 coded-requires c κs =
-    coded_of c.before.before.v2.given.0.0 c.before.before.v2.given.0.1.0 (subst Packs c.before.before.v2.given.1 c.before.before.before.before.requires)
+    coded_of c.in-Refused.why c.in-Refused.place (subst Packs c.in-Refused.is c.requires)
 
 -- the parts of a refusal's number
-parts : (c : tie.After-coded) → (c.before.number.result ≤ 31) × (c.coded.result < 8192)
+parts : (c : tie.After-coded) → (c.number.result ≤ 31) × (c.coded.result < 8192)
 parts c =
-    let g = c.before.before.before.v2.given in (
-      omega (arith, c.before.number.ensures, (number_range g.0.0).1),
-      omega (arith, c.coded.ensures, code_below g.0.1.0 (coded_of g.0.0 g.0.1.0 (subst Packs g.1 c.before.before.before.before.before.requires))),
+    (
+      omega (arith, c.number.ensures, (number_range c.in-Refused.why).1),
+      omega (arith, c.coded.ensures, code_below c.in-Refused.place (coded_of c.in-Refused.why c.in-Refused.place (subst Packs c.in-Refused.is c.requires))),
     )
 
-add-result-3 : tie.Need-overflow-add-result-3
-add-result-3 c = record { fits = omega (arith, (parts c).0, (parts c).1) }
+overflow_add-result-in-Refused : tie.Need-overflow_add-result-in-Refused
+overflow_add-result-in-Refused c = record { fits = omega (arith, (parts c).0, (parts c).1) }
 
-mul-result-3 : tie.Need-overflow-mul-result-3
-mul-result-3 c = record { fits = omega (arith, (parts c).0, (parts c).1) }
+overflow_mul-result-in-Refused-2 : tie.Need-overflow_mul-result-in-Refused-2
+overflow_mul-result-in-Refused-2 c = record { fits = omega (arith, (parts c).0, (parts c).1) }
 
-returns : tie.Need-returns
-returns c =
-    let l : (8192 + c.before.v.given.0.0) * 8192 + c.before.v.given.0.1.0 ≡ packed (Accepted c.before.v.given.0.0 c.before.v.given.0.1.0) = omega (arith, packed_acceptance c.before.v.given.0.0 c.before.v.given.0.1.0) in
-    l ∙ ap packed (sym c.before.v.given.1)
+returns-in-Accepted : tie.Need-returns-in-Accepted
+returns-in-Accepted c =
+    let l : (8192 + c.in-Accepted.nodes) * 8192 + c.in-Accepted.links ≡ packed (Accepted c.in-Accepted.nodes c.in-Accepted.links) = omega (arith, packed_acceptance c.in-Accepted.nodes c.in-Accepted.links) in
+    l ∙ ap packed (sym c.in-Accepted.is)
 
-returns_2 : tie.Need-returns-2
-returns_2 c =
-    let g = c.before.before.before.v2.given in
-    let l : (c.before.number.result * 8192 + c.coded.result) * 67108864 ≡ packed (Refused g.0.0 g.0.1.0) =
-    omega (arith, c.before.number.ensures, c.coded.ensures, packed_refusal g.0.0 g.0.1.0) in
-    l ∙ ap packed (sym g.1)
+returns-in-Refused : tie.Need-returns-in-Refused
+returns-in-Refused c =
+    let l : (c.number.result * 8192 + c.coded.result) * 67108864 ≡ packed (Refused c.in-Refused.why c.in-Refused.place) =
+    omega (arith, c.number.ensures, c.coded.ensures, packed_refusal c.in-Refused.why c.in-Refused.place) in
+    l ∙ ap packed (sym c.in-Refused.is)
 
 pub pack_spec : {M : Type 1} → statement M
 pack_spec =
     tie.close
     (tie.spec
-    enum-known-v
-    add-result
-    mul-result
-    add-result-2
-    enum-known-v-2
+    enum_known-v
+    overflow_add-result
+    overflow_mul-result
+    overflow_add-result-in-Accepted
+    enum_known-v-in-Refused-1
     number-requires
-    mul-result-2
+    overflow_mul-result-in-Refused
     coded-requires
-    add-result-3
-    mul-result-3
-    returns
-    returns_2)
+    overflow_add-result-in-Refused
+    overflow_mul-result-in-Refused-2
+    returns-in-Accepted
+    returns-in-Refused)

@@ -13,15 +13,15 @@ use Rattle.digits.proofs.Decimals.{last_digits, digits_last, last_front, last_di
 use Rattle.digits.proofs.put_digits.Statement.{statement}
 use Rattle.digits.proofs.put_digits.Tie as tie
 
-abbrev invariant_loop : tie.invariant-loop
+abbrev invariant_loop : tie.invariant-loop-i
 invariant_loop out₀ v n i₀ rest₀ out i rest =
     (out ≡ take i out₀ ++ drop i (over (digits_n 4 v) out₀)) × (last_digits i rest ≡ take i (digits_n 4 v)) × (i ≤ n) × (length out ≡ length out₀)
 
-abbrev decreases_loop : tie.decreases-loop
+abbrev decreases_loop : tie.decreases-loop-i
 decreases_loop out₀ v n i₀ rest₀ out i rest = i
 
-digit-count-requires : tie.Need-digit-count-requires invariant_loop decreases_loop
-digit-count-requires c κs = search rules
+digit_count-n-requires : tie.Need-digit_count-n-requires invariant_loop decreases_loop
+digit_count-n-requires c κs = search rules
 
 -- where the digits end, the output is as it was
 untouched : (d l : List ℕ) → l ≡ take (length d) l ++ drop (length d) (over d l)
@@ -29,29 +29,29 @@ unfolding over
 untouched d l =
     sym (take-append-drop (length d) l) ∙ ap (λ (r : List ℕ). take (length d) l ++ r) (sym (drop-append_seam d (drop (length d) l)))
 
-loop_holds : tie.Need-loop-init invariant_loop decreases_loop
-loop_holds c =
-    let v = c.before.before.args.v in
-    let l = c.before.before.args.out.now in
+loop-i-init : tie.Need-loop-i-init invariant_loop decreases_loop
+loop-i-init c =
+    let v = c.args.v in
+    let l = c.args.out.now in
     let d = digits_n 4 v in
     subst (λ (n : ℕ). (l ≡ take n l ++ drop n (over d l)) × (last_digits n v ≡ take n d) × (n ≤ n) × (length l ≡ length l))
-    (sym c.digit-count.ensures)
+    (sym c.digit_count-n.ensures)
     (untouched d l, sym (digits_last 4 v (omega arith)) ∙ sym (take-length d), omega arith, refl)
 
-sub-i : tie.Need-overflow-sub-i invariant_loop decreases_loop
-sub-i c = omega arith
+overflow_sub-i : tie.Need-overflow_sub-i invariant_loop decreases_loop
+overflow_sub-i c = omega arith
 
-cast-out : tie.Need-overflow-cast-out invariant_loop decreases_loop
-cast-out c = omega arith
+overflow_cast-out : tie.Need-overflow_cast-out invariant_loop decreases_loop
+overflow_cast-out c = omega arith
 
-add-out : tie.Need-overflow-add-out invariant_loop decreases_loop
-add-out c = omega arith
+overflow_add-out : tie.Need-overflow_add-out invariant_loop decreases_loop
+overflow_add-out c = omega arith
 
-slice-write-out : tie.Need-slice-write-out invariant_loop decreases_loop
-slice-write-out c = omega arith
+bounds-out-i : tie.Need-bounds-out-i invariant_loop decreases_loop
+bounds-out-i c = omega arith
 
-loop_less : tie.Need-loop-smaller invariant_loop decreases_loop
-loop_less c = omega arith
+loop-i-smaller : tie.Need-loop-i-smaller invariant_loop decreases_loop
+loop-i-smaller c = omega arith
 
 -- a digit is put at i
 step : (d l out : List ℕ) (i rest : ℕ) → i < length d → length d ≤ length l
@@ -87,24 +87,24 @@ again d l out n i rest e h more inv = go (i - 1) one
         let b = subst (λ (k : ℕ). last_digits k rest ≡ take k d) p inv.1 in
         (step d l out j rest (omega (arith, inv.2)) (omega arith) a b, last_front d j rest b, omega (arith, inv.2), length-set out j _ ∙ inv.3)
 
-loop_again : tie.Need-loop-preserved invariant_loop decreases_loop
-loop_again c =
-    let a = c.before.before.before.before.args in
-    again (digits_n 4 a.v) a.out.now c.before.loop.out c.before.before.digit-count.result c.before.loop.i c.before.loop.rest
-    c.before.before.digit-count.ensures
-    (omega (arith, c.before.before.digit-count.ensures, c.before.before.before.before.requires.1))
-    c.loop-test.true
-    c.before.loop.invariant
+loop-i-preserved : tie.Need-loop-i-preserved invariant_loop decreases_loop
+loop-i-preserved c =
+    let a = c.args in
+    again (digits_n 4 a.v) a.out.now c.loop-i.out c.digit_count-n.result c.loop-i.i c.loop-i.rest
+    c.digit_count-n.ensures
+    (omega (arith, c.digit_count-n.ensures, c.requires.1))
+    c.loop-i-test.true
+    c.loop-i.invariant
 
-same_length : tie.Need-same-length invariant_loop decreases_loop
-same_length c = c.before.loop.invariant.3
+shape_of-out : tie.Need-shape_of-out invariant_loop decreases_loop
+shape_of-out c = c.loop-i.invariant.3
 
 returns : tie.Need-returns invariant_loop decreases_loop
 returns c =
-    let a = c.before.before.before.before.args in
-    let done : c.before.loop.i ≡ 0 = omega arith in (
-      c.before.before.digit-count.ensures,
-      subst (λ (i : ℕ). c.before.loop.out ≡ take i a.out.now ++ drop i (over (digits_n 4 a.v) a.out.now)) done c.before.loop.invariant.0,
+    let a = c.args in
+    let done : c.loop-i.i ≡ 0 = omega arith in (
+      c.digit_count-n.ensures,
+      subst (λ (i : ℕ). c.loop-i.out ≡ take i a.out.now ++ drop i (over (digits_n 4 a.v) a.out.now)) done c.loop-i.invariant.0,
     )
 
 pub put_digits_spec : {M : Type 1} → statement M
@@ -113,13 +113,13 @@ put_digits_spec =
     (tie.spec
     invariant_loop
     decreases_loop
-    digit-count-requires
-    loop_holds
-    sub-i
-    cast-out
-    add-out
-    slice-write-out
-    loop_less
-    loop_again
-    same_length
+    digit_count-n-requires
+    loop-i-init
+    overflow_sub-i
+    overflow_cast-out
+    overflow_add-out
+    bounds-out-i
+    loop-i-smaller
+    loop-i-preserved
+    shape_of-out
     returns)

@@ -14,110 +14,102 @@ use Rattle.digits.proofs.Decimals.{decimal_plain, decimal_minus, five_nat, five_
 use Rattle.digits.proofs.put_number.Statement.{statement}
 use Rattle.digits.proofs.put_number.Tie as tie
 
-under-requires : tie.Need-under-requires
-under-requires c κs = search rules
+under-below-requires : tie.Need-under-below-requires
+under-below-requires c κs = search rules
 
-natural_requires : tie.Need-natural-requires
-natural_requires c κs = search rules
+natural-requires : tie.Need-natural-requires
+natural-requires c κs = search rules
 
 -- how far below 0 the number lies
-below : (c : tie.After-under) → c.under.result ≡ nat (neg_ℤ c.before.before.args.z)
-below c = c.under.ensures ∙ ap (λ (z : ℤ). nat (neg_ℤ z)) (to_z-of_z c.before.before.ranges.z)
+below : (c : tie.After-under-below) → c.under-below.result ≡ nat (neg_ℤ c.args.z)
+below c = c.under-below.ensures ∙ ap (λ (z : ℤ). nat (neg_ℤ z)) (to_z-of_z c.ranges.z)
 
 -- without a minus the number is its natural part
-plain : (c : tie.After-natural) → decimal c.before.before.before.before.before.args.z ≡ digits_n 4 c.natural.result
+plain : (c : tie.After-natural) → decimal c.args.z ≡ digits_n 4 c.natural.result
 plain c =
-    let s = c.before.before.before.before.before in
-    let u = c.before.before.before in
-    decimal_plain s.args.z (sym (below u) ∙ c.before.before.if1.true)
-    ∙ ap (digits_n 4) (sym (c.natural.ensures ∙ ap nat (to_z-of_z s.ranges.z)))
+    decimal_plain c.args.z (sym (below c.before.before.before) ∙ c.if-below-eq0.true)
+    ∙ ap (digits_n 4) (sym (c.natural.ensures ∙ ap nat (to_z-of_z c.ranges.z)))
 
-put-digits-requires : tie.Need-put-digits-requires
-put-digits-requires c κs =
-    let s = c.before.before.before.before.before in (
-      omega (arith, c.natural.ensures ∙ ap nat (to_z-of_z s.ranges.z), five_nat s.args.z s.requires.0),
-      subst (λ (d : List ℕ). length d ≤ length s.args.out.now) (plain c) s.requires.1,
+put_digits-requires : tie.Need-put_digits-requires
+put_digits-requires c κs =
+    (
+      omega (arith, c.natural.ensures ∙ ap nat (to_z-of_z c.ranges.z), five_nat c.args.z c.requires.0),
+      subst (λ (d : List ℕ). length d ≤ length c.args.out.now) (plain c) c.requires.1,
     )
 
-same_length : tie.Need-same-length
-same_length c = search rules
+shape_of-out-then-below-eq0 : tie.Need-shape_of-out-then-below-eq0
+shape_of-out-then-below-eq0 c = search rules
 
-returns : tie.Need-returns
-returns c =
-    let p = c.before.before in
-    let out = p.before.before.before.before.before.before.args.out.now in (
-      p.put-digits.ensures.0 ∙ ap length (sym (plain p.before)),
-      p.put-digits.ensures.1 ∙ ap (λ (d : List ℕ). over d out) (sym (plain p.before)),
+returns-then-below-eq0 : tie.Need-returns-then-below-eq0
+returns-then-below-eq0 c =
+    let out = c.args.out.now in (
+      c.put_digits.ensures.0 ∙ ap length (sym (plain c.before.before.before)),
+      c.put_digits.ensures.1 ∙ ap (λ (d : List ℕ). over d out) (sym (plain c.before.before.before)),
     )
 
 -- a minus in front of the digits
-minus : (c : tie.Else1) → decimal c.before.before.before.args.z ≡ 45 ∷ digits_n 4 c.before.under.result
+minus : (c : tie.Else-below-eq0) → decimal c.args.z ≡ 45 ∷ digits_n 4 c.under-below.result
 minus c =
-    decimal_minus c.before.before.before.args.z (λ e. c.if1.false (below c.before ∙ e))
+    decimal_minus c.args.z (λ e. c.if-below-eq0.false (below c.before ∙ e))
     ∙ ap (λ (v : ℕ). 45 ∷ digits_n 4 v) (sym (below c.before))
 
-room : (c : tie.Else1) → length (45 ∷ digits_n 4 c.before.under.result) ≤ length c.before.before.before.args.out.now
-room c = omega (arith, ap length (minus c), c.before.before.before.requires.1)
+room : (c : tie.Else-below-eq0) → length (45 ∷ digits_n 4 c.under-below.result) ≤ length c.args.out.now
+room c = omega (arith, ap length (minus c), c.requires.1)
 
-marked : (c : tie.Else1) → set c.before.before.before.args.out.now 0 45 ≡ over (45 ∷ []) c.before.before.before.args.out.now
+marked : (c : tie.Else-below-eq0) → set c.args.out.now 0 45 ≡ over (45 ∷ []) c.args.out.now
 unfolding over
-marked c = over_byte [] c.before.before.before.args.out.now 45 (omega (arith, room c))
+marked c = over_byte [] c.args.out.now 45 (omega (arith, room c))
 
-after : (c : tie.Else1) → Room (45 ∷ []) (digits_n 4 c.before.under.result) c.before.before.before.args.out.now (set c.before.before.before.args.out.now 0 45) 1
+after : (c : tie.Else-below-eq0) → Room (45 ∷ []) (digits_n 4 c.under-below.result) c.args.out.now (set c.args.out.now 0 45) 1
 after c = record { is = marked c; ends = refl; fits = room c }
 
-slice-write-out : tie.Need-slice-write-out
-slice-write-out c = omega (arith, room c)
+bounds-out-0 : tie.Need-bounds-out-0
+bounds-out-0 c = omega (arith, room c)
 
-sub-put-digits : tie.Need-overflow-sub-put-digits
-sub-put-digits c = omega (arith, length-set c.before.before.before.args.out.now 0 45, room c)
+slice_bounds-put_digits-count : tie.Need-slice_bounds-put_digits-count
+slice_bounds-put_digits-count c = omega (arith, length-set c.args.out.now 0 45, room c)
 
-part-put-digits-start : tie.Need-slice-bounds-put-digits-start
-part-put-digits-start c = omega (arith, length-set c.before.before.before.args.out.now 0 45, room c)
+slice_bounds-put_digits-start : tie.Need-slice_bounds-put_digits-start
+slice_bounds-put_digits-start c = omega (arith, length-set c.args.out.now 0 45, room c)
 
-part-put-digits-end : tie.Need-slice-bounds-put-digits-end
-part-put-digits-end c = search rules
+slice_bounds-put_digits-end : tie.Need-slice_bounds-put_digits-end
+slice_bounds-put_digits-end c = search rules
 
-put-digits-requires-2 : tie.Need-put-digits-requires-2
-put-digits-requires-2 c κs =
-    let b = c.before in
-    let s = b.before.before.before in (
-      omega (arith, below b.before, five_under s.args.z s.requires.0),
-      lent_room (after b),
+put_digits-requires-2 : tie.Need-put_digits-requires-2
+put_digits-requires-2 c κs =
+    (
+      omega (arith, below c.before.before, five_under c.args.z c.requires.0),
+      lent_room (after c.before),
     )
 
-add-result : tie.Need-overflow-add-result
-add-result c = omega (arith, c.before.before.put-digits2.ensures.0, count_most 4 c.before.before.before.before.before.under.result)
+overflow_add-result : tie.Need-overflow_add-result
+overflow_add-result c = omega (arith, c.put_digits-2.ensures.0, count_most 4 c.under-below.result)
 
-same_length_2 : tie.Need-same-length-2
-same_length_2 c =
-    let p = c.before.before in
-    let b = p.before.before in
-    lent_length (after b) p.put-digits2.ensures.1
+shape_of-out : tie.Need-shape_of-out
+shape_of-out c =
+    lent_length (after c.before.before.before.before) c.put_digits-2.ensures.1
 
-returns_2 : tie.Need-returns-2
-returns_2 c =
-    let p = c.before.before in
-    let b = p.before.before in
-    let s = b.before.before.before in (
-      omega (arith, p.put-digits2.ensures.0, ap length (minus b)),
-      lent_over (after b) p.put-digits2.ensures.1 ∙ ap (λ (d : List ℕ). over d s.args.out.now) (sym (minus b)),
+returns : tie.Need-returns
+returns c =
+    (
+      omega (arith, c.put_digits-2.ensures.0, ap length (minus c.before.before.before.before)),
+      lent_over (after c.before.before.before.before) c.put_digits-2.ensures.1 ∙ ap (λ (d : List ℕ). over d c.args.out.now) (sym (minus c.before.before.before.before)),
     )
 
 pub put_number_spec : {M : Type 1} → statement M
 put_number_spec =
     tie.close
     (tie.spec
-    under-requires
-    natural_requires
-    put-digits-requires
-    same_length
-    returns
-    slice-write-out
-    sub-put-digits
-    part-put-digits-start
-    part-put-digits-end
-    put-digits-requires-2
-    add-result
-    same_length_2
-    returns_2)
+    under-below-requires
+    natural-requires
+    put_digits-requires
+    shape_of-out-then-below-eq0
+    returns-then-below-eq0
+    bounds-out-0
+    slice_bounds-put_digits-count
+    slice_bounds-put_digits-start
+    slice_bounds-put_digits-end
+    put_digits-requires-2
+    overflow_add-result
+    shape_of-out
+    returns)

@@ -11,45 +11,43 @@ use Rattle.digits.proofs.Decimals.{decimal_plain, decimal_minus, count_most}
 use Rattle.digits.proofs.width.Statement.{statement}
 use Rattle.digits.proofs.width.Tie as tie
 
-under-requires : tie.Need-under-requires
-under-requires c κs = search rules
+under-below-requires : tie.Need-under-below-requires
+under-below-requires c κs = search rules
 
-natural_requires : tie.Need-natural-requires
-natural_requires c κs = search rules
+natural-requires : tie.Need-natural-requires
+natural-requires c κs = search rules
 
-digit-count-requires : tie.Need-digit-count-requires
-digit-count-requires c κs = search rules
+digit_count-requires : tie.Need-digit_count-requires
+digit_count-requires c κs = search rules
+
+returns-then-below-eq0 : tie.Need-returns-then-below-eq0
+returns-then-below-eq0 c =
+    let e = to_z-of_z c.ranges.z in
+    let u = c.under-below.ensures ∙ ap (λ (z : ℤ). nat (neg_ℤ z)) e in
+    c.digit_count.ensures
+    ∙ ap (λ (v : ℕ). length (digits_n 4 v)) (c.natural.ensures ∙ ap nat e)
+    ∙ ap length (sym (decimal_plain c.args.z (sym u ∙ c.if-below-eq0.true)))
+
+digit_count-requires-2 : tie.Need-digit_count-requires-2
+digit_count-requires-2 c κs = search rules
+
+overflow_add-result : tie.Need-overflow_add-result
+overflow_add-result c = omega (arith, c.digit_count-2.ensures, count_most 4 c.under-below.result)
 
 returns : tie.Need-returns
 returns c =
-    let s = c.before.before.before.before in
-    let e = to_z-of_z s.ranges.z in
-    let u = c.before.before.before.under.ensures ∙ ap (λ (z : ℤ). nat (neg_ℤ z)) e in
-    c.digit-count.ensures
-    ∙ ap (λ (v : ℕ). length (digits_n 4 v)) (c.before.natural.ensures ∙ ap nat e)
-    ∙ ap length (sym (decimal_plain s.args.z (sym u ∙ c.before.before.if1.true)))
-
-digit-count-requires-2 : tie.Need-digit-count-requires-2
-digit-count-requires-2 c κs = search rules
-
-add-result : tie.Need-overflow-add-result
-add-result c = omega (arith, c.digit-count2.ensures, count_most 4 c.before.before.under.result)
-
-returns_2 : tie.Need-returns-2
-returns_2 c =
-    let s = c.before.before.before in
-    let u = c.before.before.under.ensures ∙ ap (λ (z : ℤ). nat (neg_ℤ z)) (to_z-of_z s.ranges.z) in
-    let k = c.digit-count2.ensures ∙ ap (λ (v : ℕ). length (digits_n 4 v)) u in
-    omega (arith, k, ap length (decimal_minus s.args.z (λ z. c.before.if1.false (u ∙ z))))
+    let u = c.under-below.ensures ∙ ap (λ (z : ℤ). nat (neg_ℤ z)) (to_z-of_z c.ranges.z) in
+    let k = c.digit_count-2.ensures ∙ ap (λ (v : ℕ). length (digits_n 4 v)) u in
+    omega (arith, k, ap length (decimal_minus c.args.z (λ z. c.if-below-eq0.false (u ∙ z))))
 
 pub width_spec : {M : Type 1} → statement M
 width_spec =
     tie.close
     (tie.spec
-    under-requires
-    natural_requires
-    digit-count-requires
-    returns
-    digit-count-requires-2
-    add-result
-    returns_2)
+    under-below-requires
+    natural-requires
+    digit_count-requires
+    returns-then-below-eq0
+    digit_count-requires-2
+    overflow_add-result
+    returns)

@@ -8,44 +8,41 @@ use Rattle.line.proofs.LineSpans.{here_at, more_at, none_at}
 use Rattle.line.proofs.end_of.Statement.{statement}
 use Rattle.line.proofs.end_of.Tie as tie
 
-abbrev invariant_loop : tie.invariant-loop
+abbrev invariant_loop : tie.invariant-loop-i
 invariant_loop text from i₀ i = (i + line_length (drop i text) ≡ from + line_length (drop from text)) × (i ≤ length text)
 
-abbrev decreases_loop : tie.decreases-loop
+abbrev decreases_loop : tie.decreases-loop-i
 decreases_loop text from i₀ i = length text - i
 
-loop_holds : tie.Need-loop-init invariant_loop decreases_loop
-loop_holds c = (refl, c.requires)
+loop-i-init : tie.Need-loop-i-init invariant_loop decreases_loop
+loop-i-init c = (refl, c.requires)
 
-shared-slice-read-if1 : tie.Need-shared-slice-read-if1 invariant_loop decreases_loop
-shared-slice-read-if1 c = omega arith
+bounds-text-i : tie.Need-bounds-text-i invariant_loop decreases_loop
+bounds-text-i c = omega arith
+
+returns-then-text-i-eq10 : tie.Need-returns-then-text-i-eq10 invariant_loop decreases_loop
+returns-then-text-i-eq10 c =
+    let l = c.loop-i in
+    omega (arith, l.invariant.0, here_at c.args.text.now l.i c.loop-i-test.true c.if-text-i-eq10.true)
+
+overflow_add-i : tie.Need-overflow_add-i invariant_loop decreases_loop
+overflow_add-i c =
+    record { fits = omega (arith, c.loop-i-test.true, c.well_formed.0.0) }
+
+loop-i-smaller : tie.Need-loop-i-smaller invariant_loop decreases_loop
+loop-i-smaller c = omega (arith, c.loop-i-test.true)
+
+loop-i-preserved : tie.Need-loop-i-preserved invariant_loop decreases_loop
+loop-i-preserved c =
+    let l = c.loop-i in (
+      omega (arith, l.invariant.0, more_at c.args.text.now l.i c.loop-i-test.true c.if-text-i-eq10.false),
+      omega (arith, c.loop-i-test.true),
+    )
 
 returns : tie.Need-returns invariant_loop decreases_loop
 returns c =
-    let n = c.before.before in
-    let l = n.before.loop in
-    omega (arith, l.invariant.0, here_at n.before.before.args.text.now l.i n.loop-test.true c.if1.true)
-
-add-i : tie.Need-overflow-add-i invariant_loop decreases_loop
-add-i c =
-    let n = c.before.before in
-    record { fits = omega (arith, n.loop-test.true, n.before.before.well-formed.0.0) }
-
-loop_less : tie.Need-loop-smaller invariant_loop decreases_loop
-loop_less c = omega (arith, c.before.before.loop-test.true)
-
-loop_again : tie.Need-loop-preserved invariant_loop decreases_loop
-loop_again c =
-    let n = c.before.before in
-    let l = n.before.loop in (
-      omega (arith, l.invariant.0, more_at n.before.before.args.text.now l.i n.loop-test.true c.if1.false),
-      omega (arith, n.loop-test.true),
-    )
-
-returns_2 : tie.Need-returns-2 invariant_loop decreases_loop
-returns_2 c =
-    let l = c.before.loop in
-    omega (arith, l.invariant.0, none_at c.before.before.args.text.now l.i c.loop-test.false)
+    let l = c.loop-i in
+    omega (arith, l.invariant.0, none_at c.args.text.now l.i c.loop-i-test.false)
 
 pub end_of_spec : {M : Type 1} → statement M
 end_of_spec =
@@ -53,10 +50,10 @@ end_of_spec =
     (tie.spec
     invariant_loop
     decreases_loop
-    loop_holds
-    shared-slice-read-if1
-    returns
-    add-i
-    loop_less
-    loop_again
-    returns_2)
+    loop-i-init
+    bounds-text-i
+    returns-then-text-i-eq10
+    overflow_add-i
+    loop-i-smaller
+    loop-i-preserved
+    returns)

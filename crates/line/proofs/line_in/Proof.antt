@@ -7,29 +7,27 @@ use Rattle.line.proofs.LineSpans.{part_is}
 use Rattle.line.proofs.line_in.Statement.{statement}
 use Rattle.line.proofs.line_in.Tie as tie
 
-span-of-requires : tie.Need-span-of-requires
-span-of-requires c κs = search rules
+span_of-s-requires : tie.Need-span_of-s-requires
+span_of-s-requires c κs = search rules
 
-add-end : tie.Need-overflow-add-end
-add-end c = search rules
+overflow_add-end : tie.Need-overflow_add-end
+overflow_add-end c = search rules
 
-sub-result : tie.Need-overflow-sub-result
-sub-result c = search rules
+slice_bounds-result-count : tie.Need-slice_bounds-result-count
+slice_bounds-result-count c = search rules
 
-part-result-start : tie.Need-slice-bounds-result-start
-part-result-start c = search rules
+slice_bounds-result-start : tie.Need-slice_bounds-result-start
+slice_bounds-result-start c = search rules
 
-part-result-end : tie.Need-slice-bounds-result-end
-part-result-end c = search rules
+slice_bounds-result-end : tie.Need-slice_bounds-result-end
+slice_bounds-result-end c = search rules
 
 returns : tie.Need-returns
 returns c =
-    let e = c.before.before in
-    let s = e.before.before in
-    let r = e.Span-of.result in
-    part_is s.args.text _ (line_span s.args.text.now s.args.k) r.start (r.start + r.len - r.start)
-    e.Span-of.ensures.0.0
-    (omega (arith, e.Span-of.ensures.0.1))
+    let r = c.span_of-s.result in
+    part_is c.args.text _ (line_span c.args.text.now c.args.k) r.start (r.start + r.len - r.start)
+    c.span_of-s.ensures.0.0
+    (omega (arith, c.span_of-s.ensures.0.1))
     refl
     refl
     refl
@@ -37,4 +35,4 @@ returns c =
 pub line_in_spec : {M : Type 1} → statement M
 line_in_spec =
     tie.close
-    (tie.spec span-of-requires add-end sub-result part-result-start part-result-end returns)
+    (tie.spec span_of-s-requires overflow_add-end slice_bounds-result-count slice_bounds-result-start slice_bounds-result-end returns)

@@ -7,42 +7,37 @@ use Rattle.line.proofs.LineSpans.{line_zero, this_line, no_line, is_span}
 use Rattle.line.proofs.span_of.Statement.{statement}
 use Rattle.line.proofs.span_of.Tie as tie
 
-returns : tie.Need-returns
+returns-then-k-eq0 : tie.Need-returns-then-k-eq0
 unfolding empty_start
-returns c =
-    let s = c.before.before in
-    (is_span (line_span s.args.text.now s.args.k) 0 0 (line_zero s.args.text.now s.args.k c.if1.true), omega arith)
+returns-then-k-eq0 c =
+    (is_span (line_span c.args.text.now c.args.k) 0 0 (line_zero c.args.text.now c.args.k c.if-k-eq0.true), omega arith)
 
-start-of-requires : tie.Need-start-of-requires
-start-of-requires c κs = search rules
+start_of-at-requires : tie.Need-start_of-at-requires
+start_of-at-requires c κs = search rules
 
-end-of-requires : tie.Need-end-of-requires
-end-of-requires c κs = search rules
+end_of-end-requires : tie.Need-end_of-end-requires
+end_of-end-requires c κs = search rules
 
-sub-t7 : tie.Need-overflow-sub-t7
-sub-t7 c = search rules
+overflow_sub-result : tie.Need-overflow_sub-result
+overflow_sub-result c = search rules
 
-returns_2 : tie.Need-returns-2
-returns_2 c =
-    let e = c.before in
-    let s = e.before.before.before.before in
-    let at = e.before.start_of.result in (
-      is_span (line_span s.args.text.now s.args.k) at (e.end_of.result - at)
-          (sym e.before.start_of.ensures.1 ∙ this_line s.args.text.now at e.end_of.result e.end_of.ensures c.if2.true),
+returns-then-end-text : tie.Need-returns-then-end-text
+returns-then-end-text c =
+    let at = c.start_of-at.result in (
+      is_span (line_span c.args.text.now c.args.k) at (c.end_of-end.result - at)
+          (sym c.start_of-at.ensures.1 ∙ this_line c.args.text.now at c.end_of-end.result c.end_of-end.ensures c.if-end-text.true),
       omega arith,
     )
 
-returns_3 : tie.Need-returns-3
+returns : tie.Need-returns
 unfolding empty_start
-returns_3 c =
-    let e = c.before in
-    let s = e.before.before.before.before in
-    let at = e.before.start_of.result in (
-      is_span (line_span s.args.text.now s.args.k) 0 0
-          (sym e.before.start_of.ensures.1 ∙ no_line s.args.text.now at e.end_of.result e.end_of.ensures 1 c.if2.false (omega arith)),
+returns c =
+    let at = c.start_of-at.result in (
+      is_span (line_span c.args.text.now c.args.k) 0 0
+          (sym c.start_of-at.ensures.1 ∙ no_line c.args.text.now at c.end_of-end.result c.end_of-end.ensures 1 c.if-end-text.false (omega arith)),
       omega arith,
     )
 
 pub span_of_spec : {M : Type 1} → statement M
 span_of_spec =
-    tie.close (tie.spec returns start-of-requires end-of-requires sub-t7 returns_2 returns_3)
+    tie.close (tie.spec returns-then-k-eq0 start_of-at-requires end_of-end-requires overflow_sub-result returns-then-end-text returns)

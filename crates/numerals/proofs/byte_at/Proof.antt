@@ -6,17 +6,17 @@ use Rattle.numerals.proofs.Runs.{get_d_any}
 use Rattle.numerals.proofs.byte_at.Statement.{statement}
 use Rattle.numerals.proofs.byte_at.Tie as tie
 
-shared-slice-read-result : tie.Need-shared-slice-read-result
-shared-slice-read-result c = search rules
+bounds-text-i : tie.Need-bounds-text-i
+bounds-text-i c = search rules
 
-cast-result : tie.Need-overflow-cast-result
-cast-result c = omega (arith, c.shared-slice-known.given c.before.before.args.i)
+overflow_cast-result : tie.Need-overflow_cast-result
+overflow_cast-result c = omega (arith, c.shared_slice_known-1.given c.args.i)
 
-returns : tie.Need-returns
-returns c = let a = c.before.before.args in get_d_any a.text.now a.i 0 256 c.before.if1.true
+returns-then-i-text : tie.Need-returns-then-i-text
+returns-then-i-text c = let a = c.args in get_d_any a.text.now a.i 0 256 c.if-i-text.true
 
-returns_2 : tie.Need-returns-2
-returns_2 c = sym (get_or-eq_default c.before.args.text.now 256 c.if1.false)
+returns-else-i-text : tie.Need-returns-else-i-text
+returns-else-i-text c = sym (get_or-eq_default c.args.text.now 256 c.if-i-text.false)
 
 pub byte_at_spec : {M : Type 1} → statement M
-byte_at_spec = tie.close (tie.spec shared-slice-read-result cast-result returns returns_2)
+byte_at_spec = tie.close (tie.spec bounds-text-i overflow_cast-result returns-then-i-text returns-else-i-text)

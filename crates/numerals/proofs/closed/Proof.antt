@@ -3,29 +3,29 @@ use Rattle.numerals.proofs.Fields.{ends_space, ends_line, ends_neither, closed_i
 use Rattle.numerals.proofs.closed.Statement.{statement}
 use Rattle.numerals.proofs.closed.Tie as tie
 
-byte-at-requires : tie.Need-byte-at-requires
-byte-at-requires c κs = search rules
+byte_at-b-requires : tie.Need-byte_at-b-requires
+byte_at-b-requires c κs = search rules
 
-add-t6 : tie.Need-overflow-add-t6
-add-t6 c = search rules
+overflow_add-result : tie.Need-overflow_add-result
+overflow_add-result c = search rules
+
+returns-then-b-eq32 : tie.Need-returns-then-b-eq32
+returns-then-b-eq32 c =
+    let r = c.args.run in
+    closed_is r.value r.next _ _ c.byte_at-b.ensures (ends_space _ c.if-b-eq32.true)
+
+overflow_add-result-then-b-eq10 : tie.Need-overflow_add-result-then-b-eq10
+overflow_add-result-then-b-eq10 c = search rules
+
+returns-then-b-eq10 : tie.Need-returns-then-b-eq10
+returns-then-b-eq10 c =
+    let r = c.args.run in
+    closed_is r.value r.next _ _ c.byte_at-b.ensures (ends_line _ c.if-b-eq10.true)
 
 returns : tie.Need-returns
 returns c =
-    let r = c.before.before.before.args.run in
-    closed_is r.value r.next _ _ c.before.byte_at.ensures (ends_space _ c.if1.true)
-
-add-t7 : tie.Need-overflow-add-t7
-add-t7 c = search rules
-
-returns_2 : tie.Need-returns-2
-returns_2 c =
-    let r = c.before.before.before.before.args.run in
-    closed_is r.value r.next _ _ c.before.before.byte_at.ensures (ends_line _ c.if2.true)
-
-returns_3 : tie.Need-returns-3
-returns_3 c =
-    let r = c.before.before.before.before.args.run in
-    closed_is_none r.value r.next _ _ c.before.before.byte_at.ensures (ends_neither _ c.before.if1.false c.if2.false)
+    let r = c.args.run in
+    closed_is_none r.value r.next _ _ c.byte_at-b.ensures (ends_neither _ c.if-b-eq32.false c.if-b-eq10.false)
 
 pub closed_spec : {M : Type 1} → statement M
-closed_spec = tie.close (tie.spec byte-at-requires add-t6 returns add-t7 returns_2 returns_3)
+closed_spec = tie.close (tie.spec byte_at-b-requires overflow_add-result returns-then-b-eq32 overflow_add-result-then-b-eq10 returns-then-b-eq10 returns)

@@ -8,75 +8,70 @@ use Rattle.numerals.proofs.Steps.{at_small, less_bad, less_good, plain_good}
 use Rattle.numerals.proofs.number.Statement.{statement}
 use Rattle.numerals.proofs.number.Tie as tie
 
-byte-at-requires : tie.Need-byte-at-requires
-byte-at-requires c κs = search rules
+byte_at-b-requires : tie.Need-byte_at-b-requires
+byte_at-b-requires c κs = search rules
 
-add_natural_at : tie.Need-overflow-add-natural-at
-add_natural_at c = search rules
+overflow_add-at : tie.Need-overflow_add-at
+overflow_add-at c = search rules
 
-natural_at_requires : tie.Need-natural-at-requires
-natural_at_requires c κs =
-    let a = c.before.before.before.args in
-    omega (arith, byte_within a.text.now a.at (omega (arith, c.before.byte_at.ensures, c.if1.true)))
+natural_at-n-requires : tie.Need-natural_at-n-requires
+natural_at-n-requires c κs =
+    let a = c.args in
+    omega (arith, byte_within a.text.now a.at (omega (arith, c.byte_at-b.ensures, c.if-b-eq45.true)))
 
-returns : tie.Need-returns
-returns c =
-    let m = c.before.before in
-    let a = m.before.before.before.before.args in
-    less_bad a.text.now a.at a.table.now a.k m.natural-at.result
-    (sym m.before.before.byte_at.ensures ∙ m.before.if1.true) m.natural-at.ensures c.if2.true
+returns-then-n-eq0 : tie.Need-returns-then-n-eq0
+returns-then-n-eq0 c =
+    let a = c.args in
+    less_bad a.text.now a.at a.table.now a.k c.natural_at-n.result
+    (sym c.byte_at-b.ensures ∙ c.if-b-eq45.true) c.natural_at-n.ensures c.if-n-eq0.true
 
 keep-requires : tie.Need-keep-requires
 keep-requires c κs =
-    let m = c.before.before.before in
-    let a = m.before.before.before.before.args in
-    omega (arith, ap (λ (n : Numeral). n.value) m.natural-at.ensures, at_small a.text.now (a.at + 1))
+    let a = c.args in
+    omega (arith, ap (λ (n : Numeral). n.value) c.natural_at-n.ensures, at_small a.text.now (a.at + 1))
 
-same_length : tie.Need-same-length
-same_length c = search rules
+shape_of-table-then-b-eq45 : tie.Need-shape_of-table-then-b-eq45
+shape_of-table-then-b-eq45 c = search rules
 
-returns_2 : tie.Need-returns-2
-returns_2 c =
-    let m = c.before.before.before.before.before in
-    let a = m.before.before.before.before.args in
-    let k = c.before.keep in
-    let g = less_good a.text.now a.at a.table.now a.k m.natural-at.result
-    (sym m.before.before.byte_at.ensures ∙ m.before.if1.true) m.natural-at.ensures c.before.before.before.if2.false in
+returns-then-b-eq45 : tie.Need-returns-then-b-eq45
+returns-then-b-eq45 c =
+    let a = c.args in
+    let k = c.keep in
+    let g = less_good a.text.now a.at a.table.now a.k c.natural_at-n.result
+    (sym c.byte_at-b.ensures ∙ c.if-b-eq45.true) c.natural_at-n.ensures c.if-n-eq0.false in
     (k.ensures.0 ∙ g.0, k.ensures.1 ∙ g.1)
 
-natural_at_requires_2 : tie.Need-natural-at-requires-2
-natural_at_requires_2 c κs = search rules
+natural_at-requires : tie.Need-natural_at-requires
+natural_at-requires c κs = search rules
 
 keep-requires-2 : tie.Need-keep-requires-2
 keep-requires-2 c κs =
-    let m = c.before in
-    let a = m.before.before.before.before.args in
-    omega (arith, ap (λ (n : Numeral). n.value) m.natural-at2.ensures, at_small a.text.now a.at)
+    let a = c.args in
+    omega (arith, ap (λ (n : Numeral). n.value) c.natural_at.ensures, at_small a.text.now a.at)
 
-same_length_2 : tie.Need-same-length-2
-same_length_2 c = search rules
+shape_of-table : tie.Need-shape_of-table
+shape_of-table c = search rules
 
-returns_3 : tie.Need-returns-3
-returns_3 c =
-    let m = c.before.before.before in
-    let a = m.before.before.before.before.args in
-    let k = c.before.keep2 in
-    let g = plain_good a.text.now a.at a.table.now a.k m.natural-at2.result
-    (λ e. m.before.if1.false (m.before.before.byte_at.ensures ∙ e)) m.natural-at2.ensures in
+returns : tie.Need-returns
+returns c =
+    let a = c.args in
+    let k = c.keep-2 in
+    let g = plain_good a.text.now a.at a.table.now a.k c.natural_at.result
+    (λ e. c.if-b-eq45.false (c.byte_at-b.ensures ∙ e)) c.natural_at.ensures in
     (k.ensures.0 ∙ g.0, k.ensures.1 ∙ g.1)
 
 pub number_spec : {M : Type 1} → statement M
 number_spec =
     tie.close
     (tie.spec
-    byte-at-requires
-    add_natural_at
-    natural_at_requires
-    returns
+    byte_at-b-requires
+    overflow_add-at
+    natural_at-n-requires
+    returns-then-n-eq0
     keep-requires
-    same_length
-    returns_2
-    natural_at_requires_2
+    shape_of-table-then-b-eq45
+    returns-then-b-eq45
+    natural_at-requires
     keep-requires-2
-    same_length_2
-    returns_3)
+    shape_of-table
+    returns)

@@ -4,20 +4,20 @@ use lib.Seq.{set_out}
 use Rattle.numerals.proofs.put.Statement.{statement}
 use Rattle.numerals.proofs.put.Tie as tie
 
-mul-z : tie.Need-overflow-mul-z
-mul-z c = search rules
+offset_bounds-table-k : tie.Need-offset_bounds-table-k
+offset_bounds-table-k c = search rules
 
-slice-set-from-z : tie.Need-slice-set-from-z
-slice-set-from-z c = search rules
+bounds-table-k : tie.Need-bounds-table-k
+bounds-table-k c = search rules
 
-same_length : tie.Need-same-length
-same_length c = search rules
+shape_of-table : tie.Need-shape_of-table
+shape_of-table c = search rules
 
-returns : tie.Need-returns
-returns c = search rules
+returns-then-k-table : tie.Need-returns-then-k-table
+returns-then-k-table c = search rules
 
-returns_2 : tie.Need-returns-2
-returns_2 c = let a = c.before.args in sym (set_out a.table.now a.k a.z c.if1.false)
+returns-else-k-table : tie.Need-returns-else-k-table
+returns-else-k-table c = let a = c.args in sym (set_out a.table.now a.k a.z c.if-k-table.false)
 
 pub put_spec : {M : Type 1} → statement M
-put_spec = tie.close (tie.spec mul-z slice-set-from-z same_length returns returns_2)
+put_spec = tie.close (tie.spec offset_bounds-table-k bounds-table-k shape_of-table returns-then-k-table returns-else-k-table)

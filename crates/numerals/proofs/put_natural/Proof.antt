@@ -12,14 +12,14 @@ of-requires c κs = omega arith
 put-requires : tie.Need-put-requires
 put-requires c κs = search rules
 
-same_length : tie.Need-same-length
-same_length c = search rules
+shape_of-table : tie.Need-shape_of-table
+shape_of-table c = search rules
 
 returns : tie.Need-returns
 returns c =
-    let a = c.before.before.before.before.args in
-    let z = c.before.before.of in
-    c.before.put.ensures ∙ ap (set a.table.now a.k) (read_back _ z.type-inv ∙ z.ensures)
+    let a = c.args in
+    let z = c.of in
+    c.put.ensures ∙ ap (set a.table.now a.k) (read_back _ z.type_inv ∙ z.ensures)
 
 pub put_natural_spec : {M : Type 1} → statement M
-put_natural_spec = tie.close (tie.spec of-requires put-requires same_length returns)
+put_natural_spec = tie.close (tie.spec of-requires put-requires shape_of-table returns)

@@ -6,17 +6,17 @@ use borrow.Author.Rules.{rules}
 use Rattle.signed.proofs.at.Statement.{statement}
 use Rattle.signed.proofs.at.Tie as tie
 
-mul-result : tie.Need-overflow-mul-result
-mul-result c = search rules
+offset_bounds-t-i : tie.Need-offset_bounds-t-i
+offset_bounds-t-i c = search rules
 
-shared-slice-copy-out-result : tie.Need-shared-slice-copy-out-result
-shared-slice-copy-out-result c = search rules
+bounds-t-i : tie.Need-bounds-t-i
+bounds-t-i c = search rules
 
-returns : tie.Need-returns
-returns c = search rules
+returns-then-i-t : tie.Need-returns-then-i-t
+returns-then-i-t c = search rules
 
-returns_2 : tie.Need-returns-2
-returns_2 c = sym (get_or-eq_default c.before.args.t.now (pos 0) c.if1.false)
+returns-else-i-t : tie.Need-returns-else-i-t
+returns-else-i-t c = sym (get_or-eq_default c.args.t.now (pos 0) c.if-i-t.false)
 
 pub at_spec : {M : Type 1} → statement M
-at_spec = tie.close (tie.spec mul-result shared-slice-copy-out-result returns returns_2)
+at_spec = tie.close (tie.spec offset_bounds-t-i bounds-t-i returns-then-i-t returns-else-i-t)

@@ -15,7 +15,7 @@ equal-requires c κs = search rules
 returns : tie.Need-returns
 returns c =
     c.equal.ensures
-    ∙ ap₂ eq_z (read_back _ c.before.at.type-inv ∙ c.before.at.ensures) (to_z-of_z c.before.before.ranges.z)
+    ∙ ap₂ eq_z (read_back _ c.at.type_inv ∙ c.at.ensures) (to_z-of_z c.ranges.z)
 
 pub is_at_spec : {M : Type 1} → statement M
 is_at_spec = tie.close (tie.spec at-requires equal-requires returns)

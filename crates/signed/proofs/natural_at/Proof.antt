@@ -10,15 +10,15 @@ use Rattle.signed.proofs.natural_at.Tie as tie
 at-requires : tie.Need-at-requires
 at-requires c κs = search rules
 
-natural_requires : tie.Need-natural-requires
-natural_requires c κs = search rules
+natural-requires : tie.Need-natural-requires
+natural-requires c κs = search rules
 
 returns : tie.Need-returns
 returns c =
-    let e = read_back _ c.before.at.type-inv in
-    let small : nat c.before.at.result < 2 ^ 31 = nat_small _ (record { sfits = c.before.at.type-inv }) in
-    let is : c.natural.result ≡ nat c.before.at.result = c.natural.ensures ∙ ap nat e in
-    (c.natural.ensures ∙ ap nat (e ∙ c.before.at.ensures), omega (arith, is, small))
+    let e = read_back _ c.at.type_inv in
+    let small : nat c.at.result < 2 ^ 31 = nat_small _ (record { sfits = c.at.type_inv }) in
+    let is : c.natural.result ≡ nat c.at.result = c.natural.ensures ∙ ap nat e in
+    (c.natural.ensures ∙ ap nat (e ∙ c.at.ensures), omega (arith, is, small))
 
 pub natural_at_spec : {M : Type 1} → statement M
-natural_at_spec = tie.close (tie.spec at-requires natural_requires returns)
+natural_at_spec = tie.close (tie.spec at-requires natural-requires returns)

@@ -5,14 +5,14 @@ use Rattle.signed.proofs.Ranks.{rank_small, read_fits, sum_fits, sum_is}
 use Rattle.signed.proofs.rank.Statement.{statement}
 use Rattle.signed.proofs.rank.Tie as tie
 
-cast-result : tie.Need-overflow-cast-result
-cast-result c = read_fits c.args.z c.ranges.z
+overflow_cast-result : tie.Need-overflow_cast-result
+overflow_cast-result c = read_fits c.args.z c.ranges.z
 
-add-result : tie.Need-overflow-add-result
-add-result c = sum_fits c.args.z c.ranges.z
+overflow_add-result : tie.Need-overflow_add-result
+overflow_add-result c = sum_fits c.args.z c.ranges.z
 
-cast-result-2 : tie.Need-overflow-cast-result-2
-cast-result-2 c =
+overflow_cast-result-2 : tie.Need-overflow_cast-result-2
+overflow_cast-result-2 c =
     rw (sum_is c.args.z c.ranges.z) (tt, record { fits = omega (arith, rank_small c.args.z c.ranges.z) })
 
 returns : tie.Need-returns
@@ -21,4 +21,4 @@ returns c =
     (e, omega (arith, e, rank_small c.args.z c.ranges.z))
 
 pub rank_spec : {M : Type 1} → statement M
-rank_spec = tie.close (tie.spec cast-result add-result cast-result-2 returns)
+rank_spec = tie.close (tie.spec overflow_cast-result overflow_add-result overflow_cast-result-2 returns)

@@ -18,8 +18,8 @@ returns : tie.Need-returns
 returns c =
     c.equal.ensures
     ∙ ap₂ eq_z
-    (read_back _ c.before.before.at.type-inv ∙ c.before.before.at.ensures)
-    (read_back _ c.before.at2.type-inv ∙ c.before.at2.ensures)
+    (read_back _ c.at.type_inv ∙ c.at.ensures)
+    (read_back _ c.at-2.type_inv ∙ c.at-2.ensures)
 
 pub same_at_spec : {M : Type 1} → statement M
 same_at_spec = tie.close (tie.spec at-requires at-requires-2 equal-requires returns)

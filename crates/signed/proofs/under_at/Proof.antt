@@ -13,7 +13,7 @@ under-requires : tie.Need-under-requires
 under-requires c κs = search rules
 
 returns : tie.Need-returns
-returns c = c.under.ensures ∙ ap (λ (z : ℤ). nat (neg_ℤ z)) (read_back _ c.before.at.type-inv ∙ c.before.at.ensures)
+returns c = c.under.ensures ∙ ap (λ (z : ℤ). nat (neg_ℤ z)) (read_back _ c.at.type_inv ∙ c.at.ensures)
 
 pub under_at_spec : {M : Type 1} → statement M
 under_at_spec = tie.close (tie.spec at-requires under-requires returns)

@@ -5,23 +5,23 @@ use Rattle.signed.proofs.Makes.{of_bits, minus_fits, minus_bits}
 use Rattle.signed.proofs.with_sign.Statement.{statement}
 use Rattle.signed.proofs.with_sign.Tie as tie
 
-cast-z : tie.Need-overflow-cast-z
-cast-z c = search rules
+overflow_cast-z : tie.Need-overflow_cast-z
+overflow_cast-z c = search rules
 
-sub-result : tie.Need-overflow-sub-result
-sub-result c = minus_fits c.before.args.v c.before.requires
+overflow_sub-result : tie.Need-overflow_sub-result
+overflow_sub-result c = minus_fits c.args.v c.requires
 
-returns : tie.Need-returns
+returns-then-negative : tie.Need-returns-then-negative
 unfolding signed_of
-returns c =
-    let a = c.before.args in
-    minus_bits a.v c.before.requires ∙ ap (signed_of a.v) (sym c.if1.true)
+returns-then-negative c =
+    let a = c.args in
+    minus_bits a.v c.requires ∙ ap (signed_of a.v) (sym c.if-negative.true)
 
-returns_2 : tie.Need-returns-2
+returns-else-negative : tie.Need-returns-else-negative
 unfolding signed_of
-returns_2 c =
-    let a = c.before.args in
-    of_bits a.v c.before.requires ∙ ap (signed_of a.v) (sym c.if1.false)
+returns-else-negative c =
+    let a = c.args in
+    of_bits a.v c.requires ∙ ap (signed_of a.v) (sym c.if-negative.false)
 
 pub with_sign_spec : {M : Type 1} → statement M
-with_sign_spec = tie.close (tie.spec cast-z sub-result returns returns_2)
+with_sign_spec = tie.close (tie.spec overflow_cast-z overflow_sub-result returns-then-negative returns-else-negative)

@@ -6,44 +6,44 @@ use borrow.Author.Rules.{rules}
 use Rattle.formula.proofs.kept.keep.Statement.{statement}
 use Rattle.formula.proofs.kept.keep.Tie as tie
 
-mul_at : tie.Need-overflow-mul-at
-mul_at c = search rules
+overflow_mul-at : tie.Need-overflow_mul-at
+overflow_mul-at c = search rules
 
-mul-t : tie.Need-overflow-mul-t
-mul-t c = search rules
+offset_bounds-t-at : tie.Need-offset_bounds-t-at
+offset_bounds-t-at c = search rules
 
-slice-write-t : tie.Need-slice-write-t
-slice-write-t c = search rules
+bounds-t-at : tie.Need-bounds-t-at
+bounds-t-at c = search rules
 
-add-t : tie.Need-overflow-add-t
-add-t c = search rules
+overflow_add-t : tie.Need-overflow_add-t
+overflow_add-t c = search rules
 
-mul-t-2 : tie.Need-overflow-mul-t-2
-mul-t-2 c = search rules
+offset_bounds-t-at-2 : tie.Need-offset_bounds-t-at-2
+offset_bounds-t-at-2 c = search rules
 
-slice-write-t-2 : tie.Need-slice-write-t-2
-slice-write-t-2 c = simp length-set (omega arith)
+bounds-t-at-2 : tie.Need-bounds-t-at-2
+bounds-t-at-2 c = simp length-set (omega arith)
 
-add-t-2 : tie.Need-overflow-add-t-2
-add-t-2 c = search rules
+overflow_add-t-2 : tie.Need-overflow_add-t-2
+overflow_add-t-2 c = search rules
 
-mul-t-3 : tie.Need-overflow-mul-t-3
-mul-t-3 c = search rules
+offset_bounds-t-at-3 : tie.Need-offset_bounds-t-at-3
+offset_bounds-t-at-3 c = search rules
 
-slice-write-t-3 : tie.Need-slice-write-t-3
-slice-write-t-3 c = simp length-set (omega arith)
+bounds-t-at-3 : tie.Need-bounds-t-at-3
+bounds-t-at-3 c = simp length-set (omega arith)
 
-add-t-3 : tie.Need-overflow-add-t-3
-add-t-3 c = search rules
+overflow_add-t-3 : tie.Need-overflow_add-t-3
+overflow_add-t-3 c = search rules
 
-mul-t-4 : tie.Need-overflow-mul-t-4
-mul-t-4 c = search rules
+offset_bounds-t-at-4 : tie.Need-offset_bounds-t-at-4
+offset_bounds-t-at-4 c = search rules
 
-slice-write-t-4 : tie.Need-slice-write-t-4
-slice-write-t-4 c = search rules
+bounds-t-at-4 : tie.Need-bounds-t-at-4
+bounds-t-at-4 c = search rules
 
-same_length : tie.Need-same-length
-same_length c = search rules
+shape_of-t : tie.Need-shape_of-t
+shape_of-t c = search rules
 
 returns : tie.Need-returns
 unfolding kept
@@ -53,17 +53,17 @@ pub keep_spec : {M : Type 1} → statement M
 keep_spec =
     tie.close
     (tie.spec
-    mul_at
-    mul-t
-    slice-write-t
-    add-t
-    mul-t-2
-    slice-write-t-2
-    add-t-2
-    mul-t-3
-    slice-write-t-3
-    add-t-3
-    mul-t-4
-    slice-write-t-4
-    same_length
+    overflow_mul-at
+    offset_bounds-t-at
+    bounds-t-at
+    overflow_add-t
+    offset_bounds-t-at-2
+    bounds-t-at-2
+    overflow_add-t-2
+    offset_bounds-t-at-3
+    bounds-t-at-3
+    overflow_add-t-3
+    offset_bounds-t-at-4
+    bounds-t-at-4
+    shape_of-t
     returns)

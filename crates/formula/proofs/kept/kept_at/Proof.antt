@@ -5,21 +5,21 @@ use lib.ListN.{get_or-eq_default}
 use Rattle.formula.proofs.kept.kept_at.Statement.{statement}
 use Rattle.formula.proofs.kept.kept_at.Tie as tie
 
-mul-result : tie.Need-overflow-mul-result
-mul-result c = search rules
+offset_bounds-t-i : tie.Need-offset_bounds-t-i
+offset_bounds-t-i c = search rules
 
-shared-slice-read-result : tie.Need-shared-slice-read-result
-shared-slice-read-result c = search rules
+bounds-t-i : tie.Need-bounds-t-i
+bounds-t-i c = search rules
 
-cast-result : tie.Need-overflow-cast-result
-cast-result c = omega (arith, c.shared-slice-known.given c.before.before.args.i)
+overflow_cast-result : tie.Need-overflow_cast-result
+overflow_cast-result c = omega (arith, c.shared_slice_known-1.given c.args.i)
+
+returns-then-i-t : tie.Need-returns-then-i-t
+returns-then-i-t c = (refl, omega (arith, c.shared_slice_known-1.given c.args.i))
 
 returns : tie.Need-returns
-returns c = (refl, omega (arith, c.shared-slice-known.given c.before.before.args.i))
-
-returns_2 : tie.Need-returns-2
-returns_2 c = (sym (get_or-eq_default c.before.args.t.now 0 c.if1.false), omega arith)
+returns c = (sym (get_or-eq_default c.args.t.now 0 c.if-i-t.false), omega arith)
 
 pub kept_at_spec : {M : Type 1} → statement M
 kept_at_spec =
-    tie.close (tie.spec mul-result shared-slice-read-result cast-result returns returns_2)
+    tie.close (tie.spec offset_bounds-t-i bounds-t-i overflow_cast-result returns-then-i-t returns)

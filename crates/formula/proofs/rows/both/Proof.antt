@@ -6,17 +6,17 @@ use borrow.Author.Rules.{rules}
 use Rattle.formula.proofs.rows.both.Statement.{statement}
 use Rattle.formula.proofs.rows.both.Tie as tie
 
-add-t3 : tie.Need-overflow-add-t3
-add-t3 c = search rules
+overflow_add-result : tie.Need-overflow_add-result
+overflow_add-result c = search rules
 
-add-t4 : tie.Need-overflow-add-t4
-add-t4 c = search rules
+overflow_add-result-2 : tie.Need-overflow_add-result-2
+overflow_add-result-2 c = search rules
 
 larger-requires : tie.Need-larger-requires
 larger-requires c κs = search rules
 
-add-t6 : tie.Need-overflow-add-t6
-add-t6 c = search rules
+overflow_add-result-3 : tie.Need-overflow_add-result-3
+overflow_add-result-3 c = search rules
 
 larger-requires-2 : tie.Need-larger-requires-2
 larger-requires-2 c κs = search rules
@@ -26,9 +26,9 @@ larger-requires-3 c κs = search rules
 
 returns : tie.Need-returns
 unfolding both_facts
-returns c = facts_same refl (ap (λ (n : ℕ). 1 + n) c.before.before.larger.ensures) c.before.larger2.ensures c.larger3.ensures
+returns c = facts_same refl (ap (λ (n : ℕ). 1 + n) c.larger.ensures) c.larger-2.ensures c.larger-3.ensures
 
 pub both_spec : {M : Type 1} → statement M
 both_spec =
     tie.close
-    (tie.spec add-t3 add-t4 larger-requires add-t6 larger-requires-2 larger-requires-3 returns)
+    (tie.spec overflow_add-result overflow_add-result-2 larger-requires overflow_add-result-3 larger-requires-2 larger-requires-3 returns)

@@ -13,21 +13,19 @@ use Rattle.formula.proofs.rows.is_offset.Tie as tie
 under-requires : tie.Need-under-requires
 under-requires c κs = search rules
 
+returns-then-under-gt9999 : tie.Need-returns-then-under-gt9999
+returns-then-under-gt9999 c =
+    let e = c.under.ensures ∙ ap (λ (z : ℤ). nat (neg_ℤ z)) (to_z-of_z c.ranges.z) in
+    sym (offset_negative c.args.z (omega arith))
+
+natural-requires : tie.Need-natural-requires
+natural-requires c κs = search rules
+
 returns : tie.Need-returns
 returns c =
-    let a = c.before.before in
-    let e = c.before.under.ensures ∙ ap (λ (z : ℤ). nat (neg_ℤ z)) (to_z-of_z a.ranges.z) in
-    sym (offset_negative a.args.z (omega arith))
-
-natural_requires : tie.Need-natural-requires
-natural_requires c κs = search rules
-
-returns_2 : tie.Need-returns-2
-returns_2 c =
-    let a = c.before.before.before in
-    let e = c.before.before.under.ensures ∙ ap (λ (z : ℤ). nat (neg_ℤ z)) (to_z-of_z a.ranges.z) in
-    ap (λ (n : ℕ). leb n 9999) (c.natural.ensures ∙ ap nat (to_z-of_z a.ranges.z))
-    ∙ sym (offset_natural a.args.z (omega arith))
+    let e = c.under.ensures ∙ ap (λ (z : ℤ). nat (neg_ℤ z)) (to_z-of_z c.ranges.z) in
+    ap (λ (n : ℕ). leb n 9999) (c.natural.ensures ∙ ap nat (to_z-of_z c.ranges.z))
+    ∙ sym (offset_natural c.args.z (omega arith))
 
 pub is_offset_spec : {M : Type 1} → statement M
-is_offset_spec = tie.close (tie.spec under-requires returns natural_requires returns_2)
+is_offset_spec = tie.close (tie.spec under-requires returns-then-under-gt9999 natural-requires returns)

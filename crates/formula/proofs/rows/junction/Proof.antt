@@ -1,5 +1,5 @@
 use mathlib.Core.Path.{◌≡◌, sym, ◌∙◌, ap, ap₂}
-use mathlib.Core.Bool.{true}
+use mathlib.Core.Bool.{true, not}
 use lib.Dec.{eqb}
 use lib.IntN.{pos}
 use borrow.Author.Rules.{rules}
@@ -17,110 +17,99 @@ use Rattle.formula.proofs.rows.junction.Tie as tie
 below-requires : tie.Need-below-requires
 below-requires c κs = search rules
 
-returns : tie.Need-returns
+returns-then-not-below : tie.Need-returns-then-not-below
 unfolding pair_judged row_of
-returns c =
-    let r = c.before.before in
-    sym (if_false _ _ _ (and_first_false _ _ (rw (read_back r.before.before.args.w.a r.struct_told.given.1.0.1) at (fails _ c.before.below.ensures c.if1.true))))
+returns-then-not-below c =
+    sym (if_false _ _ _ (and_first_false _ _ (rw (read_back c.args.w.a c.struct_told-1.given.1.0.1) at (fails _ c.below.ensures (ap not c.if-not-below.true)))))
 
 below-requires-2 : tie.Need-below-requires-2
 below-requires-2 c κs = search rules
 
-returns_2 : tie.Need-returns-2
+returns-then-not-below-2 : tie.Need-returns-then-not-below-2
 unfolding pair_judged row_of
-returns_2 c =
-    let r = c.before.before.before.before.before in
+returns-then-not-below-2 c =
     sym
     (if_false _ _ _
-    (and_second_false _ _ (and_first_false _ _ (rw (read_back r.before.before.args.w.b r.struct_told.given.1.1.0.1) at (fails _ c.before.below2.ensures c.if2.true)))))
+    (and_second_false _ _ (and_first_false _ _ (rw (read_back c.args.w.b c.struct_told-1.given.1.1.0.1) at (fails _ c.below-2.ensures (ap not c.if-not-below-2.true))))))
 
 equal-requires : tie.Need-equal-requires
 equal-requires c κs = search rules
 
-returns_3 : tie.Need-returns-3
+returns-then-not-equal : tie.Need-returns-then-not-equal
 unfolding pair_judged row_of
-returns_3 c =
-    let r = c.before.before.before.before.before.before.before.before in
+returns-then-not-equal c =
     sym
     (if_false _ _ _
-    (and_second_false _ _ (and_second_false _ _ (rw (read_back r.before.before.args.w.c r.struct_told.given.1.1.1.0.1) at (fails _ c.before.equal.ensures c.if3.true)))))
+    (and_second_false _ _ (and_second_false _ _ (rw (read_back c.args.w.c c.struct_told-1.given.1.1.1.0.1) at (fails _ c.equal.ensures (ap not c.if-not-equal.true))))))
 
-part_requires : tie.Need-part-requires
-part_requires c κs =
-    let d = c.before.before.before.before.before.before.before in
-    (search rules, passes _ d.before.below.ensures d.if1.false, d.before.before.before.before.requires.1)
+part-a-requires : tie.Need-part-a-requires
+part-a-requires c κs =
+    (search rules, passes _ c.below.ensures (ap not c.if-not-below.false), c.requires.1)
 
-part-requires-2 : tie.Need-part-requires-2
-part-requires-2 c κs =
-    let d = c.before.before.before.before.before.before in
-    (search rules, passes _ d.before.below2.ensures d.if2.false, d.before.before.before.before.before.before.before.requires.1)
+part-b-requires : tie.Need-part-b-requires
+part-b-requires c κs =
+    (search rules, passes _ c.below-2.ensures (ap not c.if-not-below-2.false), c.requires.1)
 
-both-requires : tie.Need-both-requires
-both-requires c κs = search rules
+both-f-requires : tie.Need-both-f-requires
+both-f-requires c κs = search rules
 
-abbrev start : tie.After-both → tie.Start
+abbrev start : tie.After-both-f → tie.Start
 start c = c.before.before.before.before.before.before.before.before.before.before.before.before.before.before.before
 
 -- the numbers worked out are those of both parts
-known : (c : tie.After-both) →
+known : (c : tie.After-both-f) →
     let a = (start c).args in
-    c.both.result ≡ both_facts (facts_at a.facts.now (nat a.w.a)) (facts_at a.facts.now (nat a.w.b))
+    c.both-f.result ≡ both_facts (facts_at a.facts.now (nat a.w.a)) (facts_at a.facts.now (nat a.w.b))
 known c =
-    let r = c.before.before.before.before.before.before.before.before.before.before.before.before.before in
-    c.both.ensures
-    ∙ ap₂ both_facts (rw (read_back r.before.before.args.w.a r.struct_told.given.1.0.1) at c.before.before.before.part.ensures.0) (rw (read_back r.before.before.args.w.b r.struct_told.given.1.1.0.1) at c.before.part2.ensures.0)
+    c.both-f.ensures
+    ∙ ap₂ both_facts (rw (read_back c.args.w.a c.struct_told-1.given.1.0.1) at c.part-a.ensures.0) (rw (read_back c.args.w.b c.struct_told-1.given.1.1.0.1) at c.part-b.ensures.0)
 
 -- the three tests have passed
-tested : (c : tie.After-both) →
+tested : (c : tie.After-both-f) →
     let a = (start c).args in
     (below a.r a.w.a and below a.r a.w.b and eq_z a.w.c (pos 0)) ≡ true
 tested c =
-    let f = c.before.before.before.before.before in
-    let d = f.before.before.before in
-    let e = d.before.before.before in
-    let r = e.before.before in
     and_both _ _
-    (rw (read_back r.before.before.args.w.a r.struct_told.given.1.0.1) at (passes _ e.before.below.ensures e.if1.false))
+    (rw (read_back c.args.w.a c.struct_told-1.given.1.0.1) at (passes _ c.below.ensures (ap not c.if-not-below.false)))
     (and_both _ _
-    (rw (read_back r.before.before.args.w.b r.struct_told.given.1.1.0.1) at (passes _ d.before.below2.ensures d.if2.false))
-    (rw (read_back r.before.before.args.w.c r.struct_told.given.1.1.1.0.1) at (passes _ f.before.equal.ensures f.if3.false)))
+    (rw (read_back c.args.w.b c.struct_told-1.given.1.1.0.1) at (passes _ c.below-2.ensures (ap not c.if-not-below-2.false)))
+    (rw (read_back c.args.w.c c.struct_told-1.given.1.1.1.0.1) at (passes _ c.equal.ensures (ap not c.if-not-equal.false))))
 
 -- so the row is what its numbers say
-judged_is : (c : tie.After-both) {j : Judged} → j ≡ unmixed c.both.result →
+judged_is : (c : tie.After-both-f) {j : Judged} → j ≡ unmixed c.both-f.result →
     j ≡ pair_judged (start c).args.r (row_of (start c).args.w) (start c).args.facts.now
 unfolding pair_judged row_of
 judged_is c e = e ∙ ap unmixed (known c) ∙ sym (if_true _ _ _ (tested c))
 
-returns_4 : tie.Need-returns-4
+returns-then-f-eq0 : tie.Need-returns-then-f-eq0
 unfolding unmixed
-returns_4 c =
-    judged_is c.before.before (sym (if_true _ _ _ (or_left _ _ (eq-eqb _ 0 c.if4.true))))
+returns-then-f-eq0 c =
+    judged_is c.before.before (sym (if_true _ _ _ (or_left _ _ (eq-eqb _ 0 c.if-f-eq0.true))))
 
-returns_5 : tie.Need-returns-5
+returns-then-f-eq0-2 : tie.Need-returns-then-f-eq0-2
 unfolding unmixed
-returns_5 c =
-    let b = c.before.before.before.before in
-    judged_is b (sym (if_true _ _ _ (or_right (eqb b.both.result.loose 0) _ (eq-eqb _ 0 c.if5.true))))
+returns-then-f-eq0-2 c =
+    judged_is c.before.before.before.before (sym (if_true _ _ _ (or_right (eqb c.both-f.result.loose 0) _ (eq-eqb _ 0 c.if-f-eq0-2.true))))
 
-returns_6 : tie.Need-returns-6
+returns : tie.Need-returns
 unfolding unmixed
-returns_6 c =
+returns c =
     judged_is c.before.before.before.before
-    (sym (if_false _ _ _ (or_false _ _ (ne_eqb _ 0 c.before.before.if4.false) (ne_eqb _ 0 c.if5.false))))
+    (sym (if_false _ _ _ (or_false _ _ (ne_eqb _ 0 c.if-f-eq0.false) (ne_eqb _ 0 c.if-f-eq0-2.false))))
 
 pub junction_spec : {M : Type 1} → statement M
 junction_spec =
     tie.close
     (tie.spec
     below-requires
-    returns
+    returns-then-not-below
     below-requires-2
-    returns_2
+    returns-then-not-below-2
     equal-requires
-    returns_3
-    part_requires
-    part-requires-2
-    both-requires
-    returns_4
-    returns_5
-    returns_6)
+    returns-then-not-equal
+    part-a-requires
+    part-b-requires
+    both-f-requires
+    returns-then-f-eq0
+    returns-then-f-eq0-2
+    returns)

@@ -6,66 +6,66 @@ use borrow.Author.Rules.{rules}
 use Rattle.formula.proofs.rows.known.Statement.{statement}
 use Rattle.formula.proofs.rows.known.Tie as tie
 
-mul_at : tie.Need-overflow-mul-at
-mul_at c = search rules
+overflow_mul-at : tie.Need-overflow_mul-at
+overflow_mul-at c = search rules
 
-add-t4 : tie.Need-overflow-add-t4
-add-t4 c = search rules
+overflow_add-result : tie.Need-overflow_add-result
+overflow_add-result c = search rules
 
-mul-t5 : tie.Need-overflow-mul-t5
-mul-t5 c = search rules
+offset_bounds-facts-at : tie.Need-offset_bounds-facts-at
+offset_bounds-facts-at c = search rules
 
-shared-slice-read-t7 : tie.Need-shared-slice-read-t7
-shared-slice-read-t7 c = search rules
+bounds-facts-at : tie.Need-bounds-facts-at
+bounds-facts-at c = search rules
 
-add-t8 : tie.Need-overflow-add-t8
-add-t8 c = search rules
+overflow_add-result-2 : tie.Need-overflow_add-result-2
+overflow_add-result-2 c = search rules
 
-mul-t9 : tie.Need-overflow-mul-t9
-mul-t9 c = search rules
+offset_bounds-facts-at-2 : tie.Need-offset_bounds-facts-at-2
+offset_bounds-facts-at-2 c = search rules
 
-shared-slice-read-t11 : tie.Need-shared-slice-read-t11
-shared-slice-read-t11 c = search rules
+bounds-facts-at-2 : tie.Need-bounds-facts-at-2
+bounds-facts-at-2 c = search rules
 
-add-t12 : tie.Need-overflow-add-t12
-add-t12 c = search rules
+overflow_add-result-3 : tie.Need-overflow_add-result-3
+overflow_add-result-3 c = search rules
 
-mul-t13 : tie.Need-overflow-mul-t13
-mul-t13 c = search rules
+offset_bounds-facts-at-3 : tie.Need-offset_bounds-facts-at-3
+offset_bounds-facts-at-3 c = search rules
 
-shared-slice-read-t15 : tie.Need-shared-slice-read-t15
-shared-slice-read-t15 c = search rules
+bounds-facts-at-3 : tie.Need-bounds-facts-at-3
+bounds-facts-at-3 c = search rules
 
-add-t16 : tie.Need-overflow-add-t16
-add-t16 c = search rules
+overflow_add-result-4 : tie.Need-overflow_add-result-4
+overflow_add-result-4 c = search rules
 
-mul-t17 : tie.Need-overflow-mul-t17
-mul-t17 c = search rules
+offset_bounds-facts-at-4 : tie.Need-offset_bounds-facts-at-4
+offset_bounds-facts-at-4 c = search rules
 
-shared-slice-read-t19 : tie.Need-shared-slice-read-t19
-shared-slice-read-t19 c = search rules
+bounds-facts-at-4 : tie.Need-bounds-facts-at-4
+bounds-facts-at-4 c = search rules
 
 returns : tie.Need-returns
 unfolding facts_at
 returns c =
-    let a = c.before.before.before.before.args in
+    let a = c.args in
     facts_same (first_at_lem a.facts.now a.r) refl refl refl
 
 pub known_spec : {M : Type 1} → statement M
 known_spec =
     tie.close
     (tie.spec
-    mul_at
-    add-t4
-    mul-t5
-    shared-slice-read-t7
-    add-t8
-    mul-t9
-    shared-slice-read-t11
-    add-t12
-    mul-t13
-    shared-slice-read-t15
-    add-t16
-    mul-t17
-    shared-slice-read-t19
+    overflow_mul-at
+    overflow_add-result
+    offset_bounds-facts-at
+    bounds-facts-at
+    overflow_add-result-2
+    offset_bounds-facts-at-2
+    bounds-facts-at-2
+    overflow_add-result-3
+    offset_bounds-facts-at-3
+    bounds-facts-at-3
+    overflow_add-result-4
+    offset_bounds-facts-at-4
+    bounds-facts-at-4
     returns)

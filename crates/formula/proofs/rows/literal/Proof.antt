@@ -1,3 +1,4 @@
+use mathlib.Core.Bool.{not}
 use mathlib.Core.Path.{sym, ◌∙◌, ap}
 use Prim.Native.Nat.{ℕ, ◌-◌}
 use borrow.Author.Rules.{rules}
@@ -13,66 +14,59 @@ use Rattle.formula.proofs.rows.literal.Tie as tie
 below-requires : tie.Need-below-requires
 below-requires c κs = search rules
 
-returns : tie.Need-returns
+returns-then-not-below : tie.Need-returns-then-not-below
 unfolding literal_judged row_of
-returns c =
-    let r = c.before.before in
-    sym (if_false _ _ _ (and_first_false _ _ (rw (read_back r.before.args.w.a r.struct_told.given.1.0.1) at (fails _ c.before.below.ensures c.if1.true))))
+returns-then-not-below c =
+    sym (if_false _ _ _ (and_first_false _ _ (rw (read_back c.args.w.a c.struct_told-1.given.1.0.1) at (fails _ c.below.ensures (ap not c.if-not-below.true)))))
 
 below-requires-2 : tie.Need-below-requires-2
 below-requires-2 c κs = search rules
 
-returns_2 : tie.Need-returns-2
+returns-then-not-below-2 : tie.Need-returns-then-not-below-2
 unfolding literal_judged row_of
-returns_2 c =
-    let r = c.before.before.before.before.before in
+returns-then-not-below-2 c =
     sym
     (if_false _ _ _
-    (and_second_false _ _ (and_first_false _ _ (rw (read_back r.before.args.w.b r.struct_told.given.1.1.0.1) at (fails _ c.before.below2.ensures c.if2.true)))))
+    (and_second_false _ _ (and_first_false _ _ (rw (read_back c.args.w.b c.struct_told-1.given.1.1.0.1) at (fails _ c.below-2.ensures (ap not c.if-not-below-2.true))))))
 
-is-offset-requires : tie.Need-is-offset-requires
-is-offset-requires c κs = search rules
+is_offset-requires : tie.Need-is_offset-requires
+is_offset-requires c κs = search rules
 
-returns_3 : tie.Need-returns-3
+returns-then-not-is_offset : tie.Need-returns-then-not-is_offset
 unfolding literal_judged row_of
-returns_3 c =
-    let r = c.before.before.before.before.before.before.before.before in
+returns-then-not-is_offset c =
     sym
     (if_false _ _ _
-    (and_second_false _ _ (and_second_false _ _ (rw (read_back r.before.args.w.c r.struct_told.given.1.1.1.0.1) at (fails _ c.before.is-offset.ensures c.if3.true)))))
+    (and_second_false _ _ (and_second_false _ _ (rw (read_back c.args.w.c c.struct_told-1.given.1.1.1.0.1) at (fails _ c.is_offset.ensures (ap not c.if-not-is_offset.true))))))
 
-on-index-requires : tie.Need-on-index-requires
-on-index-requires c κs = search rules
+on_index-loose-requires : tie.Need-on_index-loose-requires
+on_index-loose-requires c κs = search rules
 
-sub-t5 : tie.Need-overflow-sub-t5
-sub-t5 c = rw c.on-index.ensures (bit_small _)
+overflow_sub-result : tie.Need-overflow_sub-result
+overflow_sub-result c = rw c.on_index-loose.ensures (bit_small _)
 
-returns_4 : tie.Need-returns-4
+returns : tie.Need-returns
 unfolding literal_judged row_of
-returns_4 c =
-    let f = c.before.before in
-    let d = f.before.before.before in
-    let e = d.before.before.before in
-    let r = e.before.before in
-    ap (λ (n : ℕ). Formed (record { size = 1; depth = 1; loose = n; fixed = 1 - n })) (rw (read_back r.before.args.w.b r.struct_told.given.1.1.0.1) at c.on-index.ensures)
+returns c =
+    ap (λ (n : ℕ). Formed (record { size = 1; depth = 1; loose = n; fixed = 1 - n })) (rw (read_back c.args.w.b c.struct_told-1.given.1.1.0.1) at c.on_index-loose.ensures)
     ∙ sym
     (if_true _ _ _
     (and_both _ _
-    (rw (read_back r.before.args.w.a r.struct_told.given.1.0.1) at (passes _ e.before.below.ensures e.if1.false))
+    (rw (read_back c.args.w.a c.struct_told-1.given.1.0.1) at (passes _ c.below.ensures (ap not c.if-not-below.false)))
     (and_both _ _
-    (rw (read_back r.before.args.w.b r.struct_told.given.1.1.0.1) at (passes _ d.before.below2.ensures d.if2.false))
-    (rw (read_back r.before.args.w.c r.struct_told.given.1.1.1.0.1) at (passes _ f.before.is-offset.ensures f.if3.false)))))
+    (rw (read_back c.args.w.b c.struct_told-1.given.1.1.0.1) at (passes _ c.below-2.ensures (ap not c.if-not-below-2.false)))
+    (rw (read_back c.args.w.c c.struct_told-1.given.1.1.1.0.1) at (passes _ c.is_offset.ensures (ap not c.if-not-is_offset.false))))))
 
 pub literal_spec : {M : Type 1} → statement M
 literal_spec =
     tie.close
     (tie.spec
     below-requires
-    returns
+    returns-then-not-below
     below-requires-2
-    returns_2
-    is-offset-requires
-    returns_3
-    on-index-requires
-    sub-t5
-    returns_4)
+    returns-then-not-below-2
+    is_offset-requires
+    returns-then-not-is_offset
+    on_index-loose-requires
+    overflow_sub-result
+    returns)

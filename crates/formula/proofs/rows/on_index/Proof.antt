@@ -11,33 +11,30 @@ use Rattle.formula.proofs.rows.on_index.Tie as tie
 equal-requires : tie.Need-equal-requires
 equal-requires c κs = search rules
 
-returns : tie.Need-returns
+returns-then-equal : tie.Need-returns-then-equal
 unfolding if◌then◌else◌ on_index bit
-returns c =
-    let a = c.before.before in
-    sym (on_index_is a.args.b _ _ (rw (to_z-of_z a.ranges.b) at (sym c.before.equal.ensures ∙ c.if1.true)) refl)
+returns-then-equal c =
+    sym (on_index_is c.args.b _ _ (rw (to_z-of_z c.ranges.b) at (sym c.equal.ensures ∙ c.if-equal.true)) refl)
 
 equal-requires-2 : tie.Need-equal-requires-2
 equal-requires-2 c κs = search rules
 
-returns_2 : tie.Need-returns-2
+returns-then-equal-2 : tie.Need-returns-then-equal-2
 unfolding if◌then◌else◌ on_index bit
-returns_2 c =
-    let a = c.before.before.before.before in
+returns-then-equal-2 c =
     sym
-    (on_index_is a.args.b _ _
-    (rw (to_z-of_z a.ranges.b) at (sym c.before.before.before.equal.ensures ∙ c.before.before.if1.false))
-    (rw (to_z-of_z a.ranges.b) at (sym c.before.equal2.ensures ∙ c.if2.true)))
+    (on_index_is c.args.b _ _
+    (rw (to_z-of_z c.ranges.b) at (sym c.equal.ensures ∙ c.if-equal.false))
+    (rw (to_z-of_z c.ranges.b) at (sym c.equal-2.ensures ∙ c.if-equal-2.true)))
 
-returns_3 : tie.Need-returns-3
+returns : tie.Need-returns
 unfolding if◌then◌else◌ on_index bit
-returns_3 c =
-    let a = c.before.before.before.before in
+returns c =
     sym
-    (on_index_is a.args.b _ _
-    (rw (to_z-of_z a.ranges.b) at (sym c.before.before.before.equal.ensures ∙ c.before.before.if1.false))
-    (rw (to_z-of_z a.ranges.b) at (sym c.before.equal2.ensures ∙ c.if2.false)))
+    (on_index_is c.args.b _ _
+    (rw (to_z-of_z c.ranges.b) at (sym c.equal.ensures ∙ c.if-equal.false))
+    (rw (to_z-of_z c.ranges.b) at (sym c.equal-2.ensures ∙ c.if-equal-2.false)))
 
 pub on_index_spec : {M : Type 1} → statement M
 on_index_spec =
-    tie.close (tie.spec equal-requires returns equal-requires-2 returns_2 returns_3)
+    tie.close (tie.spec equal-requires returns-then-equal equal-requires-2 returns-then-equal-2 returns)

@@ -4,15 +4,15 @@ use borrow.Author.Rules.{rules}
 use Rattle.formula.proofs.rows.over.Statement.{statement}
 use Rattle.formula.proofs.rows.over.Tie as tie
 
-add-t2 : tie.Need-overflow-add-t2
-add-t2 c = search rules
+overflow_add-result : tie.Need-overflow_add-result
+overflow_add-result c = search rules
 
-add-t3 : tie.Need-overflow-add-t3
-add-t3 c = search rules
+overflow_add-result-2 : tie.Need-overflow_add-result-2
+overflow_add-result-2 c = search rules
 
 returns : tie.Need-returns
 unfolding over_facts
 returns c = refl
 
 pub over_spec : {M : Type 1} → statement M
-over_spec = tie.close (tie.spec add-t2 add-t3 returns)
+over_spec = tie.close (tie.spec overflow_add-result overflow_add-result-2 returns)

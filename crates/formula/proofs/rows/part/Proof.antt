@@ -10,25 +10,23 @@ use Rattle.formula.specs.declared.rows.Facts.{Facts}
 use Rattle.formula.proofs.rows.part.Statement.{statement}
 use Rattle.formula.proofs.rows.part.Tie as tie
 
-natural_requires : tie.Need-natural-requires
-natural_requires c κs = search rules
+natural-requires : tie.Need-natural-requires
+natural-requires c κs = search rules
 
 known-requires : tie.Need-known-requires
 known-requires c κs =
-    let b = c.before.before in
-    omega (arith, c.natural.ensures ∙ ap nat (to_z-of_z b.ranges.z), below_nat _ b.args.z b.requires.1, b.requires.2.room)
+    omega (arith, c.natural.ensures ∙ ap nat (to_z-of_z c.ranges.z), below_nat _ c.args.z c.requires.1, c.requires.2.room)
 
 returns : tie.Need-returns
 returns c =
-    let b = c.before.before.before in
-    let less = below_nat _ b.args.z b.requires.1 in
-    let e = c.known.ensures ∙ ap (facts_at _) (c.before.natural.ensures ∙ ap nat (to_z-of_z b.ranges.z)) in (
+    let less = below_nat _ c.args.z c.requires.1 in
+    let e = c.known.ensures ∙ ap (facts_at _) (c.natural.ensures ∙ ap nat (to_z-of_z c.ranges.z)) in (
       e,
       (
-        subst (λ (f : Facts). f.size ≤ 4096) (sym e) (b.requires.2.size _ less),
-        subst (λ (f : Facts). f.depth ≤ 64) (sym e) (b.requires.2.depth _ less),
+        subst (λ (f : Facts). f.size ≤ 4096) (sym e) (c.requires.2.size _ less),
+        subst (λ (f : Facts). f.depth ≤ 64) (sym e) (c.requires.2.depth _ less),
       ),
     )
 
 pub part_spec : {M : Type 1} → statement M
-part_spec = tie.close (tie.spec natural_requires known-requires returns)
+part_spec = tie.close (tie.spec natural-requires known-requires returns)
