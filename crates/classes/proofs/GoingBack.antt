@@ -106,7 +106,7 @@ module _ (rows : ℕ → Row) (r : ℕ) (few : r < 1024) (formed : AllFormed row
   module _ (h next : ℕ) (eh : h ≡ hash_at rows r) (w : Walk rows r h next) where
     pub walk_end : next ≤ 0 → r ≡ class_of rows r
     walk_end z =
-        let e : latest rows h w.m ≡ 0 = sym w.is-latest ∙ (let o : next ≡ 0 = omega arith in o) in
+        let e : latest rows h w.m ≡ 0 = sym w.is_latest ∙ (let o : next ≡ 0 = omega arith in o) in
         sym
         (class_new rows r λ q l k.
         ⊎_elim
@@ -116,7 +116,7 @@ module _ (rows : ℕ → Row) (r : ℕ) (few : r < 1024) (formed : AllFormed row
 
     module _ (some_row : 0 < next) where
       last_is : Last rows h w.m (next - 1)
-      last_is = latest_some rows h w.m (next - 1) (sym w.is-latest ∙ (let o : next ≡ suc (next - 1) = omega arith in o))
+      last_is = latest_some rows h w.m (next - 1) (sym w.is_latest ∙ (let o : next ≡ suc (next - 1) = omega arith in o))
 
       pub walk_row : next - 1 < r
       walk_row = omega (arith, last_is.0, w.within)
@@ -249,7 +249,7 @@ module _ (rows : ℕ → Row) (forms sides heads : List ℕ) (r : ℕ) (f : Form
         record {
           before =
               get_or-set_same forms₃ (4 * r + 3) (get_or heads h 0) 0 (simp length-set (omega arith))
-              ∙ done.latest-of h small
+              ∙ done.latest_of h small
               ∙ ap (λ (x : ℕ). latest rows x r) eh;
           low =
               get_or-set_other sides₁ (2 * r + 1) (2 * r) f.high 0 (omega arith)
@@ -270,7 +270,7 @@ module _ (rows : ℕ → Row) (forms sides heads : List ℕ) (r : ℕ) (f : Form
         (λ t.
         let f = eqb-false x h t in
         get_or-set_other heads h x (r + 1) 0 f
-        ∙ done.latest-of x l
+        ∙ done.latest_of x l
         ∙ sym (latest_other rows x r (λ e. f (sym e ∙ sym eh))))
         (decide (eqb x h))
 

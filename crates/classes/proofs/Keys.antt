@@ -67,12 +67,12 @@ module _ (v : Bool) (s t : ℤ) where
   literals_akin nothing nothing c d p q e h =
       let k : c ≡ d = stands_same (offset_stands c p) (offset_stands d q) h in
       ap (alike (lit v s nothing c)) (let w : lit v t nothing d ≡ lit v s nothing c = cc in w) ∙ alike_refl _
-  literals_akin nothing parameter c d p q e h = absurd (omega (arith, (offset_stands c p).some-where))
-  literals_akin nothing index c d p q e h = absurd (omega (arith, (offset_stands c p).some-where))
-  literals_akin parameter nothing c d p q e h = absurd (omega (arith, (offset_stands d q).some-where))
+  literals_akin nothing parameter c d p q e h = absurd (omega (arith, (offset_stands c p).some_where))
+  literals_akin nothing index c d p q e h = absurd (omega (arith, (offset_stands c p).some_where))
+  literals_akin parameter nothing c d p q e h = absurd (omega (arith, (offset_stands d q).some_where))
   literals_akin parameter parameter c d p q e h = on_zero _ _ e (eq_of (atom c ⊖ atom c) (atom d ⊖ atom d) (omega arith))
   literals_akin parameter index c d p q e h = on_zero _ _ e (eq_of (atom c ⊖ atom c) ((atom d ⊖ num 0) ⊖ atom d) (omega arith))
-  literals_akin index nothing c d p q e h = absurd (omega (arith, (offset_stands d q).some-where))
+  literals_akin index nothing c d p q e h = absurd (omega (arith, (offset_stands d q).some_where))
   literals_akin index parameter c d p q e h = on_zero _ _ e (eq_of ((atom c ⊖ num 0) ⊖ atom c) (atom d ⊖ atom d) (omega arith))
   literals_akin index index c d p q e h = on_zero _ _ e (eq_of ((atom c ⊖ num 0) ⊖ atom c) ((atom d ⊖ num 0) ⊖ atom d) (omega arith))
 

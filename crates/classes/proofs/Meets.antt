@@ -84,7 +84,7 @@ module _ (u v : ℕ) where
   shifts_found (some a) none h k e = cc
   shifts_found (some a) (some b) h k e =
       let d : a -ℤ (pos u -ℤ pos v) ≡ b = cc in
-      if_false _ _ _ (ne_eqb (shift_code (some a)) 0 (λ z. omega (arith, z, h.some-where)))
+      if_false _ _ _ (ne_eqb (shift_code (some a)) 0 (λ z. omega (arith, z, h.some_where)))
       ∙ eq-eqb (shift_code (some b) + u) (shift_code (some a) + v) (omega (arith, h.more, k.more, of_eq (atom a ⊖ (num u ⊖ num v)) (atom b) d))
 
   -- of formulas that are akin both have a shift, or none
@@ -94,7 +94,7 @@ module _ (u v : ℕ) where
   found_shifts none (some b) h k l e = cc
   found_shifts (some a) none h k l e = cc
   found_shifts (some a) (some b) h k l e =
-      let d = sym (if_false _ _ _ (ne_eqb (shift_code (some a)) 0 (λ z. omega (arith, z, h.some-where)))) ∙ e in
+      let d = sym (if_false _ _ _ (ne_eqb (shift_code (some a)) 0 (λ z. omega (arith, z, h.some_where)))) ∙ e in
       ap some (eq_of (atom a ⊖ (num u ⊖ num v)) (atom b) (omega (arith, h.more, k.more, eqb-true (shift_code (some b) + u) (shift_code (some a) + v) d)))
 
 -- ---- literals

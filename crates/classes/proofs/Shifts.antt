@@ -89,12 +89,12 @@ module _ (p q : ℕ) where
 pub lesser_code : (x y : Option ℤ) → Coded x (shift_code x) → Coded y (shift_code y) → shift_code (lesser x y) ≡ smaller (shift_code x) (shift_code y)
 unfolding lesser
 lesser_code none y h k = sym (smaller_left _ _ h)
-lesser_code (some a) none h k = sym (smaller_right _ _ h.some-where k)
+lesser_code (some a) none h k = sym (smaller_right _ _ h.some_where k)
 lesser_code (some a) (some b) h k = go (le_z a b) refl
   where
     go : (t : Bool) → le_z a b ≡ t → shift_code (if le_z a b then some a else some b) ≡ smaller (shift_code (some a)) (shift_code (some b))
-    go true e = ap shift_code (if_true _ (some a) (some b) e) ∙ sym (smaller_le _ _ h.some-where k.some-where (omega (arith, h.more, k.more, of_le (atom a) (atom b) e)))
-    go false e = ap shift_code (if_false _ (some a) (some b) e) ∙ sym (smaller_lt _ _ h.some-where k.some-where (omega (arith, h.more, k.more, of_not_le (atom a) (atom b) e)))
+    go true e = ap shift_code (if_true _ (some a) (some b) e) ∙ sym (smaller_le _ _ h.some_where k.some_where (omega (arith, h.more, k.more, of_le (atom a) (atom b) e)))
+    go false e = ap shift_code (if_false _ (some a) (some b) e) ∙ sym (smaller_lt _ _ h.some_where k.some_where (omega (arith, h.more, k.more, of_not_le (atom a) (atom b) e)))
 
 pub lesser_coded : (x y : Option ℤ) → Coded x (shift_code x) → Coded y (shift_code y) → Coded (lesser x y) (shift_code (lesser x y))
 unfolding lesser if◌then◌else◌
@@ -136,19 +136,19 @@ abbrev pub over : Option ℤ → Option ℤ → ℕ
 over w x = above (shift_code w) (shift_code x)
 
 over_small : (w : Option ℤ) (z : ℤ) → Part w (some z) → over w (some z) < 32767
-over_small w z h = omega (arith, above_some (shift_code w) (shift_code (some z)) h.own.some-where, h.own.small)
+over_small w z h = omega (arith, above_some (shift_code w) (shift_code (some z)) h.own.some_where, h.own.small)
 
 module _ (w w' : ℤ) (z z' : ℤ) (h : Part (some w) (some z)) (h' : Part (some w') (some z')) where
   over_same : (z -ℤ w) ≡ (z' -ℤ w') → over (some w) (some z) ≡ over (some w') (some z')
   over_same e =
       omega
-      (arith, of_eq (atom z ⊖ atom w) (atom z' ⊖ atom w') e, h.row.more, h'.row.more, h.own.more, h'.own.more, above_some (shift_code (some w)) (shift_code (some z)) h.own.some-where, above_some (shift_code (some w')) (shift_code (some z')) h'.own.some-where)
+      (arith, of_eq (atom z ⊖ atom w) (atom z' ⊖ atom w') e, h.row.more, h'.row.more, h.own.more, h'.own.more, above_some (shift_code (some w)) (shift_code (some z)) h.own.some_where, above_some (shift_code (some w')) (shift_code (some z')) h'.own.some_where)
 
   same_over : over (some w) (some z) ≡ over (some w') (some z') → (z -ℤ w) ≡ (z' -ℤ w')
   same_over e =
       eq_of (atom z ⊖ atom w) (atom z' ⊖ atom w')
       (omega
-      (arith, e, h.under h.own.some-where, h'.under h'.own.some-where, h.row.more, h'.row.more, h.own.more, h'.own.more, above_some (shift_code (some w)) (shift_code (some z)) h.own.some-where, above_some (shift_code (some w')) (shift_code (some z')) h'.own.some-where))
+      (arith, e, h.under h.own.some_where, h'.under h'.own.some_where, h.row.more, h'.row.more, h.own.more, h'.own.more, above_some (shift_code (some w)) (shift_code (some z)) h.own.some_where, above_some (shift_code (some w')) (shift_code (some z')) h'.own.some_where))
 
 -- as far above exactly if what is left without the row's shift is the same
 pub overs_fit : (w x w' x' : Option ℤ) → Part w x → Part w' x' → over w x ≡ over w' x' → down (or_zero w) x ≡ down (or_zero w') x'
@@ -156,8 +156,8 @@ unfolding down or_zero
 overs_fit w none w' none h h' e = refl
 overs_fit w none w' (some z') h h' e = absurd (omega (arith, over_small w' z' h', above_none (shift_code w) (shift_code none) h.own))
 overs_fit w (some z) w' none h h' e = absurd (omega (arith, over_small w z h, above_none (shift_code w') (shift_code none) h'.own))
-overs_fit none (some z) w' (some z') h h' e = absurd (omega (arith, h.row, h.under h.own.some-where))
-overs_fit (some w) (some z) none (some z') h h' e = absurd (omega (arith, h'.row, h'.under h'.own.some-where))
+overs_fit none (some z) w' (some z') h h' e = absurd (omega (arith, h.row, h.under h.own.some_where))
+overs_fit (some w) (some z) none (some z') h h' e = absurd (omega (arith, h'.row, h'.under h'.own.some_where))
 overs_fit (some w) (some z) (some w') (some z') h h' e = ap some (same_over w w' z z' h h' e)
 
 pub fit_overs : (w x w' x' : Option ℤ) → Part w x → Part w' x' → down (or_zero w) x ≡ down (or_zero w') x' → over w x ≡ over w' x'
@@ -165,13 +165,13 @@ unfolding down or_zero
 fit_overs w none w' none h h' e = above_none (shift_code w) (shift_code none) h.own ∙ sym (above_none (shift_code w') (shift_code none) h'.own)
 fit_overs w none w' (some z') h h' e = cc
 fit_overs w (some z) w' none h h' e = cc
-fit_overs none (some z) w' (some z') h h' e = absurd (omega (arith, h.row, h.under h.own.some-where))
-fit_overs (some w) (some z) none (some z') h h' e = absurd (omega (arith, h'.row, h'.under h'.own.some-where))
+fit_overs none (some z) w' (some z') h h' e = absurd (omega (arith, h.row, h.under h.own.some_where))
+fit_overs (some w) (some z) none (some z') h h' e = absurd (omega (arith, h'.row, h'.under h'.own.some_where))
 fit_overs (some w) (some z) (some w') (some z') h h' e = over_same w w' z z' h h' (let k : z -ℤ w ≡ z' -ℤ w' = cc in k)
 
 -- shifts with the same number are the same
 pub coded_same : (x y : Option ℤ) → Coded x (shift_code x) → Coded y (shift_code y) → shift_code x ≡ shift_code y → x ≡ y
 coded_same none none h k e = refl
-coded_same none (some b) h k e = absurd (omega (arith, h, e, k.some-where))
-coded_same (some a) none h k e = absurd (omega (arith, k, e, h.some-where))
+coded_same none (some b) h k e = absurd (omega (arith, h, e, k.some_where))
+coded_same (some a) none h k e = absurd (omega (arith, k, e, h.some_where))
 coded_same (some a) (some b) h k e = ap some (stands_same h k e)

@@ -58,7 +58,7 @@ module _ (rows : ℕ → Row) (w : Row) where
   leads_other m v f l =
       record {
         within = omega (arith, l.within);
-        of_place = l.of-place;
+        of_place = l.of_place;
         same = ⊎_elim (λ t. absurd (f (same_place (rows m) w t))) (λ t. before_other m t) (decide (same_row (rows m) w)) ∙ l.same;
       }
 
@@ -83,7 +83,7 @@ module _ (rows : ℕ → Row) (w : Row) where
     leads_on u h k =
         record {
           within = omega (arith, l.within, k.within);
-          of_place = k.of-place;
+          of_place = k.of_place;
           same = is_last ∙ before_other (v - 1) h ∙ k.same;
         }
 

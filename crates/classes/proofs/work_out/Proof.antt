@@ -8,7 +8,7 @@ use Rattle.classes.proofs.GoingBack.{done_none, forms_more, sides_more, heads_mo
 use Rattle.classes.proofs.work_out.Statement.{statement}
 use Rattle.classes.proofs.work_out.Tie as tie
 
-abbrev invariant_loop : tie.invariant-loop
+abbrev invariant_loop : tie.invariant-loop-r
 invariant_loop schema s proof n forms₀ sides₀ heads₀ r₀ forms sides heads r =
     (r ≤ n)
     × (length forms ≡ length forms₀)
@@ -19,50 +19,47 @@ invariant_loop schema s proof n forms₀ sides₀ heads₀ r₀ forms sides head
     × (sides ≡ sides_after (formula_rows schema s proof) sides₀ r)
     × (heads ≡ heads_after (formula_rows schema s proof) heads₀ r)
 
-abbrev decreases_loop : tie.decreases-loop
+abbrev decreases_loop : tie.decreases-loop-r
 decreases_loop schema s proof n forms₀ sides₀ heads₀ r₀ forms sides heads r = n - r
 
-loop_holds : tie.Need-loop-init invariant_loop decreases_loop
+loop-r-init : tie.Need-loop-r-init invariant_loop decreases_loop
 unfolding forms_after sides_after heads_after
-loop_holds c =
-    let b = c.before.before.before in
-    (omega arith, refl, refl, refl, done_none _ _ _ _ b.requires.1.0, refl, refl, refl)
+loop-r-init c =
+    (omega arith, refl, refl, refl, done_none _ _ _ _ c.requires.1.0, refl, refl, refl)
 
 step-requires : tie.Need-step-requires invariant_loop decreases_loop
 step-requires c κs =
-    let l = c.before.before.before.before.loop in
-    let b = c.before.before.before.before.before.before.before.before in (
-      (omega (arith, b.requires.0), omega (arith, b.requires.0), omega (arith, b.requires.0), omega (arith, b.requires.0)),
-      (λ q k. b.requires.1.1 q (omega arith), l.invariant.4),
+    let l = c.loop-r in
+    (
+      (omega (arith, c.requires.0), omega (arith, c.requires.0), omega (arith, c.requires.0), omega (arith, c.requires.0)),
+      (λ q k. c.requires.1.1 q (omega arith), l.invariant.4),
     )
 
-add_r : tie.Need-overflow-add-r invariant_loop decreases_loop
-add_r c = omega (arith, c.before.before.before.before.before.before.before.before.before.before.before.before.before.before.before.requires.0)
+overflow_add-r : tie.Need-overflow_add-r invariant_loop decreases_loop
+overflow_add-r c = omega (arith, c.requires.0)
 
-loop_less : tie.Need-loop-smaller invariant_loop decreases_loop
-loop_less c = omega arith
+loop-r-smaller : tie.Need-loop-r-smaller invariant_loop decreases_loop
+loop-r-smaller c = omega arith
 
-loop_again : tie.Need-loop-preserved invariant_loop decreases_loop
-loop_again c =
-    let s = c.before.before.before.before.before.before in
-    let l = s.before.before.before.before.before.loop in
-    (omega arith, s.step.auto.1.1.1.1.0 ∙ l.invariant.1, s.step.auto.1.1.1.1.1.0 ∙ l.invariant.2, s.step.auto.1.1.1.1.1.1.0 ∙ l.invariant.3, s.step.ensures.1.1.1, forms_more _ _ _ l.invariant.5 s.step.ensures.0, sides_more _ _ _ l.invariant.6 s.step.ensures.1.0, heads_more _ _ _ l.invariant.7 s.step.ensures.1.1.0)
+loop-r-preserved : tie.Need-loop-r-preserved invariant_loop decreases_loop
+loop-r-preserved c =
+    let l = c.loop-r in
+    (omega arith, c.step.auto.forms ∙ l.invariant.1, c.step.auto.sides ∙ l.invariant.2, c.step.auto.heads ∙ l.invariant.3, c.step.ensures.1.1.1, forms_more _ _ _ l.invariant.5 c.step.ensures.0, sides_more _ _ _ l.invariant.6 c.step.ensures.1.0, heads_more _ _ _ l.invariant.7 c.step.ensures.1.1.0)
 
-same_length : tie.Need-same-length invariant_loop decreases_loop
-same_length c = c.before.loop.invariant.1
+shape_of-forms : tie.Need-shape_of-forms invariant_loop decreases_loop
+shape_of-forms c = c.loop-r.invariant.1
 
-same_length_2 : tie.Need-same-length-2 invariant_loop decreases_loop
-same_length_2 c = c.before.loop.invariant.2
+shape_of-sides : tie.Need-shape_of-sides invariant_loop decreases_loop
+shape_of-sides c = c.loop-r.invariant.2
 
-same_length_3 : tie.Need-same-length-3 invariant_loop decreases_loop
-same_length_3 c = c.before.loop.invariant.3
+shape_of-heads : tie.Need-shape_of-heads invariant_loop decreases_loop
+shape_of-heads c = c.loop-r.invariant.3
 
 returns : tie.Need-returns invariant_loop decreases_loop
 returns c =
-    let b = c.before.before.before.before.before in
-    let l = c.before.loop in
-    let rows = formula_rows b.args.schema.now b.args.s b.args.proof.now in
-    let e : l.r ≡ b.args.n = omega arith in (
+    let l = c.loop-r in
+    let rows = formula_rows c.args.schema.now c.args.s c.args.proof.now in
+    let e : l.r ≡ c.args.n = omega arith in (
       l.invariant.5 ∙ ap (forms_after rows _) e,
       (l.invariant.6 ∙ ap (sides_after rows _) e, (l.invariant.7 ∙ ap (heads_after rows _) e, λ q k. l.invariant.4.worked q (omega arith))),
     )
@@ -73,12 +70,12 @@ work_out_spec =
     (tie.spec
     invariant_loop
     decreases_loop
-    loop_holds
+    loop-r-init
     step-requires
-    add_r
-    loop_less
-    loop_again
-    same_length
-    same_length_2
-    same_length_3
+    overflow_add-r
+    loop-r-smaller
+    loop-r-preserved
+    shape_of-forms
+    shape_of-sides
+    shape_of-heads
     returns)

@@ -5,43 +5,43 @@ use Rattle.formula.proofs.Columns.{schema_column, proof_column}
 use Rattle.leaves.proofs.same_in.Statement.{statement}
 use Rattle.leaves.proofs.same_in.Tie as tie
 
-mul-same-as : tie.Need-overflow-mul-same-as
-mul-same-as c = search rules
+overflow_mul-r : tie.Need-overflow_mul-r
+overflow_mul-r c = search rules
 
-add-same-as : tie.Need-overflow-add-same-as
-add-same-as c = search rules
+overflow_add-r : tie.Need-overflow_add-r
+overflow_add-r c = search rules
 
-same-as-requires : tie.Need-same-as-requires
-same-as-requires c κs = search rules
+same_as-requires : tie.Need-same_as-requires
+same_as-requires c κs = search rules
 
-mul-same-as-2 : tie.Need-overflow-mul-same-as-2
-mul-same-as-2 c = search rules
+overflow_mul-r-else-r-s : tie.Need-overflow_mul-r-else-r-s
+overflow_mul-r-else-r-s c = search rules
 
-add-same-as-2 : tie.Need-overflow-add-same-as-2
-add-same-as-2 c = search rules
+overflow_add-r-else-r-s : tie.Need-overflow_add-r-else-r-s
+overflow_add-r-else-r-s c = search rules
 
-same-as-requires-2 : tie.Need-same-as-requires-2
-same-as-requires-2 c κs = search rules
+same_as-requires-else-r-s : tie.Need-same_as-requires-else-r-s
+same_as-requires-else-r-s c κs = search rules
 
-returns : tie.Need-returns
-returns c =
-    let a = c.before.before.args in
-    c.same-as.ensures ∙ ap₂ eq_z (schema_column a.schema.now a.s a.proof.now a.r a.k c.before.if1.true c.before.before.requires.0.1) refl
+returns-then-r-s : tie.Need-returns-then-r-s
+returns-then-r-s c =
+    let a = c.args in
+    c.same_as.ensures ∙ ap₂ eq_z (schema_column a.schema.now a.s a.proof.now a.r a.k c.if-r-s.true c.requires.0.1) refl
 
-returns_2 : tie.Need-returns-2
-returns_2 c =
-    let a = c.before.before.args in
-    c.same-as2.ensures ∙ ap₂ eq_z (proof_column a.schema.now a.s a.proof.now a.r a.k c.before.if1.false c.before.before.requires.0.1) refl
+returns-else-r-s : tie.Need-returns-else-r-s
+returns-else-r-s c =
+    let a = c.args in
+    c.same_as-else-r-s.ensures ∙ ap₂ eq_z (proof_column a.schema.now a.s a.proof.now a.r a.k c.if-r-s.false c.requires.0.1) refl
 
 pub same_in_spec : {M : Type 1} → statement M
 same_in_spec =
     tie.close
     (tie.spec
-    mul-same-as
-    add-same-as
-    same-as-requires
-    mul-same-as-2
-    add-same-as-2
-    same-as-requires-2
-    returns
-    returns_2)
+    overflow_mul-r
+    overflow_add-r
+    same_as-requires
+    overflow_mul-r-else-r-s
+    overflow_add-r-else-r-s
+    same_as-requires-else-r-s
+    returns-then-r-s
+    returns-else-r-s)

@@ -9,45 +9,45 @@ use lib.Seq.{drop-length}
 use Rattle.output.proofs.clear.Statement.{statement}
 use Rattle.output.proofs.clear.Tie as tie
 
-abbrev invariant_loop : tie.invariant-loop
+abbrev invariant_loop : tie.invariant-loop-i
 invariant_loop out₀ i₀ out i = (out ≡ replicate i 0 ++ drop i out₀) × (i ≤ length out₀) × (length out ≡ length out₀)
 
-abbrev decreases_loop : tie.decreases-loop
+abbrev decreases_loop : tie.decreases-loop-i
 decreases_loop out₀ i₀ out i = length out₀ - i
 
-loop_holds : tie.Need-loop-init invariant_loop decreases_loop
-loop_holds c = (fill_none c.args.out.now 0, omega arith, refl)
+loop-i-init : tie.Need-loop-i-init invariant_loop decreases_loop
+loop-i-init c = (fill_none c.args.out.now 0, omega arith, refl)
 
-slice-write-out : tie.Need-slice-write-out invariant_loop decreases_loop
-slice-write-out c = omega arith
+bounds-out-i : tie.Need-bounds-out-i invariant_loop decreases_loop
+bounds-out-i c = omega arith
 
-add-i : tie.Need-overflow-add-i invariant_loop decreases_loop
-add-i c = omega arith
+overflow_add-i : tie.Need-overflow_add-i invariant_loop decreases_loop
+overflow_add-i c = omega arith
 
-loop_less : tie.Need-loop-smaller invariant_loop decreases_loop
-loop_less c = omega arith
+loop-i-smaller : tie.Need-loop-i-smaller invariant_loop decreases_loop
+loop-i-smaller c = omega arith
 
-loop_again : tie.Need-loop-preserved invariant_loop decreases_loop
-loop_again c =
-    let i = c.before.loop.i in
-    let out = c.before.loop.out in (
-      ap (λ (l : List ℕ). set l i 0) c.before.loop.invariant.0 ∙ fill_more i 0 c.before.before.args.out.now (omega arith),
+loop-i-preserved : tie.Need-loop-i-preserved invariant_loop decreases_loop
+loop-i-preserved c =
+    let i = c.loop-i.i in
+    let out = c.loop-i.out in (
+      ap (λ (l : List ℕ). set l i 0) c.loop-i.invariant.0 ∙ fill_more i 0 c.args.out.now (omega arith),
       omega arith,
-      length-set out i 0 ∙ c.before.loop.invariant.2,
+      length-set out i 0 ∙ c.loop-i.invariant.2,
     )
 
-same_length : tie.Need-same-length invariant_loop decreases_loop
-same_length c = c.before.loop.invariant.2
+shape_of-out : tie.Need-shape_of-out invariant_loop decreases_loop
+shape_of-out c = c.loop-i.invariant.2
 
 returns : tie.Need-returns invariant_loop decreases_loop
 returns c =
-    let out = c.before.before.args.out.now in
-    let done : c.before.loop.i ≡ length out = omega arith in
-    c.before.loop.invariant.0
+    let out = c.args.out.now in
+    let done : c.loop-i.i ≡ length out = omega arith in
+    c.loop-i.invariant.0
     ∙ ap (λ (n : ℕ). replicate n 0 ++ drop n out) done
     ∙ ap (λ (l : List ℕ). replicate (length out) 0 ++ l) (drop-length out)
     ∙ append-nil (replicate (length out) 0)
 
 pub clear_spec : {M : Type 1} → statement M
 clear_spec =
-    tie.close (tie.spec invariant_loop decreases_loop loop_holds slice-write-out add-i loop_less loop_again same_length returns)
+    tie.close (tie.spec invariant_loop decreases_loop loop-i-init bounds-out-i overflow_add-i loop-i-smaller loop-i-preserved shape_of-out returns)

@@ -30,64 +30,63 @@ together s = sym (spread_append (R s) (Set s))
 fits : (s : tie.Start) → length (spread (R s) ++ spread (Set s)) ≤ length (L s)
 fits s = omega (arith, ap length (together s), row_length (R s ++ Set s) (some s), s.requires.2)
 
-put-numbers-requires : tie.Need-put-numbers-requires
-put-numbers-requires c κs =
-    let s = c.before.before in
-    (s.requires.0.digits, omega (arith, fits s, length-append (spread (R s)) (spread (Set s))))
+put_numbers-at-requires : tie.Need-put_numbers-at-requires
+put_numbers-at-requires c κs =
+    (c.requires.0.digits, omega (arith, fits c.before.before, length-append (spread (R c.before.before)) (spread (Set c.before.before))))
 
 -- after the row's own numbers
-abbrev S : tie.After-slice-known2 → tie.Start
+abbrev S : tie.After-slice_known-2-1 → tie.Start
 S c = c.before.before.before.before.before
 
-room : (c : tie.After-slice-known2) → Room (spread (R (S c))) (spread (Set (S c))) (L (S c)) c.before.before.put-numbers.new.0 c.before.before.put-numbers.result
-room c = record { is = c.before.before.put-numbers.ensures.1; ends = c.before.before.put-numbers.ensures.0; fits = fits (S c) }
+room : (c : tie.After-slice_known-2-1) → Room (spread (R (S c))) (spread (Set (S c))) (L (S c)) c.put_numbers-at.new.out c.put_numbers-at.result
+room c = record { is = c.put_numbers-at.ensures.1; ends = c.put_numbers-at.ensures.0; fits = fits (S c) }
 
-sub-put-numbers : tie.Need-overflow-sub-put-numbers
-sub-put-numbers c = lent_start (room c)
+slice_bounds-put_numbers-count : tie.Need-slice_bounds-put_numbers-count
+slice_bounds-put_numbers-count c = lent_start (room c)
 
-part-put-numbers-start : tie.Need-slice-bounds-put-numbers-start
-part-put-numbers-start c = lent_start (room c)
+slice_bounds-put_numbers-start : tie.Need-slice_bounds-put_numbers-start
+slice_bounds-put_numbers-start c = lent_start (room c)
 
-part-put-numbers-end : tie.Need-slice-bounds-put-numbers-end
-part-put-numbers-end c = search rules
+slice_bounds-put_numbers-end : tie.Need-slice_bounds-put_numbers-end
+slice_bounds-put_numbers-end c = search rules
 
-put-numbers-requires-2 : tie.Need-put-numbers-requires-2
-put-numbers-requires-2 c κs = ((S c.before).requires.1, lent_room (room c.before))
+put_numbers-requires : tie.Need-put_numbers-requires
+put_numbers-requires c κs = ((S c.before).requires.1, lent_room (room c.before))
 
 -- after the set
-abbrev B : tie.After-slice-known3 → tie.After-slice-known2
+abbrev B : tie.After-slice_known-3-1 → tie.After-slice_known-2-1
 B c = c.before.before.before.before
 
-abbrev N : tie.After-slice-known3 → ℕ
-N c = (B c).before.before.put-numbers.result + c.before.before.put-numbers2.result
+abbrev N : tie.After-slice_known-3-1 → ℕ
+N c = (B c).before.before.put_numbers.result + c.put_numbers.result
 
-abbrev Out : tie.After-slice-known3 → List ℕ
+abbrev Out : tie.After-slice_known-3-1 → List ℕ
 Out c =
-    let p = (B c).before.before.put-numbers in
-    put_mid p.result (length p.last.0 - p.result) p.last.0 c.before.before.put-numbers2.new.0
+    let p = (B c).before.before.put_numbers in
+    put_mid p.result (length p.last.0 - p.result) p.last.0 c.put_numbers.new.out
 
-counted : (c : tie.After-slice-known3) → N c ≡ length (spread (R (S (B c)) ++ Set (S (B c))))
-counted c = lent_count (room (B c)) c.before.before.put-numbers2.ensures.0 ∙ ap length (together (S (B c)))
+counted : (c : tie.After-slice_known-3-1) → N c ≡ length (spread (R (S (B c)) ++ Set (S (B c))))
+counted c = lent_count (room (B c)) c.put_numbers.ensures.0 ∙ ap length (together (S (B c)))
 
-wrote : (c : tie.After-slice-known3) → Out c ≡ over (spread (R (S (B c)) ++ Set (S (B c)))) (L (S (B c)))
-wrote c = lent_over (room (B c)) c.before.before.put-numbers2.ensures.1 ∙ ap (λ (x : List ℕ). over x (L (S (B c)))) (together (S (B c)))
+wrote : (c : tie.After-slice_known-3-1) → Out c ≡ over (spread (R (S (B c)) ++ Set (S (B c)))) (L (S (B c)))
+wrote c = lent_over (room (B c)) c.put_numbers.ensures.1 ∙ ap (λ (x : List ℕ). over x (L (S (B c)))) (together (S (B c)))
 
-same : (c : tie.After-slice-known3) → length (Out c) ≡ length (L (S (B c)))
-same c = lent_length (room (B c)) c.before.before.put-numbers2.ensures.1
+same : (c : tie.After-slice_known-3-1) → length (Out c) ≡ length (L (S (B c)))
+same c = lent_length (room (B c)) c.put_numbers.ensures.1
 
-add-n : tie.Need-overflow-add-n
-add-n c = count_fits (room (B c)) c.before.before.put-numbers2.ensures.0 (S (B c)).well-formed.0.0
+overflow_add-n : tie.Need-overflow_add-n
+overflow_add-n c = count_fits (room (B c)) c.put_numbers.ensures.0 (S (B c)).well_formed.0.0
 
-sub_out : tie.Need-overflow-sub-out
-sub_out c = let s = S (B c) in omega (arith, counted c, row_some (R s ++ Set s) (some s))
+overflow_sub-out : tie.Need-overflow_sub-out
+overflow_sub-out c = let s = S (B c) in omega (arith, counted c, row_some (R s ++ Set s) (some s))
 
-slice-write-out : tie.Need-slice-write-out
-slice-write-out c =
+bounds-out-n : tie.Need-bounds-out-n
+bounds-out-n c =
     let s = S (B c) in
-    omega (arith, counted c, sub_out c, same c, ap length (together s), fits s)
+    omega (arith, counted c, overflow_sub-out c, same c, ap length (together s), fits s)
 
-same_length : tie.Need-same-length
-same_length c = length-set (Out c) (N c - 1) 10 ∙ same c
+shape_of-out : tie.Need-shape_of-out
+shape_of-out c = length-set (Out c) (N c - 1) 10 ∙ same c
 
 returns : tie.Need-returns
 returns c =
@@ -101,13 +100,13 @@ pub put_node_spec : {M : Type 1} → statement M
 put_node_spec =
     tie.close
     (tie.spec
-    put-numbers-requires
-    sub-put-numbers
-    part-put-numbers-start
-    part-put-numbers-end
-    put-numbers-requires-2
-    add-n
-    sub_out
-    slice-write-out
-    same_length
+    put_numbers-at-requires
+    slice_bounds-put_numbers-count
+    slice_bounds-put_numbers-start
+    slice_bounds-put_numbers-end
+    put_numbers-requires
+    overflow_add-n
+    overflow_sub-out
+    bounds-out-n
+    shape_of-out
     returns)

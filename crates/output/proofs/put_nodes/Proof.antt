@@ -16,178 +16,172 @@ use Rattle.output.proofs.NodeRows.{nodes_next, nodes_part, node_held, set_held_l
 use Rattle.output.proofs.put_nodes.Statement.{statement}
 use Rattle.output.proofs.put_nodes.Tie as tie
 
-abbrev invariant_loop : tie.invariant-loop
+abbrev invariant_loop : tie.invariant-loop-j
 invariant_loop out₀ nodes count members at₀ start₀ j₀ out at start j =
     (out ≡ over (node_lines nodes members 0 j) out₀) × (at ≡ length (node_lines nodes members 0 j)) × (j ≤ count) × (length out ≡ length out₀) × (set_start nodes j ≡ pos start)
 
-abbrev decreases_loop : tie.decreases-loop
+abbrev decreases_loop : tie.decreases-loop-j
 decreases_loop out₀ nodes count members at₀ start₀ j₀ out at start j = count - j
 
-loop_holds : tie.Need-loop-init invariant_loop decreases_loop
+loop-j-init : tie.Need-loop-j-init invariant_loop decreases_loop
 unfolding node_lines set_start
-loop_holds c = (over_none c.before.args.out.now, refl, omega arith, refl, refl)
+loop-j-init c = (over_none c.args.out.now, refl, omega arith, refl, refl)
 
 -- in a turn: what the function was given, the node's number, where its set starts, and its length
-abbrev S : tie.In-loop invariant_loop decreases_loop → tie.Start invariant_loop decreases_loop
+abbrev S : tie.In-loop-j invariant_loop decreases_loop → tie.Start invariant_loop decreases_loop
 S c = c.before.before.before
 
-abbrev Nodes : tie.In-loop invariant_loop decreases_loop → List ℤ
+abbrev Nodes : tie.In-loop-j invariant_loop decreases_loop → List ℤ
 Nodes c = (S c).args.nodes.now
 
-abbrev Members : tie.In-loop invariant_loop decreases_loop → List ℤ
+abbrev Members : tie.In-loop-j invariant_loop decreases_loop → List ℤ
 Members c = (S c).args.members.now
 
-abbrev J : tie.In-loop invariant_loop decreases_loop → ℕ
-J c = c.before.loop.j
+abbrev J : tie.In-loop-j invariant_loop decreases_loop → ℕ
+J c = c.loop-j.j
 
-abbrev F : tie.In-loop invariant_loop decreases_loop → ℕ
-F c = c.before.loop.start
+abbrev F : tie.In-loop-j invariant_loop decreases_loop → ℕ
+F c = c.loop-j.start
 
-abbrev Size : tie.In-loop invariant_loop decreases_loop → ℕ
+abbrev Size : tie.In-loop-j invariant_loop decreases_loop → ℕ
 Size c = nat (node_at (Nodes c) (J c)).size
 
-held : (c : tie.In-loop invariant_loop decreases_loop) → 9 * J c + 9 ≤ length (Nodes c)
-held c = node_held (Nodes c) (Members c) (S c).args.count (S c).requires.0 (J c) (F c) c.loop-test.true c.before.loop.invariant.4
+held : (c : tie.In-loop-j invariant_loop decreases_loop) → 9 * J c + 9 ≤ length (Nodes c)
+held c = node_held (Nodes c) (Members c) (S c).args.count (S c).requires.0 (J c) (F c) c.loop-j-test.true c.loop-j.invariant.4
 
-within : (c : tie.In-loop invariant_loop decreases_loop) → F c + Size c ≤ length (Members c)
-within c = set_held_lem (Nodes c) (Members c) (S c).args.count (S c).requires.0 (J c) (F c) c.loop-test.true c.before.loop.invariant.4
+within : (c : tie.In-loop-j invariant_loop decreases_loop) → F c + Size c ≤ length (Members c)
+within c = set_held_lem (Nodes c) (Members c) (S c).args.count (S c).requires.0 (J c) (F c) c.loop-j-test.true c.loop-j.invariant.4
 
-mul-from : tie.Need-overflow-mul-from invariant_loop decreases_loop
-mul-from c = record { fits = omega (arith, held c, (S c).well-formed.1.0.0) }
+overflow_mul-from : tie.Need-overflow_mul-from invariant_loop decreases_loop
+overflow_mul-from c = record { fits = omega (arith, held c, (S c).well_formed.1.0.0) }
 
-add-to : tie.Need-overflow-add-to invariant_loop decreases_loop
-add-to c = record { fits = omega (arith, held c, (S c).well-formed.1.0.0) }
+overflow_add-to : tie.Need-overflow_add-to invariant_loop decreases_loop
+overflow_add-to c = record { fits = omega (arith, held c, (S c).well_formed.1.0.0) }
 
-add_natural_at : tie.Need-overflow-add-natural-at invariant_loop decreases_loop
-add_natural_at c = record { fits = omega (arith, held c, (S c).well-formed.1.0.0) }
+overflow_add-from : tie.Need-overflow_add-from invariant_loop decreases_loop
+overflow_add-from c = record { fits = omega (arith, held c, (S c).well_formed.1.0.0) }
 
-natural_at_requires : tie.Need-natural-at-requires invariant_loop decreases_loop
-natural_at_requires c κs = search rules
+natural_at-requires : tie.Need-natural_at-requires invariant_loop decreases_loop
+natural_at-requires c κs = search rules
 
-sized : (c : tie.After-natural-at invariant_loop decreases_loop) → c.natural-at.result ≡ Size c.before
+sized : (c : tie.After-natural_at invariant_loop decreases_loop) → c.natural_at.result ≡ Size c.before
 unfolding node_at
-sized c = c.natural-at.ensures.0
+sized c = c.natural_at.ensures.0
 
 -- the row and the set as they are lent
-abbrev Row : tie.In-loop invariant_loop decreases_loop → List ℤ
+abbrev Row : tie.In-loop-j invariant_loop decreases_loop → List ℤ
 Row c = take (9 * J c + 7 - 9 * J c) (drop (9 * J c) (Nodes c))
 
-abbrev Set : tie.After-natural-at invariant_loop decreases_loop → List ℤ
-Set c = take (F c.before + c.natural-at.result - F c.before) (drop (F c.before) (Members c.before))
+abbrev Set : tie.After-natural_at invariant_loop decreases_loop → List ℤ
+Set c = take (F c.before + c.natural_at.result - F c.before) (drop (F c.before) (Members c.before))
 
-row_is : (c : tie.In-loop invariant_loop decreases_loop) → Row c ≡ take 7 (drop (9 * J c) (Nodes c))
+row_is : (c : tie.In-loop-j invariant_loop decreases_loop) → Row c ≡ take 7 (drop (9 * J c) (Nodes c))
 row_is c = ap (λ (n : ℕ). take n (drop (9 * J c) (Nodes c))) seven
   where
     seven : 9 * J c + 7 - 9 * J c ≡ 7
     seven = omega arith
 
-set_is : (c : tie.After-natural-at invariant_loop decreases_loop) → Set c ≡ take (Size c.before) (drop (F c.before) (Members c.before))
+set_is : (c : tie.After-natural_at invariant_loop decreases_loop) → Set c ≡ take (Size c.before) (drop (F c.before) (Members c.before))
 set_is c = ap (λ (n : ℕ). take n (drop (F c.before) (Members c.before))) size
   where
-    size : F c.before + c.natural-at.result - F c.before ≡ Size c.before
+    size : F c.before + c.natural_at.result - F c.before ≡ Size c.before
     size = omega (arith, sized c)
 
-next_is : (c : tie.After-natural-at invariant_loop decreases_loop) → let n = c.before in
-    node_lines (Nodes n) (Members n) 0 (J n) ++ row_line (Row n ++ Set c) ≡ node_lines (Nodes n) (Members n) 0 (J n + 1)
+next_is : (c : tie.After-natural_at invariant_loop decreases_loop) → node_lines (Nodes c.before) (Members c.before) 0 (J c.before) ++ row_line (Row c.before ++ Set c) ≡ node_lines (Nodes c.before) (Members c.before) 0 (J c.before + 1)
 next_is c =
-    let n = c.before in
-    ap (λ (r : List ℤ). node_lines (Nodes n) (Members n) 0 (J n) ++ row_line r)
-    (ap₂ (λ (a b : List ℤ). a ++ b) (row_is n) (set_is c)
-    ∙ sym (node_row (Nodes n) (Members n) (S n).args.count (S n).requires.0 (J n) (F n) n.loop-test.true n.before.loop.invariant.4))
-    ∙ sym (nodes_next (Nodes n) (Members n) (J n))
+    ap (λ (r : List ℤ). node_lines (Nodes c.before) (Members c.before) 0 (J c.before) ++ row_line r)
+    (ap₂ (λ (a b : List ℤ). a ++ b) (row_is c.before) (set_is c)
+    ∙ sym (node_row (Nodes c.before) (Members c.before) (S c.before).args.count (S c.before).requires.0 (J c.before) (F c.before) c.loop-j-test.true c.loop-j.invariant.4))
+    ∙ sym (nodes_next (Nodes c.before) (Members c.before) (J c.before))
 
-room : (c : tie.After-natural-at invariant_loop decreases_loop) → let n = c.before in
-    Room (node_lines (Nodes n) (Members n) 0 (J n)) (row_line (Row n ++ Set c)) (S n).args.out.now n.before.loop.out n.before.loop.at
+room : (c : tie.After-natural_at invariant_loop decreases_loop) → Room (node_lines (Nodes c.before) (Members c.before) 0 (J c.before)) (row_line (Row c.before ++ Set c)) (S c.before).args.out.now c.loop-j.out c.loop-j.at
 room c =
-    let n = c.before in
     record {
-      is = n.before.loop.invariant.0;
-      ends = n.before.loop.invariant.1;
-      fits = omega (arith, ap length (next_is c), nodes_part (Nodes n) (Members n) (J n + 1) (S n).args.count (omega (arith, n.loop-test.true)), (S n).requires.1);
+      is = c.loop-j.invariant.0;
+      ends = c.loop-j.invariant.1;
+      fits = omega (arith, ap length (next_is c), nodes_part (Nodes c.before) (Members c.before) (J c.before + 1) (S c.before).args.count (omega (arith, c.loop-j-test.true)), (S c.before).requires.1);
     }
 
-add-end : tie.Need-overflow-add-end invariant_loop decreases_loop
-add-end c = record { fits = omega (arith, sized c, within c.before, (S c.before).good.1.1.1.0.0) }
+overflow_add-end : tie.Need-overflow_add-end invariant_loop decreases_loop
+overflow_add-end c = record { fits = omega (arith, sized c, within c.before, (S c.before).good.1.1.1.0.0) }
 
-sub-put-node : tie.Need-overflow-sub-put-node invariant_loop decreases_loop
-sub-put-node c = lent_start (room c)
+slice_bounds-put_node-count : tie.Need-slice_bounds-put_node-count invariant_loop decreases_loop
+slice_bounds-put_node-count c = lent_start (room c)
 
-part-put-node-start : tie.Need-slice-bounds-put-node-start invariant_loop decreases_loop
-part-put-node-start c = lent_start (room c)
+slice_bounds-put_node-start : tie.Need-slice_bounds-put_node-start invariant_loop decreases_loop
+slice_bounds-put_node-start c = lent_start (room c)
 
-part-put-node-end : tie.Need-slice-bounds-put-node-end invariant_loop decreases_loop
-part-put-node-end c = omega arith
+slice_bounds-put_node-end : tie.Need-slice_bounds-put_node-end invariant_loop decreases_loop
+slice_bounds-put_node-end c = omega arith
 
-mul-put-node : tie.Need-overflow-mul-put-node invariant_loop decreases_loop
-mul-put-node c = let n = c.before.before in record { fits = omega (arith, held n, (S n).well-formed.1.0.1) }
+offset_bounds-nodes-from : tie.Need-offset_bounds-nodes-from invariant_loop decreases_loop
+offset_bounds-nodes-from c = record { fits = omega (arith, held c.before.before, (S c.before.before).well_formed.1.0.1) }
 
-sub-put-node-2 : tie.Need-overflow-sub-put-node-2 invariant_loop decreases_loop
-sub-put-node-2 c = omega arith
+slice_bounds-put_node-count-in-loop-j : tie.Need-slice_bounds-put_node-count-in-loop-j invariant_loop decreases_loop
+slice_bounds-put_node-count-in-loop-j c = omega arith
 
-part-put-node-start-2 : tie.Need-slice-bounds-put-node-start-2 invariant_loop decreases_loop
-part-put-node-start-2 c = omega arith
+slice_bounds-put_node-start-in-loop-j : tie.Need-slice_bounds-put_node-start-in-loop-j invariant_loop decreases_loop
+slice_bounds-put_node-start-in-loop-j c = omega arith
 
-part-put-node-end-2 : tie.Need-slice-bounds-put-node-end-2 invariant_loop decreases_loop
-part-put-node-end-2 c = omega (arith, held c.before.before)
+slice_bounds-put_node-end-in-loop-j : tie.Need-slice_bounds-put_node-end-in-loop-j invariant_loop decreases_loop
+slice_bounds-put_node-end-in-loop-j c = omega (arith, held c.before.before)
 
-mul-put-node-2 : tie.Need-overflow-mul-put-node-2 invariant_loop decreases_loop
-mul-put-node-2 c = let n = c.before.before.before in record { fits = omega (arith, within n, (S n).well-formed.1.1.1.0.1) }
+offset_bounds-members-start : tie.Need-offset_bounds-members-start invariant_loop decreases_loop
+offset_bounds-members-start c = record { fits = omega (arith, within c.before.before.before, (S c.before.before.before).well_formed.1.1.1.0.1) }
 
-sub-put-node-3 : tie.Need-overflow-sub-put-node-3 invariant_loop decreases_loop
-sub-put-node-3 c = omega arith
+slice_bounds-put_node-count-in-loop-j-2 : tie.Need-slice_bounds-put_node-count-in-loop-j-2 invariant_loop decreases_loop
+slice_bounds-put_node-count-in-loop-j-2 c = omega arith
 
-part-put-node-start-3 : tie.Need-slice-bounds-put-node-start-3 invariant_loop decreases_loop
-part-put-node-start-3 c = omega arith
+slice_bounds-put_node-start-in-loop-j-2 : tie.Need-slice_bounds-put_node-start-in-loop-j-2 invariant_loop decreases_loop
+slice_bounds-put_node-start-in-loop-j-2 c = omega arith
 
-part-put-node-end-3 : tie.Need-slice-bounds-put-node-end-3 invariant_loop decreases_loop
-part-put-node-end-3 c = omega (arith, sized c.before.before, within c.before.before.before)
+slice_bounds-put_node-end-in-loop-j-2 : tie.Need-slice_bounds-put_node-end-in-loop-j-2 invariant_loop decreases_loop
+slice_bounds-put_node-end-in-loop-j-2 c = omega (arith, sized c.before.before, within c.before.before.before)
 
-put-node-requires : tie.Need-put-node-requires invariant_loop decreases_loop
-put-node-requires c κs =
-    let p = c.before.before.before in
-    let n = p.before in
-    let count = (S n).args.count in
-    let e = n.before.loop.invariant.4 in (
+put_node-at-requires : tie.Need-put_node-at-requires invariant_loop decreases_loop
+put_node-at-requires c κs =
+    let count = (S c.before.before.before.before).args.count in
+    let e = c.loop-j.invariant.4 in (
       record {
-        some = omega (arith, ap length (row_is n), node_seven (Nodes n) (Members n) count (S n).requires.0 (J n) (F n) n.loop-test.true e);
-        digits = ap (all_of five_digits) (row_is n) ∙ node_digits (Nodes n) (Members n) count (S n).requires.0 (J n) (F n) n.loop-test.true e;
+        some = omega (arith, ap length (row_is c.before.before.before.before), node_seven (Nodes c.before.before.before.before) (Members c.before.before.before.before) count (S c.before.before.before.before).requires.0 (J c.before.before.before.before) (F c.before.before.before.before) c.loop-j-test.true e);
+        digits = ap (all_of five_digits) (row_is c.before.before.before.before) ∙ node_digits (Nodes c.before.before.before.before) (Members c.before.before.before.before) count (S c.before.before.before.before).requires.0 (J c.before.before.before.before) (F c.before.before.before.before) c.loop-j-test.true e;
       },
-      ap (all_of five_digits) (set_is p) ∙ set_digits (Nodes n) (Members n) count (S n).requires.0 (J n) (F n) n.loop-test.true e,
-      lent_room (room p),
+      ap (all_of five_digits) (set_is c.before.before.before) ∙ set_digits (Nodes c.before.before.before.before) (Members c.before.before.before.before) count (S c.before.before.before.before).requires.0 (J c.before.before.before.before) (F c.before.before.before.before) c.loop-j-test.true e,
+      lent_room (room c.before.before.before),
     )
 
 -- after the row
-abbrev P : tie.After-slice-known2 invariant_loop decreases_loop → tie.After-natural-at invariant_loop decreases_loop
+abbrev P : tie.After-slice_known-in-loop-j-1 invariant_loop decreases_loop → tie.After-natural_at invariant_loop decreases_loop
 P c = c.before.before.before.before.before.before
 
-add_at : tie.Need-overflow-add-at invariant_loop decreases_loop
-add_at c = count_fits (room (P c)) c.before.before.put-node.ensures.0 (S (P c).before).good.0.0
+overflow_add-at : tie.Need-overflow_add-at invariant_loop decreases_loop
+overflow_add-at c = count_fits (room (P c)) c.put_node-at.ensures.0 (S (P c).before).good.0.0
 
-add-j : tie.Need-overflow-add-j invariant_loop decreases_loop
-add-j c = let n = (P c).before in record { fits = omega (arith, n.loop-test.taken, (S n).fits.count) }
+overflow_add-j : tie.Need-overflow_add-j invariant_loop decreases_loop
+overflow_add-j c = let n = (P c).before in record { fits = omega (arith, n.loop_test.taken, (S n).fits.count) }
 
-loop_less : tie.Need-loop-smaller invariant_loop decreases_loop
-loop_less c = omega (arith, (P c).before.loop-test.true)
+loop-j-smaller : tie.Need-loop-j-smaller invariant_loop decreases_loop
+loop-j-smaller c = omega (arith, (P c).before.loop_test.true)
 
-loop_again : tie.Need-loop-preserved invariant_loop decreases_loop
-loop_again c =
+loop-j-preserved : tie.Need-loop-j-preserved invariant_loop decreases_loop
+loop-j-preserved c =
     let p = P c in
-    let n = p.before in (
-      lent_over (room p) c.before.before.put-node.ensures.1 ∙ ap (λ (x : List ℕ). over x (S n).args.out.now) (next_is p),
-      lent_count (room p) c.before.before.put-node.ensures.0 ∙ ap length (next_is p),
-      omega (arith, n.loop-test.taken),
-      lent_length (room p) c.before.before.put-node.ensures.1,
-      next_start (Nodes n) (Members n) (S n).args.count (S n).pre.0 (J n) (F n) n.loop-test.taken n.before.loop.inv.4
-          ∙ ap (λ (k : ℕ). pos (F n + k)) (sym (sized p)),
+    (
+      lent_over (room p) c.put_node-at.ensures.1 ∙ ap (λ (x : List ℕ). over x (S p.before).args.out.now) (next_is p),
+      lent_count (room p) c.put_node-at.ensures.0 ∙ ap length (next_is p),
+      omega (arith, p.loop-j-test.taken),
+      lent_length (room p) c.put_node-at.ensures.1,
+      next_start (Nodes p.before) (Members p.before) (S p.before).args.count (S p.before).requires.0 (J p.before) (F p.before) p.loop-j-test.taken p.loop-j.inv.4
+          ∙ ap (λ (k : ℕ). pos (F p.before + k)) (sym (sized p)),
     )
 
-same_length : tie.Need-same-length invariant_loop decreases_loop
-same_length c = c.before.loop.invariant.3
+shape_of-out : tie.Need-shape_of-out invariant_loop decreases_loop
+shape_of-out c = c.loop-j.invariant.3
 
 returns : tie.Need-returns invariant_loop decreases_loop
 returns c =
-    let a = c.before.before.before.args in
-    let l = c.before.loop in
+    let a = c.args in
+    let l = c.loop-j in
     let all : l.j ≡ a.count = omega arith in (
       l.invariant.1 ∙ ap (λ (k : ℕ). length (node_lines a.nodes.now a.members.now 0 k)) all,
       l.invariant.0 ∙ ap (λ (k : ℕ). over (node_lines a.nodes.now a.members.now 0 k) a.out.now) all,
@@ -199,27 +193,27 @@ put_nodes_spec =
     (tie.spec
     invariant_loop
     decreases_loop
-    loop_holds
-    mul-from
-    add-to
-    add_natural_at
-    natural_at_requires
-    add-end
-    sub-put-node
-    part-put-node-start
-    part-put-node-end
-    mul-put-node
-    sub-put-node-2
-    part-put-node-start-2
-    part-put-node-end-2
-    mul-put-node-2
-    sub-put-node-3
-    part-put-node-start-3
-    part-put-node-end-3
-    put-node-requires
-    add_at
-    add-j
-    loop_less
-    loop_again
-    same_length
+    loop-j-init
+    overflow_mul-from
+    overflow_add-to
+    overflow_add-from
+    natural_at-requires
+    overflow_add-end
+    slice_bounds-put_node-count
+    slice_bounds-put_node-start
+    slice_bounds-put_node-end
+    offset_bounds-nodes-from
+    slice_bounds-put_node-count-in-loop-j
+    slice_bounds-put_node-start-in-loop-j
+    slice_bounds-put_node-end-in-loop-j
+    offset_bounds-members-start
+    slice_bounds-put_node-count-in-loop-j-2
+    slice_bounds-put_node-start-in-loop-j-2
+    slice_bounds-put_node-end-in-loop-j-2
+    put_node-at-requires
+    overflow_add-at
+    overflow_add-j
+    loop-j-smaller
+    loop-j-preserved
+    shape_of-out
     returns)

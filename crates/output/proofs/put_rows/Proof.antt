@@ -15,121 +15,114 @@ use Rattle.output.proofs.RowTexts.{rows_next, rows_part, row_held, row_numbers, 
 use Rattle.output.proofs.put_rows.Statement.{statement}
 use Rattle.output.proofs.put_rows.Tie as tie
 
-abbrev invariant_loop : tie.invariant-loop
+abbrev invariant_loop : tie.invariant-loop-i
 invariant_loop out₀ w t rows at₀ from₀ i₀ out at from i =
     (out ≡ over (row_lines w i t) out₀) × (at ≡ length (row_lines w i t)) × (i ≤ rows) × (length out ≡ length out₀) × (from ≡ w * i)
 
-abbrev decreases_loop : tie.decreases-loop
+abbrev decreases_loop : tie.decreases-loop-i
 decreases_loop out₀ w t rows at₀ from₀ i₀ out at from i = rows - i
 
-loop_holds : tie.Need-loop-init invariant_loop decreases_loop
+loop-i-init : tie.Need-loop-i-init invariant_loop decreases_loop
 unfolding row_lines
-loop_holds c = (over_none c.before.args.out.now, refl, omega arith, refl, sym (mul-zero c.before.args.w))
+loop-i-init c = (over_none c.args.out.now, refl, omega arith, refl, sym (mul-zero c.args.w))
 
 -- in a turn: the width, the table, the output as it was, the row's number, the row as it is lent
-abbrev W : tie.In-loop invariant_loop decreases_loop → ℕ
-W c = c.before.before.before.args.w
+abbrev W : tie.In-loop-i invariant_loop decreases_loop → ℕ
+W c = c.args.w
 
-abbrev T : tie.In-loop invariant_loop decreases_loop → List ℤ
-T c = c.before.before.before.args.t.now
+abbrev T : tie.In-loop-i invariant_loop decreases_loop → List ℤ
+T c = c.args.t.now
 
-abbrev L : tie.In-loop invariant_loop decreases_loop → List ℕ
-L c = c.before.before.before.args.out.now
+abbrev L : tie.In-loop-i invariant_loop decreases_loop → List ℕ
+L c = c.args.out.now
 
-abbrev I : tie.In-loop invariant_loop decreases_loop → ℕ
-I c = c.before.loop.i
+abbrev I : tie.In-loop-i invariant_loop decreases_loop → ℕ
+I c = c.loop-i.i
 
-abbrev Row : tie.In-loop invariant_loop decreases_loop → List ℤ
-Row c = take (c.before.loop.from + W c - c.before.loop.from) (drop c.before.loop.from (T c))
+abbrev Row : tie.In-loop-i invariant_loop decreases_loop → List ℤ
+Row c = take (c.loop-i.from + W c - c.loop-i.from) (drop c.loop-i.from (T c))
 
-row_is : (c : tie.In-loop invariant_loop decreases_loop) → Row c ≡ take (W c) (drop (W c * I c) (T c))
-row_is c = ap₂ (λ (k f : ℕ). take k (drop f (T c))) wide c.before.loop.invariant.4
+row_is : (c : tie.In-loop-i invariant_loop decreases_loop) → Row c ≡ take (W c) (drop (W c * I c) (T c))
+row_is c = ap₂ (λ (k f : ℕ). take k (drop f (T c))) wide c.loop-i.invariant.4
   where
-    wide : c.before.loop.from + W c - c.before.loop.from ≡ W c
+    wide : c.loop-i.from + W c - c.loop-i.from ≡ W c
     wide = omega arith
 
-next_is : (c : tie.In-loop invariant_loop decreases_loop) → row_lines (W c) (I c) (T c) ++ row_line (Row c) ≡ row_lines (W c) (I c + 1) (T c)
+next_is : (c : tie.In-loop-i invariant_loop decreases_loop) → row_lines (W c) (I c) (T c) ++ row_line (Row c) ≡ row_lines (W c) (I c + 1) (T c)
 next_is c = ap (λ (r : List ℤ). row_lines (W c) (I c) (T c) ++ row_line r) (row_is c) ∙ sym (rows_next (W c) (I c) (T c))
 
-room : (c : tie.In-loop invariant_loop decreases_loop) → Room (row_lines (W c) (I c) (T c)) (row_line (Row c)) (L c) c.before.loop.out c.before.loop.at
+room : (c : tie.In-loop-i invariant_loop decreases_loop) → Room (row_lines (W c) (I c) (T c)) (row_line (Row c)) (L c) c.loop-i.out c.loop-i.at
 room c =
-    let s = c.before.before.before in
     record {
-      is = c.before.loop.invariant.0;
-      ends = c.before.loop.invariant.1;
-      fits = omega (arith, ap length (next_is c), rows_part (W c) (I c + 1) s.args.rows (T c) (omega (arith, c.loop-test.true)), s.requires.1);
+      is = c.loop-i.invariant.0;
+      ends = c.loop-i.invariant.1;
+      fits = omega (arith, ap length (next_is c), rows_part (W c) (I c + 1) c.args.rows (T c) (omega (arith, c.loop-i-test.true)), c.requires.1);
     }
 
-held : (c : tie.In-loop invariant_loop decreases_loop) → c.before.loop.from + W c ≤ length (T c)
+held : (c : tie.In-loop-i invariant_loop decreases_loop) → c.loop-i.from + W c ≤ length (T c)
 held c =
-    let s = c.before.before.before in
-    omega (arith, row_held (W c) (T c) s.args.rows s.requires.0 (I c) c.loop-test.true, c.before.loop.invariant.4)
+    omega (arith, row_held (W c) (T c) c.args.rows c.requires.0 (I c) c.loop-i-test.true, c.loop-i.invariant.4)
 
-add-to : tie.Need-overflow-add-to invariant_loop decreases_loop
-add-to c = record { fits = omega (arith, held c, c.before.before.before.well-formed.1.1.0.0) }
+overflow_add-to : tie.Need-overflow_add-to invariant_loop decreases_loop
+overflow_add-to c = record { fits = omega (arith, held c, c.well_formed.1.1.0.0) }
 
-sub-put-row : tie.Need-overflow-sub-put-row invariant_loop decreases_loop
-sub-put-row c = lent_start (room c)
+slice_bounds-put_row-count : tie.Need-slice_bounds-put_row-count invariant_loop decreases_loop
+slice_bounds-put_row-count c = lent_start (room c)
 
-part-put-row-start : tie.Need-slice-bounds-put-row-start invariant_loop decreases_loop
-part-put-row-start c = lent_start (room c)
+slice_bounds-put_row-start : tie.Need-slice_bounds-put_row-start invariant_loop decreases_loop
+slice_bounds-put_row-start c = lent_start (room c)
 
-part-put-row-end : tie.Need-slice-bounds-put-row-end invariant_loop decreases_loop
-part-put-row-end c = omega arith
+slice_bounds-put_row-end : tie.Need-slice_bounds-put_row-end invariant_loop decreases_loop
+slice_bounds-put_row-end c = omega arith
 
-mul-put-row : tie.Need-overflow-mul-put-row invariant_loop decreases_loop
-mul-put-row c = record { fits = omega (arith, held c.before, c.before.before.before.before.well-formed.1.1.0.1) }
+offset_bounds-t-from : tie.Need-offset_bounds-t-from invariant_loop decreases_loop
+offset_bounds-t-from c = record { fits = omega (arith, held c.before, c.well_formed.1.1.0.1) }
 
-sub-put-row-2 : tie.Need-overflow-sub-put-row-2 invariant_loop decreases_loop
-sub-put-row-2 c = omega arith
+slice_bounds-put_row-count-in-loop-i : tie.Need-slice_bounds-put_row-count-in-loop-i invariant_loop decreases_loop
+slice_bounds-put_row-count-in-loop-i c = omega arith
 
-part-put-row-start-2 : tie.Need-slice-bounds-put-row-start-2 invariant_loop decreases_loop
-part-put-row-start-2 c = omega arith
+slice_bounds-put_row-start-in-loop-i : tie.Need-slice_bounds-put_row-start-in-loop-i invariant_loop decreases_loop
+slice_bounds-put_row-start-in-loop-i c = omega arith
 
-part-put-row-end-2 : tie.Need-slice-bounds-put-row-end-2 invariant_loop decreases_loop
-part-put-row-end-2 c = held c.before
+slice_bounds-put_row-end-in-loop-i : tie.Need-slice_bounds-put_row-end-in-loop-i invariant_loop decreases_loop
+slice_bounds-put_row-end-in-loop-i c = held c.before
 
-put-row-requires : tie.Need-put-row-requires invariant_loop decreases_loop
-put-row-requires c κs =
-    let n = c.before.before in
-    let s = n.before.before.before in (
-      omega (arith, ap length (row_is n), row_numbers (W n) (T n) s.args.rows s.requires.0 (I n) n.loop-test.true, s.requires.0.some),
-      ap (all_of five_digits) (row_is n) ∙ row_digits (W n) (T n) s.args.rows s.requires.0 (I n) n.loop-test.true,
-      lent_room (room n),
+put_row-at-requires : tie.Need-put_row-at-requires invariant_loop decreases_loop
+put_row-at-requires c κs =
+    (
+      omega (arith, ap length (row_is c.before.before), row_numbers (W c.before.before) (T c.before.before) c.args.rows c.requires.0 (I c.before.before) c.loop-i-test.true, c.requires.0.some),
+      ap (all_of five_digits) (row_is c.before.before) ∙ row_digits (W c.before.before) (T c.before.before) c.args.rows c.requires.0 (I c.before.before) c.loop-i-test.true,
+      lent_room (room c.before.before),
     )
 
-add_at : tie.Need-overflow-add-at invariant_loop decreases_loop
-add_at c =
-    let p = c.before.before in
-    let n = p.before.before.before in
-    count_fits (room n) p.put-row.ensures.0 n.before.before.before.well-formed.0.0
+overflow_add-at : tie.Need-overflow_add-at invariant_loop decreases_loop
+overflow_add-at c =
+    count_fits (room c.before.before.before.before.before) c.put_row-at.ensures.0 c.well_formed.0.0
 
-add-i : tie.Need-overflow-add-i invariant_loop decreases_loop
-add-i c =
-    let n = c.before.before.before.before.before in
-    record { fits = omega (arith, n.loop-test.true, n.before.before.before.ranges.rows) }
+overflow_add-i : tie.Need-overflow_add-i invariant_loop decreases_loop
+overflow_add-i c =
+    record { fits = omega (arith, c.loop-i-test.true, c.ranges.rows) }
 
-loop_less : tie.Need-loop-smaller invariant_loop decreases_loop
-loop_less c = omega (arith, c.before.before.before.before.before.loop-test.true)
+loop-i-smaller : tie.Need-loop-i-smaller invariant_loop decreases_loop
+loop-i-smaller c = omega (arith, c.loop-i-test.true)
 
-loop_again : tie.Need-loop-preserved invariant_loop decreases_loop
-loop_again c =
-    let p = c.before.before in
-    let n = p.before.before.before in (
-      lent_over (room n) p.put-row.ensures.1 ∙ ap (λ (x : List ℕ). over x (L n)) (next_is n),
-      lent_count (room n) p.put-row.ensures.0 ∙ ap length (next_is n),
-      omega (arith, n.loop-test.true),
-      lent_length (room n) p.put-row.ensures.1,
-      omega (arith, n.before.loop.invariant.4),
+loop-i-preserved : tie.Need-loop-i-preserved invariant_loop decreases_loop
+loop-i-preserved c =
+    (
+      lent_over (room c.before.before.before.before.before) c.put_row-at.ensures.1 ∙ ap (λ (x : List ℕ). over x (L c.before.before.before.before.before)) (next_is c.before.before.before.before.before),
+      lent_count (room c.before.before.before.before.before) c.put_row-at.ensures.0 ∙ ap length (next_is c.before.before.before.before.before),
+      omega (arith, c.loop-i-test.true),
+      lent_length (room c.before.before.before.before.before) c.put_row-at.ensures.1,
+      omega (arith, c.loop-i.invariant.4),
     )
 
-same_length : tie.Need-same-length invariant_loop decreases_loop
-same_length c = c.before.loop.invariant.3
+shape_of-out : tie.Need-shape_of-out invariant_loop decreases_loop
+shape_of-out c = c.loop-i.invariant.3
 
 returns : tie.Need-returns invariant_loop decreases_loop
 returns c =
-    let a = c.before.before.before.args in
-    let l = c.before.loop in
+    let a = c.args in
+    let l = c.loop-i in
     let all : l.i ≡ a.rows = omega arith in (
       l.invariant.1 ∙ ap (λ (k : ℕ). length (row_lines a.w k a.t.now)) all,
       l.invariant.0 ∙ ap (λ (k : ℕ). over (row_lines a.w k a.t.now) a.out.now) all,
@@ -141,19 +134,19 @@ put_rows_spec =
     (tie.spec
     invariant_loop
     decreases_loop
-    loop_holds
-    add-to
-    sub-put-row
-    part-put-row-start
-    part-put-row-end
-    mul-put-row
-    sub-put-row-2
-    part-put-row-start-2
-    part-put-row-end-2
-    put-row-requires
-    add_at
-    add-i
-    loop_less
-    loop_again
-    same_length
+    loop-i-init
+    overflow_add-to
+    slice_bounds-put_row-count
+    slice_bounds-put_row-start
+    slice_bounds-put_row-end
+    offset_bounds-t-from
+    slice_bounds-put_row-count-in-loop-i
+    slice_bounds-put_row-start-in-loop-i
+    slice_bounds-put_row-end-in-loop-i
+    put_row-at-requires
+    overflow_add-at
+    overflow_add-i
+    loop-i-smaller
+    loop-i-preserved
+    shape_of-out
     returns)

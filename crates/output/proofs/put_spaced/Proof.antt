@@ -14,48 +14,40 @@ use Rattle.output.proofs.Spreads.{spread_one, one_length}
 use Rattle.output.proofs.put_spaced.Statement.{statement}
 use Rattle.output.proofs.put_spaced.Tie as tie
 
-put-number-requires : tie.Need-put-number-requires
-put-number-requires c κs =
-    let s = c.before.before in
-    subst (λ (z : ℤ). (five_digits z ≡ true) × (length (decimal z) ≤ length s.args.out.now)) (sym (to_z-of_z s.ranges.z))
-    (s.requires.0, omega (arith, one_length s.args.z, s.requires.1))
+put_number-n-requires : tie.Need-put_number-n-requires
+put_number-n-requires c κs =
+    subst (λ (z : ℤ). (five_digits z ≡ true) × (length (decimal z) ≤ length c.args.out.now)) (sym (to_z-of_z c.ranges.z))
+    (c.requires.0, omega (arith, one_length c.args.z, c.requires.1))
 
 -- what the number's writer says
-wrote : (c : tie.After-put-number) →
-    let s = c.before.before.before in
-    (c.put-number.result ≡ length (decimal s.args.z)) × (c.put-number.new.0 ≡ over (decimal s.args.z) s.args.out.now)
+wrote : (c : tie.After-put_number-n) →
+    (c.put_number-n.result ≡ length (decimal c.args.z)) × (c.put_number-n.new.out ≡ over (decimal c.args.z) c.args.out.now)
 wrote c =
-    let s = c.before.before.before in
-    subst (λ (z : ℤ). (c.put-number.result ≡ length (decimal z)) × (c.put-number.new.0 ≡ over (decimal z) s.args.out.now))
-    (to_z-of_z s.ranges.z)
-    c.put-number.ensures
+    subst (λ (z : ℤ). (c.put_number-n.result ≡ length (decimal z)) × (c.put_number-n.new.out ≡ over (decimal z) c.args.out.now))
+    (to_z-of_z c.ranges.z)
+    c.put_number-n.ensures
 
-slice-write-out : tie.Need-slice-write-out
-slice-write-out c =
-    let p = c.before.before in
-    let s = p.before.before.before in
-    omega (arith, (wrote p).0, one_length s.args.z, s.requires.1, p.put-number.auto.0)
+bounds-out-n : tie.Need-bounds-out-n
+bounds-out-n c =
+    omega (arith, (wrote c.before.before).0, one_length c.args.z, c.requires.1, c.put_number-n.auto.out)
 
-add-result : tie.Need-overflow-add-result
-add-result c =
-    let p = c.before.before in
-    let s = p.before.before.before in
-    omega (arith, (wrote p).0, one_length s.args.z, s.requires.1, s.well-formed.0.0)
+overflow_add-result : tie.Need-overflow_add-result
+overflow_add-result c =
+    omega (arith, (wrote c.before.before).0, one_length c.args.z, c.requires.1, c.well_formed.0.0)
 
-same_length : tie.Need-same-length
-same_length c = search rules
+shape_of-out : tie.Need-shape_of-out
+shape_of-out c = search rules
 
 returns : tie.Need-returns
 returns c =
-    let p = c.before.before in
-    let s = p.before.before.before in (
-      omega (arith, (wrote p).0, one_length s.args.z),
-      over_next (decimal s.args.z) s.args.out.now p.put-number.new.0 p.put-number.result 32 (wrote p).1 (wrote p).0
-          (omega (arith, (wrote p).0, one_length s.args.z, s.requires.1))
-          ∙ ap (λ (x : List ℕ). over x s.args.out.now) (sym (spread_one s.args.z)),
+    (
+      omega (arith, (wrote c.before.before).0, one_length c.args.z),
+      over_next (decimal c.args.z) c.args.out.now c.put_number-n.new.out c.put_number-n.result 32 (wrote c.before.before).1 (wrote c.before.before).0
+          (omega (arith, (wrote c.before.before).0, one_length c.args.z, c.requires.1))
+          ∙ ap (λ (x : List ℕ). over x c.args.out.now) (sym (spread_one c.args.z)),
     )
 
 pub put_spaced_spec : {M : Type 1} → statement M
 put_spaced_spec =
     tie.close
-    (tie.spec put-number-requires slice-write-out add-result same_length returns)
+    (tie.spec put_number-n-requires bounds-out-n overflow_add-result shape_of-out returns)

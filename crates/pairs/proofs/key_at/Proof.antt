@@ -8,38 +8,38 @@ use Rattle.pairs.proofs.Keys.{symbol_small, index_near, index_high, key_from, ke
 use Rattle.pairs.proofs.key_at.Statement.{statement}
 use Rattle.pairs.proofs.key_at.Tie as tie
 
-mul_natural_at : tie.Need-overflow-mul-natural-at
-mul_natural_at c = search rules
+overflow_mul-k : tie.Need-overflow_mul-k
+overflow_mul-k c = search rules
 
-natural_at_requires : tie.Need-natural-at-requires
-natural_at_requires c κs = search rules
+natural_at-requires : tie.Need-natural_at-requires
+natural_at-requires c κs = search rules
 
-mul-result : tie.Need-overflow-mul-result
+overflow_mul-result : tie.Need-overflow_mul-result
 unfolding pair_symbol
-mul-result c = omega (arith, symbol_small _ _ c.before.requires.1)
+overflow_mul-result c = omega (arith, symbol_small _ _ c.requires.1)
 
-mul_moved : tie.Need-overflow-mul-moved
-mul_moved c = search rules
+overflow_mul-k-2 : tie.Need-overflow_mul-k-2
+overflow_mul-k-2 c = search rules
 
-add_moved : tie.Need-overflow-add-moved
-add_moved c = search rules
+overflow_add-k : tie.Need-overflow_add-k
+overflow_add-k c = search rules
 
-moved_requires : tie.Need-moved-requires
+moved-requires : tie.Need-moved-requires
 unfolding pair_index
-moved_requires c κs =
+moved-requires c κs =
     record {
       start = omega arith;
-      up = omega (arith, index_high _ _ c.before.requires.1);
-      down = omega (arith, index_near _ _ c.before.requires.1);
+      up = omega (arith, index_high _ _ c.requires.1);
+      down = omega (arith, index_near _ _ c.requires.1);
     }
 
 -- the sum is the key
-known : (c : tie.After-moved) → c.before.natural-at.result * 131072 + c.moved.result ≡ key_at c.before.before.args.pairs.now c.before.before.args.k
+known : (c : tie.After-moved) → c.natural_at.result * 131072 + c.moved.result ≡ key_at c.args.pairs.now c.args.k
 unfolding pair_symbol pair_index
-known c = key_from _ _ c.before.before.requires.1 _ _ c.before.natural-at.ensures.0 c.moved.ensures
+known c = key_from _ _ c.requires.1 _ _ c.natural_at.ensures.0 c.moved.ensures
 
-add-result : tie.Need-overflow-add-result
-add-result c = omega (arith, known c, key_small _ _ c.before.before.requires.1)
+overflow_add-result : tie.Need-overflow_add-result
+overflow_add-result c = omega (arith, known c, key_small _ _ c.requires.1)
 
 returns : tie.Need-returns
 returns c = known c
@@ -48,11 +48,11 @@ pub key_at_spec : {M : Type 1} → statement M
 key_at_spec =
     tie.close
     (tie.spec
-    mul_natural_at
-    natural_at_requires
-    mul-result
-    mul_moved
-    add_moved
-    moved_requires
-    add-result
+    overflow_mul-k
+    natural_at-requires
+    overflow_mul-result
+    overflow_mul-k-2
+    overflow_add-k
+    moved-requires
+    overflow_add-result
     returns)

@@ -4,45 +4,45 @@ use Rattle.pairs.proofs.Keys.{Bracket, bracket_start, bracket_up, bracket_down, 
 use Rattle.pairs.proofs.keys_below.Statement.{statement}
 use Rattle.pairs.proofs.keys_below.Tie as tie
 
-abbrev invariant_loop : tie.invariant-loop
+abbrev invariant_loop : tie.invariant-loop-lo
 invariant_loop pairs count key lo₀ hi₀ lo hi = Bracket pairs count key lo hi
 
-abbrev decreases_loop : tie.decreases-loop
+abbrev decreases_loop : tie.decreases-loop-lo
 decreases_loop pairs count key lo₀ hi₀ lo hi = hi - lo
 
-loop_holds : tie.Need-loop-init invariant_loop decreases_loop
-loop_holds c = bracket_start _ _ _
+loop-lo-init : tie.Need-loop-lo-init invariant_loop decreases_loop
+loop-lo-init c = bracket_start _ _ _
 
-sub-mid : tie.Need-overflow-sub-mid invariant_loop decreases_loop
-sub-mid c = omega arith
+overflow_sub-mid : tie.Need-overflow_sub-mid invariant_loop decreases_loop
+overflow_sub-mid c = omega arith
 
-add-mid : tie.Need-overflow-add-mid invariant_loop decreases_loop
-add-mid c = omega arith
+overflow_add-mid : tie.Need-overflow_add-mid invariant_loop decreases_loop
+overflow_add-mid c = omega arith
 
-key-at-requires : tie.Need-key-at-requires invariant_loop decreases_loop
-key-at-requires c κs = (omega arith, c.before.before.requires.1.in_range _ (omega arith))
+key_at-requires : tie.Need-key_at-requires invariant_loop decreases_loop
+key_at-requires c κs = (omega arith, c.requires.1.in_range _ (omega arith))
 
-add-lo : tie.Need-overflow-add-lo invariant_loop decreases_loop
-add-lo c = omega arith
+overflow_add-lo : tie.Need-overflow_add-lo invariant_loop decreases_loop
+overflow_add-lo c = omega arith
 
-loop_less : tie.Need-loop-smaller invariant_loop decreases_loop
-loop_less c = omega arith
+loop-lo-smaller-then-key_at-key : tie.Need-loop-lo-smaller-then-key_at-key invariant_loop decreases_loop
+loop-lo-smaller-then-key_at-key c = omega arith
 
-loop_again : tie.Need-loop-preserved invariant_loop decreases_loop
-loop_again c =
-    bracket_up _ _ _ _ _ c.before.before.before.before.requires.1 c.before.before.before.loop.invariant _ (omega arith) (omega arith)
-    (omega (arith, c.before.key-at.ensures, c.if1.true))
+loop-lo-preserved-then-key_at-key : tie.Need-loop-lo-preserved-then-key_at-key invariant_loop decreases_loop
+loop-lo-preserved-then-key_at-key c =
+    bracket_up _ _ _ _ _ c.requires.1 c.loop-lo.invariant _ (omega arith) (omega arith)
+    (omega (arith, c.key_at.ensures, c.if-key_at-key.true))
 
-loop-less-2 : tie.Need-loop-smaller-2 invariant_loop decreases_loop
-loop-less-2 c = omega arith
+loop-lo-smaller : tie.Need-loop-lo-smaller invariant_loop decreases_loop
+loop-lo-smaller c = omega arith
 
-loop-again-2 : tie.Need-loop-preserved-2 invariant_loop decreases_loop
-loop-again-2 c =
-    bracket_down _ _ _ _ _ c.before.before.before.before.requires.1 c.before.before.before.loop.invariant _ (omega arith) (omega arith)
-    (omega (arith, c.before.key-at.ensures, c.if1.false))
+loop-lo-preserved : tie.Need-loop-lo-preserved invariant_loop decreases_loop
+loop-lo-preserved c =
+    bracket_down _ _ _ _ _ c.requires.1 c.loop-lo.invariant _ (omega arith) (omega arith)
+    (omega (arith, c.key_at.ensures, c.if-key_at-key.false))
 
 returns : tie.Need-returns invariant_loop decreases_loop
-returns c = bracket_end _ _ _ _ _ c.before.loop.invariant c.loop-test.false
+returns c = bracket_end _ _ _ _ _ c.loop-lo.invariant c.loop-lo-test.false
 
 pub keys_below_spec : {M : Type 1} → statement M
 keys_below_spec =
@@ -50,13 +50,13 @@ keys_below_spec =
     (tie.spec
     invariant_loop
     decreases_loop
-    loop_holds
-    sub-mid
-    add-mid
-    key-at-requires
-    add-lo
-    loop_less
-    loop_again
-    loop-less-2
-    loop-again-2
+    loop-lo-init
+    overflow_sub-mid
+    overflow_add-mid
+    key_at-requires
+    overflow_add-lo
+    loop-lo-smaller-then-key_at-key
+    loop-lo-preserved-then-key_at-key
+    loop-lo-smaller
+    loop-lo-preserved
     returns)

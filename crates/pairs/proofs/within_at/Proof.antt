@@ -10,22 +10,22 @@ use Rattle.pairs.proofs.Parts.{within_is}
 use Rattle.pairs.proofs.within_at.Statement.{statement}
 use Rattle.pairs.proofs.within_at.Tie as tie
 
-under-at-requires : tie.Need-under-at-requires
-under-at-requires c κs = search rules
+under_at-requires : tie.Need-under_at-requires
+under_at-requires c κs = search rules
 
-natural_at_requires : tie.Need-natural-at-requires
-natural_at_requires c κs = search rules
+natural_at-requires : tie.Need-natural_at-requires
+natural_at-requires c κs = search rules
+
+returns-then-under_at-low : tie.Need-returns-then-under_at-low
+returns-then-under_at-low c = let a = c.args in
+    let z = get_or a.t.now a.i (pos 0) in
+    ap (λ (n : ℕ). leb n a.high) c.natural_at.ensures.0
+    ∙ sym (within_is a.low a.high z ∙ and_first_true _ _ (le-leb _ _ (subst (λ (n : ℕ). n ≤ a.low) c.under_at.ensures c.if-under_at-low.true)))
 
 returns : tie.Need-returns
-returns c = let a = c.before.before.before.args in
+returns c = let a = c.args in
     let z = get_or a.t.now a.i (pos 0) in
-    ap (λ (n : ℕ). leb n a.high) c.natural-at.ensures.0
-    ∙ sym (within_is a.low a.high z ∙ and_first_true _ _ (le-leb _ _ (subst (λ (n : ℕ). n ≤ a.low) c.before.before.Under-at.ensures c.before.if1.true)))
-
-returns_2 : tie.Need-returns-2
-returns_2 c = let a = c.before.before.args in
-    let z = get_or a.t.now a.i (pos 0) in
-    sym (within_is a.low a.high z ∙ and_first_false _ _ (lt-leb _ _ (subst (λ (n : ℕ). a.low < n) c.before.Under-at.ensures c.if1.false)))
+    sym (within_is a.low a.high z ∙ and_first_false _ _ (lt-leb _ _ (subst (λ (n : ℕ). a.low < n) c.under_at.ensures c.if-under_at-low.false)))
 
 pub within_at_spec : {M : Type 1} → statement M
-within_at_spec = tie.close (tie.spec under-at-requires natural_at_requires returns returns_2)
+within_at_spec = tie.close (tie.spec under_at-requires natural_at-requires returns-then-under_at-low returns)

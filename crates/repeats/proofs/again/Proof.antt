@@ -6,16 +6,16 @@ use Rattle.repeats.specs.Repeated.{repeated}
 use Rattle.repeats.proofs.again.Statement.{statement}
 use Rattle.repeats.proofs.again.Tie as tie
 
-returns : tie.Need-returns
+returns-then-r-from : tie.Need-returns-then-r-from
 unfolding repeated
-returns c = sym (and_first_false _ _ (lt-leb _ _ c.if1.true))
+returns-then-r-from c = sym (and_first_false _ _ (lt-leb _ _ c.if-r-from.true))
 
 stands-requires : tie.Need-stands-requires
 stands-requires c κs = search rules
 
-returns_2 : tie.Need-returns-2
+returns : tie.Need-returns
 unfolding repeated
-returns_2 c = c.stands.ensures ∙ sym (and_first_true _ _ (le-leb _ _ c.before.if1.false))
+returns c = c.stands.ensures ∙ sym (and_first_true _ _ (le-leb _ _ c.if-r-from.false))
 
 pub again_spec : {M : Type 1} → statement M
-again_spec = tie.close (tie.spec returns stands-requires returns_2)
+again_spec = tie.close (tie.spec returns-then-r-from stands-requires returns)

@@ -15,7 +15,7 @@ use Rattle.widerows.proofs.WideLaws.{passed_none, passed_more}
 use Rattle.widerows.proofs.each.Statement.{statement}
 use Rattle.widerows.proofs.each.Tie as tie
 
-abbrev invariant_loop : tie.invariant-loop
+abbrev invariant_loop : tie.invariant-loop-r
 invariant_loop schema s proof n facts₀ r₀ facts r =
     (r ≤ n)
     × (length facts ≡ length facts₀)
@@ -23,76 +23,73 @@ invariant_loop schema s proof n facts₀ r₀ facts r =
     × WidePassed (formula_rows schema s proof) facts r
     × (facts ≡ wide_table (formula_rows schema s proof) facts₀ r)
 
-abbrev decreases_loop : tie.decreases-loop
+abbrev decreases_loop : tie.decreases-loop-r
 decreases_loop schema s proof n facts₀ r₀ facts r = n - r
 
-loop_holds : tie.Need-loop-init invariant_loop decreases_loop
+loop-r-init : tie.Need-loop-r-init invariant_loop decreases_loop
 unfolding wide_table
-loop_holds c = (omega arith, refl, scan_nothing _ 0 (λ k l. absurd (omega arith)), passed_none _ _, table_none _ _ _ _)
+loop-r-init c = (omega arith, refl, scan_nothing _ 0 (λ k l. absurd (omega arith)), passed_none _ _, table_none _ _ _ _)
 
-step-requires : tie.Need-step-requires invariant_loop decreases_loop
-step-requires c κs = (omega arith, omega arith, c.before.before.loop.invariant.3)
+step-found-requires : tie.Need-step-found-requires invariant_loop decreases_loop
+step-found-requires c κs = (omega arith, omega arith, c.loop-r.invariant.3)
 
-enum_told : tie.Need-enum-told invariant_loop decreases_loop
-enum_told c = search rules
+enum_told-1 : tie.Need-enum_told-1 invariant_loop decreases_loop
+enum_told-1 c = search rules
 
-enum-told-2 : tie.Need-enum-told-2 invariant_loop decreases_loop
-enum-told-2 c = search rules
+enum_told-in_default : tie.Need-enum_told-in_default invariant_loop decreases_loop
+enum_told-in_default c = search rules
 
-same_length : tie.Need-same-length invariant_loop decreases_loop
-same_length c =
-    let s = c.before.before.before.before in
-    s.step.auto.1.1.1.1.0 ∙ s.before.before.before.loop.invariant.1
+shape_of-facts-in_default : tie.Need-shape_of-facts-in_default invariant_loop decreases_loop
+shape_of-facts-in_default c =
+    c.step-found.auto.facts ∙ c.loop-r.invariant.1
 
-returns : tie.Need-returns invariant_loop decreases_loop
+returns-in_default : tie.Need-returns-in_default invariant_loop decreases_loop
 unfolding wide_table
-returns c =
-    let s = c.before.before.before.before in
-    let e = c.enum-told2.given.1 in
-    let l = s.before.before.before.loop in
-    let found = sym s.step.ensures.0 ∙ e in
-    let h = sym (scan_found _ _ _ s.before.before.loop-test.true l.invariant.2 found) in (
+returns-in_default c =
+    let e = c.in_default.is in
+    let l = c.loop-r in
+    let found = sym c.step-found.ensures.0 ∙ e in
+    let h = sym (scan_found _ _ _ c.loop-r-test.true l.invariant.2 found) in (
       e ∙ h,
       (
         never h,
-        table_more _ _ _ _ _ l.invariant.2 l.invariant.4 s.step.ensures.1
+        table_more _ _ _ _ _ l.invariant.2 l.invariant.4 c.step-found.ensures.1
             ∙ sym (table_stays _ _ _ _ _ _ (scan_found _ _ _ (omega arith) l.invariant.2 found) (omega arith)),
       ),
     )
 
-add_r : tie.Need-overflow-add-r invariant_loop decreases_loop
-add_r c = omega arith
+overflow_add-r : tie.Need-overflow_add-r invariant_loop decreases_loop
+overflow_add-r c = omega arith
 
-loop_less : tie.Need-loop-smaller invariant_loop decreases_loop
-loop_less c = omega arith
+loop-r-smaller : tie.Need-loop-r-smaller invariant_loop decreases_loop
+loop-r-smaller c = omega arith
 
-loop_again : tie.Need-loop-preserved invariant_loop decreases_loop
+loop-r-preserved : tie.Need-loop-r-preserved invariant_loop decreases_loop
 unfolding wide_table
-loop_again c =
-    let s = c.before.before.before.before in
-    let h = sym s.step.ensures.0 ∙ c.enum_told.given.1 in
-    let l = s.before.before.before.loop in
-    let a = s.before.before.before.before.before.args in (
+loop-r-preserved c =
+    let h = sym c.step-found.ensures.0 ∙ c.in-Nothing.is in
+    let l = c.loop-r in
+    let a = c.args in (
       omega arith,
-      s.step.auto.1.1.1.1.0 ∙ l.invariant.1,
+      c.step-found.auto.facts ∙ l.invariant.1,
       scan_more _ _ l.invariant.2 h,
-      subst (λ (t : List ℕ). WidePassed (formula_rows a.schema.now a.s a.proof.now) t (l.r + 1)) (sym s.step.ensures.1) (passed_more _ _ _ l.invariant.3 (omega arith) h),
-      table_more _ _ _ _ _ l.invariant.2 l.invariant.4 s.step.ensures.1,
+      subst (λ (t : List ℕ). WidePassed (formula_rows a.schema.now a.s a.proof.now) t (l.r + 1)) (sym c.step-found.ensures.1) (passed_more _ _ _ l.invariant.3 (omega arith) h),
+      table_more _ _ _ _ _ l.invariant.2 l.invariant.4 c.step-found.ensures.1,
     )
 
-same_length_2 : tie.Need-same-length-2 invariant_loop decreases_loop
-same_length_2 c = c.before.loop.invariant.1
+shape_of-facts : tie.Need-shape_of-facts invariant_loop decreases_loop
+shape_of-facts c = c.loop-r.invariant.1
 
-returns_2 : tie.Need-returns-2 invariant_loop decreases_loop
-returns_2 c =
-    let a = c.before.before.before.args in
-    let i = c.before.loop.invariant in
+returns : tie.Need-returns invariant_loop decreases_loop
+returns c =
+    let a = c.args in
+    let i = c.loop-r.invariant in
     let rows = formula_rows a.schema.now a.s a.proof.now in
-    let e : c.before.loop.r ≡ a.n = omega arith in (
+    let e : c.loop-r.r ≡ a.n = omega arith in (
       sym (subst (λ (m : ℕ). scan (wide_row_refusal rows) m ≡ Nothing) e i.2),
       (
-        λ _. subst (λ (m : ℕ). WidePassed rows c.before.loop.facts m) e i.3,
-        subst (λ (m : ℕ). c.before.loop.facts ≡ wide_table rows a.facts.now m) e i.4,
+        λ _. subst (λ (m : ℕ). WidePassed rows c.loop-r.facts m) e i.3,
+        subst (λ (m : ℕ). c.loop-r.facts ≡ wide_table rows a.facts.now m) e i.4,
       ),
     )
 
@@ -102,14 +99,14 @@ each_spec =
     (tie.spec
     invariant_loop
     decreases_loop
-    loop_holds
-    step-requires
-    enum_told
-    enum-told-2
-    same_length
-    returns
-    add_r
-    loop_less
-    loop_again
-    same_length_2
-    returns_2)
+    loop-r-init
+    step-found-requires
+    enum_told-1
+    enum_told-in_default
+    shape_of-facts-in_default
+    returns-in_default
+    overflow_add-r
+    loop-r-smaller
+    loop-r-preserved
+    shape_of-facts
+    returns)

@@ -13,20 +13,18 @@ use Rattle.widerows.proofs.kind_of.Tie as tie
 under-requires : tie.Need-under-requires
 under-requires c κs = search rules
 
+returns-then-under-gt0 : tie.Need-returns-then-under-gt0
+returns-then-under-gt0 c =
+    let e = c.under.ensures ∙ ap (λ (z : ℤ). nat (neg_ℤ z)) (to_z-of_z c.ranges.z) in
+    kind_negative c.args.z (omega arith)
+
+natural-requires : tie.Need-natural-requires
+natural-requires c κs = search rules
+
 returns : tie.Need-returns
 returns c =
-    let a = c.before.before in
-    let e = c.before.under.ensures ∙ ap (λ (z : ℤ). nat (neg_ℤ z)) (to_z-of_z a.ranges.z) in
-    kind_negative a.args.z (omega arith)
-
-natural_requires : tie.Need-natural-requires
-natural_requires c κs = search rules
-
-returns_2 : tie.Need-returns-2
-returns_2 c =
-    let a = c.before.before.before in
-    let e = c.before.before.under.ensures ∙ ap (λ (z : ℤ). nat (neg_ℤ z)) (to_z-of_z a.ranges.z) in
-    ap (λ (n : ℕ). wide_kind_of (pos n)) (c.natural.ensures ∙ ap nat (to_z-of_z a.ranges.z)) ∙ kind_natural a.args.z (omega arith)
+    let e = c.under.ensures ∙ ap (λ (z : ℤ). nat (neg_ℤ z)) (to_z-of_z c.ranges.z) in
+    ap (λ (n : ℕ). wide_kind_of (pos n)) (c.natural.ensures ∙ ap nat (to_z-of_z c.ranges.z)) ∙ kind_natural c.args.z (omega arith)
 
 pub kind_of_spec : {M : Type 1} → statement M
-kind_of_spec = tie.close (tie.spec under-requires returns natural_requires returns_2)
+kind_of_spec = tie.close (tie.spec under-requires returns-then-under-gt0 natural-requires returns)

@@ -7,24 +7,22 @@ use Rattle.widerows.proofs.WideLaws.{row_found_lem, row_kept}
 use Rattle.widerows.proofs.step.Statement.{statement}
 use Rattle.widerows.proofs.step.Tie as tie
 
-row-requires : tie.Need-row-requires
-row-requires c κs = search rules
+row-found-requires : tie.Need-row-found-requires
+row-found-requires c κs = search rules
 
 sized-requires : tie.Need-sized-requires
 sized-requires c κs = search rules
 
-same_length : tie.Need-same-length
-same_length c = search rules
+shape_of-facts : tie.Need-shape_of-facts
+shape_of-facts c = search rules
 
 returns : tie.Need-returns
 returns c =
-    let k = c.before.before in
-    let w = k.before.before in
-    let a = w.before.before.before.args in
+    let a = c.args in
     let rows = formula_rows a.schema.now a.s a.proof.now in (
-      k.sized.ensures.0 ∙ ap (λ (j : Judged). judged_refusal j a.r) w.row.ensures ∙ row_found_lem rows a.r,
-      k.sized.ensures.1 ∙ ap (λ (j : Judged). kept_judged j a.facts.now a.r) w.row.ensures ∙ row_kept rows a.r a.facts.now,
+      c.sized.ensures.0 ∙ ap (λ (j : Judged). judged_refusal j a.r) c.row-found.ensures ∙ row_found_lem rows a.r,
+      c.sized.ensures.1 ∙ ap (λ (j : Judged). kept_judged j a.facts.now a.r) c.row-found.ensures ∙ row_kept rows a.r a.facts.now,
     )
 
 pub step_spec : {M : Type 1} → statement M
-step_spec = tie.close (tie.spec row-requires sized-requires same_length returns)
+step_spec = tie.close (tie.spec row-found-requires sized-requires shape_of-facts returns)

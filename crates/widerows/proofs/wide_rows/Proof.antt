@@ -1,7 +1,7 @@
 use native.Mathlib.Omega.{arith}
 use Prim.Native.Nat.{ℕ, ◌<◌}
 use mathlib.Core.Path.{◌≡◌, sym, ◌∙◌, ap, ap₂, subst}
-use mathlib.Core.Bool.{Bool, true}
+use mathlib.Core.Bool.{Bool, true, not}
 use mir.Syntax.{w32}
 use mir.Val.{of_z, to_z}
 use borrow.Author.Rules.{rules}
@@ -23,8 +23,8 @@ use Rattle.widerows.specs.WideRows.{wide_facts_of, wide_table, wide_rows_table, 
 use Rattle.widerows.proofs.wide_rows.Statement.{statement}
 use Rattle.widerows.proofs.wide_rows.Tie as tie
 
-root-fits-requires : tie.Need-root-fits-requires
-root-fits-requires c κs = search rules
+root_fits-requires : tie.Need-root_fits-requires
+root_fits-requires c κs = search rules
 
 abbrev rows : tie.Start → ℕ → Row
 rows s = row_at s.args.wide.now
@@ -33,93 +33,92 @@ rows s = row_at s.args.wide.now
 abbrev root_loose : tie.Start → Bool
 root_loose s = wide_loose (wide_tree (rows s) (nat s.args.h.root))
 
-abbrev lent : tie.After-root-fits → tie.Start
+abbrev lent : tie.After-root_fits → tie.Start
 lent c = c.before.before.before.before
 
-root_read : (c : tie.After-root-fits) → to_z w32 (of_z w32 (lent c).args.h.root) ≡ (lent c).args.h.root
-root_read c = read_back _ c.before.before.struct_told.given.1.0.1
+root_read : (c : tie.After-root_fits) → to_z w32 (of_z w32 (lent c).args.h.root) ≡ (lent c).args.h.root
+root_read c = read_back _ c.struct_told-1.given.1.0.1
 
 -- what was said of the root and the least value
-said : (c : tie.After-root-fits) → let h = (lent c).args.h in c.root-fits.result ≡ root_fits h.rows h.root h.least
+said : (c : tie.After-root_fits) → let h = (lent c).args.h in c.root_fits.result ≡ root_fits h.rows h.root h.least
 said c =
-    c.root-fits.ensures ∙ ap₂ (root_fits (lent c).args.h.rows) (root_read c) (read_back _ c.before.before.struct_told.given.1.1.0.1)
+    c.root_fits.ensures ∙ ap₂ (root_fits (lent c).args.h.rows) (root_read c) (read_back _ c.struct_told-1.given.1.1.0.1)
 
-returns : tie.Need-returns
+returns-then-not-root_fits : tie.Need-returns-then-not-root_fits
 unfolding wide_refusal is_wide_outer wide_rows_table
-returns c =
-    let unfit = fails _ (said c.before) c.if1.true in
+returns-then-not-root_fits c =
+    let unfit = fails _ (said c.before) (ap not c.if-not-root_fits.true) in
     (formulas_root _ _ _ _ _ (root_loose (lent c.before)) unfit, sym (if_false _ _ _ unfit))
 
-mul-end : tie.Need-overflow-mul-end
-mul-end c = search rules
+overflow_mul-end : tie.Need-overflow_mul-end
+overflow_mul-end c = search rules
 
-mul-each : tie.Need-overflow-mul-each
-mul-each c = search rules
+offset_bounds-wide-end : tie.Need-offset_bounds-wide-end
+offset_bounds-wide-end c = search rules
 
-sub_each : tie.Need-overflow-sub-each
-sub_each c = search rules
+slice_bounds-each-count : tie.Need-slice_bounds-each-count
+slice_bounds-each-count c = search rules
 
-part-each-start : tie.Need-slice-bounds-each-start
-part-each-start c = search rules
+slice_bounds-each-start : tie.Need-slice_bounds-each-start
+slice_bounds-each-start c = search rules
 
-part-each-end : tie.Need-slice-bounds-each-end
-part-each-end c = search rules
+slice_bounds-each-end : tie.Need-slice_bounds-each-end
+slice_bounds-each-end c = search rules
 
-each-requires : tie.Need-each-requires
-each-requires c κs = search rules
+each-found-requires : tie.Need-each-found-requires
+each-found-requires c κs = search rules
 
-enum_told : tie.Need-enum-told
-enum_told c = search rules
+enum_told-1 : tie.Need-enum_told-1
+enum_told-1 c = search rules
 
-enum-told-2 : tie.Need-enum-told-2
-enum-told-2 c = search rules
+enum_told-in_default : tie.Need-enum_told-in_default
+enum_told-in_default c = search rules
 
-same_length : tie.Need-same-length
-same_length c = search rules
+shape_of-facts-in_default : tie.Need-shape_of-facts-in_default
+shape_of-facts-in_default c = search rules
 
-abbrev start : tie.After-each → tie.Start
+abbrev start : tie.After-each-found → tie.Start
 start c = lent c.before.before.before.before
 
-fits : (c : tie.After-each) → let h = (start c).args.h in root_fits h.rows h.root h.least ≡ true
-fits c = let e = c.before.before.before in passes _ (said e.before) e.if1.false
+fits : (c : tie.After-each-found) → let h = (start c).args.h in root_fits h.rows h.root h.least ≡ true
+fits c = passes _ (said c.before.before.before.before) (ap not c.if-not-root_fits.false)
 
 -- what was found among the rows, and what is kept of them
-found : (c : tie.After-each) → c.each.result ≡ scan (wide_row_refusal (rows (start c))) (start c).args.h.rows
+found : (c : tie.After-each-found) → c.each-found.result ≡ scan (wide_row_refusal (rows (start c))) (start c).args.h.rows
 found c =
     let a = (start c).args in
-    c.each.ensures.0 ∙ ap (λ (w : ℕ → Row). scan (wide_row_refusal w) a.h.rows) (formula_rows_part a.wide.now a.h.rows)
+    c.each-found.ensures.0 ∙ ap (λ (w : ℕ → Row). scan (wide_row_refusal w) a.h.rows) (formula_rows_part a.wide.now a.h.rows)
 
-table_is : (c : tie.After-each) → let a = (start c).args in c.each.new.1.1.1.1.0 ≡ wide_rows_table (lent_schema a.wide.now a.h) a.facts.now
+table_is : (c : tie.After-each-found) → let a = (start c).args in c.each-found.new.facts ≡ wide_rows_table (lent_schema a.wide.now a.h) a.facts.now
 unfolding wide_rows_table
 table_is c =
     let a = (start c).args in
-    c.each.ensures.1.1
+    c.each-found.ensures.1.1
     ∙ ap (λ (w : ℕ → Row). wide_table w a.facts.now a.h.rows) (formula_rows_part a.wide.now a.h.rows)
     ∙ sym (if_true _ _ _ (fits c))
 
-returns_2 : tie.Need-returns-2
+returns-in_default : tie.Need-returns-in_default
 unfolding wide_refusal is_wide_outer
-returns_2 c =
-    let e = c.before.before.before.before in
-    let f = c.enum-told2.given.1 in
-    (f ∙ formulas_row _ _ _ _ _ (root_loose (start e)) (fits e) (sym f ∙ found e), table_is e)
+returns-in_default c =
+    let f = c.in_default.is in
+    (f ∙ formulas_row _ _ _ _ _ (root_loose (start c.before.before.before)) (fits c.before.before.before) (sym f ∙ found c.before.before.before), table_is c.before.before.before)
 
-natural_requires : tie.Need-natural-requires
-natural_requires c κs = search rules
+natural-requires : tie.Need-natural-requires
+natural-requires c κs = search rules
 
 -- where the rows passed
-abbrev passed : tie.After-natural → tie.After-each
-passed c = c.before.before.before.before.before.before.before
+abbrev passed : tie.After-natural → tie.After-each-found
+passed c = c.before.before.before.before.before
 
 nothing : (c : tie.After-natural) → let s = start (passed c) in scan (wide_row_refusal (rows s)) s.args.h.rows ≡ Nothing
-nothing c = sym (found (passed c)) ∙ c.before.before.before.enum_told.given.1
+nothing c = sym (found (passed c)) ∙ c.in-Nothing.is
 
-rows_passed : (c : tie.After-natural) → let s = start (passed c) in WidePassed (rows s) (passed c).each.new.1.1.1.1.0 s.args.h.rows
+rows_passed : (c : tie.After-natural) → let s = start (passed c) in WidePassed (rows s) (passed c).each-found.new.facts s.args.h.rows
 rows_passed c =
-    let e = (passed c).each.ensures in
+    let e = (passed c).each-found.ensures in
     let a = (start (passed c)).args in
-    subst (λ (w : ℕ → Row). WidePassed w (passed c).each.new.1.1.1.1.0 a.h.rows) (formula_rows_part a.wide.now a.h.rows)
-    (e.1.0 (sym e.0 ∙ c.before.before.before.enum_told.given.1))
+    subst (λ (w : ℕ → Row). WidePassed w (passed c).each-found.new.facts a.h.rows) (formula_rows_part a.wide.now a.h.rows)
+    (e.1.0 (sym e.0 ∙ c.in-Nothing.is))
 
 root_is : (c : tie.After-natural) → c.natural.result ≡ nat (start (passed c)).args.h.root
 root_is c = c.natural.ensures ∙ ap nat (root_read (passed c).before.before.before.before)
@@ -128,56 +127,51 @@ root_less : (c : tie.After-natural) → let h = (start (passed c)).args.h in nat
 unfolding root_fits
 root_less c = below_nat _ _ (and_left _ _ (fits (passed c)))
 
-known-requires : tie.Need-known-requires
-known-requires c κs = omega (arith, root_is c, root_less c, (rows_passed c).room)
+known-f-requires : tie.Need-known-f-requires
+known-f-requires c κs = omega (arith, root_is c, root_less c, (rows_passed c).room)
 
 -- the root's numbers
-known : (c : tie.After-known) → let s = start (passed c.before) in c.known.result ≡ wide_facts_of (wide_tree (rows s) (nat s.args.h.root))
+known : (c : tie.After-known-f) → let s = start (passed c.before) in c.known-f.result ≡ wide_facts_of (wide_tree (rows s) (nat s.args.h.root))
 known c =
-    let b = c.before in
-    c.known.ensures ∙ ap (facts_at _) (root_is b) ∙ (rows_passed b).known _ (root_less b)
+    c.known-f.ensures ∙ ap (facts_at _) (root_is c.before) ∙ (rows_passed c.before).known _ (root_less c.before)
 
-same_length_2 : tie.Need-same-length-2
-same_length_2 c = search rules
+shape_of-facts-then-f-eq0 : tie.Need-shape_of-facts-then-f-eq0
+shape_of-facts-then-f-eq0 c = search rules
 
-returns_3 : tie.Need-returns-3
+returns-then-f-eq0 : tie.Need-returns-then-f-eq0
 unfolding wide_refusal is_wide_outer wide_facts_of
-returns_3 c =
-    let k = c.before.before in
-    let b = k.before in
-    let tight = bit_zero (root_loose (start (passed b))) (sym (ap (λ (f : Facts). f.loose) (known k)) ∙ c.if2.true) in
-    (formulas_none _ _ _ _ _ _ (fits (passed b)) (nothing b) tight, table_is (passed b))
+returns-then-f-eq0 c =
+    let tight = bit_zero (root_loose (start (passed c.before.before.before))) (sym (ap (λ (f : Facts). f.loose) (known c.before.before)) ∙ c.if-f-eq0.true) in
+    (formulas_none _ _ _ _ _ _ (fits (passed c.before.before.before)) (nothing c.before.before.before) tight, table_is (passed c.before.before.before))
 
-same_length_3 : tie.Need-same-length-3
-same_length_3 c = search rules
+shape_of-facts : tie.Need-shape_of-facts
+shape_of-facts c = search rules
 
-returns_4 : tie.Need-returns-4
+returns : tie.Need-returns
 unfolding wide_refusal is_wide_outer wide_facts_of
-returns_4 c =
-    let k = c.before.before in
-    let b = k.before in
-    let loose = bit_one (root_loose (start (passed b))) (λ h. c.if2.false (ap (λ (f : Facts). f.loose) (known k) ∙ h)) in
-    (formulas_loose _ _ _ _ _ _ (fits (passed b)) (nothing b) loose, table_is (passed b))
+returns c =
+    let loose = bit_one (root_loose (start (passed c.before.before.before))) (λ h. c.if-f-eq0.false (ap (λ (f : Facts). f.loose) (known c.before.before) ∙ h)) in
+    (formulas_loose _ _ _ _ _ _ (fits (passed c.before.before.before)) (nothing c.before.before.before) loose, table_is (passed c.before.before.before))
 
 pub wide_rows_spec : {M : Type 1} → statement M
 wide_rows_spec =
     tie.close
     (tie.spec
-    root-fits-requires
-    returns
-    mul-end
-    mul-each
-    sub_each
-    part-each-start
-    part-each-end
-    each-requires
-    enum_told
-    enum-told-2
-    same_length
-    returns_2
-    natural_requires
-    known-requires
-    same_length_2
-    returns_3
-    same_length_3
-    returns_4)
+    root_fits-requires
+    returns-then-not-root_fits
+    overflow_mul-end
+    offset_bounds-wide-end
+    slice_bounds-each-count
+    slice_bounds-each-start
+    slice_bounds-each-end
+    each-found-requires
+    enum_told-1
+    enum_told-in_default
+    shape_of-facts-in_default
+    returns-in_default
+    natural-requires
+    known-f-requires
+    shape_of-facts-then-f-eq0
+    returns-then-f-eq0
+    shape_of-facts
+    returns)

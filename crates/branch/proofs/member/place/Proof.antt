@@ -4,7 +4,7 @@ use borrow.Author.Count.{below_more}
 use Prim.Native.Nat.{ℕ, ◌-◌, ◌<◌, ◌≤◌}
 use native.Mathlib.Omega.{arith}
 use mathlib.Core.Path.{◌≡◌, sym, ◌∙◌, ap}
-use mathlib.Core.Bool.{true}
+use mathlib.Core.Bool.{true, not}
 use lib.IntN.{ℤ, pos}
 use lib.ListN.{length, get_or}
 use lib.Signed.{lt_z}
@@ -17,55 +17,51 @@ use Rattle.stab.proofs.Searches.{place_is}
 use Rattle.branch.proofs.member.place.Statement.{statement}
 use Rattle.branch.proofs.member.place.Tie as tie
 
-abbrev invariant_loop : tie.invariant-loop
+abbrev invariant_loop : tie.invariant-loop-i
 invariant_loop list z i₀ i = (i ≤ length list) × ((j : ℕ) → j < i → lt_z (get_or list j (pos 0)) (to_z w32 z) ≡ true)
 
-abbrev decreases_loop : tie.decreases-loop
+abbrev decreases_loop : tie.decreases-loop-i
 decreases_loop list z i₀ i = length list - i
 
-loop_holds : tie.Need-loop-init invariant_loop decreases_loop
-loop_holds c = (omega arith, λ j p. absurd (omega arith))
+loop-i-init : tie.Need-loop-i-init invariant_loop decreases_loop
+loop-i-init c = (omega arith, λ j p. absurd (omega arith))
 
-mul-less : tie.Need-overflow-mul-less invariant_loop decreases_loop
-mul-less c = search rules
+offset_bounds-list-i : tie.Need-offset_bounds-list-i invariant_loop decreases_loop
+offset_bounds-list-i c = search rules
 
-shared-slice-copy-out-less : tie.Need-shared-slice-copy-out-smaller invariant_loop decreases_loop
-shared-slice-copy-out-less c = search rules
+bounds-list-i : tie.Need-bounds-list-i invariant_loop decreases_loop
+bounds-list-i c = search rules
 
 less-requires : tie.Need-less-requires invariant_loop decreases_loop
 less-requires c κs = search rules
 
 -- what is read at i
-read : (c : tie.After-less invariant_loop decreases_loop) → c.less.result ≡ lt_z (get_or c.before.before.before.before.args.list.now c.before.before.before.loop.i (pos 0)) (to_z w32 (of_z w32 c.before.before.before.before.args.z))
+read : (c : tie.After-less invariant_loop decreases_loop) → c.less.result ≡ lt_z (get_or c.args.list.now c.loop-i.i (pos 0)) (to_z w32 (of_z w32 c.args.z))
 read c =
-    let l = c.before.before.before in
     c.less.ensures
-    ∙ ap (λ (x : ℤ). lt_z x (to_z w32 (of_z w32 l.before.args.z))) (read_back (get_or l.before.args.list.now l.loop.i (pos 0)) c.before.less-arg.given)
+    ∙ ap (λ (x : ℤ). lt_z x (to_z w32 (of_z w32 c.args.z))) (read_back (get_or c.args.list.now c.loop-i.i (pos 0)) c.less-arg-1.given)
+
+returns-then-not-less : tie.Need-returns-then-not-less invariant_loop decreases_loop
+returns-then-not-less c =
+    let a = c.args in
+    let e : to_z w32 (of_z w32 a.z) ≡ a.z = to_z-of_z c.ranges.z in
+    sym (rw e at (place_is (to_z w32 (of_z w32 a.z)) a.list.now c.loop-i.i c.loop-i.invariant.0 c.loop-i.invariant.1 (λ p. asked_false (read c.before) (ap not c.if-not-less.true))))
+
+overflow_add-i : tie.Need-overflow_add-i invariant_loop decreases_loop
+overflow_add-i c = omega arith
+
+loop-i-smaller : tie.Need-loop-i-smaller invariant_loop decreases_loop
+loop-i-smaller c = omega arith
+
+loop-i-preserved : tie.Need-loop-i-preserved invariant_loop decreases_loop
+loop-i-preserved c =
+    (omega arith, below_more _ _ c.loop-i.invariant.1 (asked_true (read c.before) (ap not c.if-not-less.false)))
 
 returns : tie.Need-returns invariant_loop decreases_loop
 returns c =
-    let l = c.before.before.before.before in
-    let a = l.before.args in
-    let e : to_z w32 (of_z w32 a.z) ≡ a.z = to_z-of_z l.before.ranges.z in
-    sym (rw e at (place_is (to_z w32 (of_z w32 a.z)) a.list.now l.loop.i l.loop.invariant.0 l.loop.invariant.1 (λ p. asked_false (read c.before) c.if1.true)))
-
-add-i : tie.Need-overflow-add-i invariant_loop decreases_loop
-add-i c = omega arith
-
-loop_less : tie.Need-loop-smaller invariant_loop decreases_loop
-loop_less c = omega arith
-
-loop_again : tie.Need-loop-preserved invariant_loop decreases_loop
-loop_again c =
-    let l = c.before.before.before.before in
-    (omega arith, below_more _ _ l.loop.invariant.1 (asked_true (read c.before) c.if1.false))
-
-returns_2 : tie.Need-returns-2 invariant_loop decreases_loop
-returns_2 c =
-    let l = c.before in
-    let a = l.before.args in
-    let e : to_z w32 (of_z w32 a.z) ≡ a.z = to_z-of_z l.before.ranges.z in
-    sym (rw e at (place_is (to_z w32 (of_z w32 a.z)) a.list.now l.loop.i l.loop.invariant.0 l.loop.invariant.1 (λ p. absurd (omega arith))))
+    let a = c.args in
+    let e : to_z w32 (of_z w32 a.z) ≡ a.z = to_z-of_z c.ranges.z in
+    sym (rw e at (place_is (to_z w32 (of_z w32 a.z)) a.list.now c.loop-i.i c.loop-i.invariant.0 c.loop-i.invariant.1 (λ p. absurd (omega arith))))
 
 pub place_spec : {M : Type 1} → statement M
 place_spec =
@@ -73,12 +69,12 @@ place_spec =
     (tie.spec
     invariant_loop
     decreases_loop
-    loop_holds
-    mul-less
-    shared-slice-copy-out-less
+    loop-i-init
+    offset_bounds-list-i
+    bounds-list-i
     less-requires
-    returns
-    add-i
-    loop_less
-    loop_again
-    returns_2)
+    returns-then-not-less
+    overflow_add-i
+    loop-i-smaller
+    loop-i-preserved
+    returns)

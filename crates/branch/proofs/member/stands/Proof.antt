@@ -13,16 +13,16 @@ use Rattle.branch.proofs.member.stands.Tie as tie
 place-requires : tie.Need-place-requires
 place-requires c κs = search rules
 
-stands-at-requires : tie.Need-stands-at-requires
-stands-at-requires c κs = search rules
+stands_at-requires : tie.Need-stands_at-requires
+stands_at-requires c κs = search rules
 
 returns : tie.Need-returns
 returns c =
-    let a = c.before.before.args in
-    let e : to_z w32 (of_z w32 a.z) ≡ a.z = to_z-of_z c.before.before.ranges.z in
+    let a = c.args in
+    let e : to_z w32 (of_z w32 a.z) ≡ a.z = to_z-of_z c.ranges.z in
     c.stands_at.ensures
-    ∙ ap₂ (λ (z : ℤ) (i : ℕ). stands_at z a.list.now i) e (c.before.place.ensures ∙ ap (λ (z : ℤ). place_of z a.list.now) e)
-    ∙ member_at_place a.z a.list.now c.before.before.requires
+    ∙ ap₂ (λ (z : ℤ) (i : ℕ). stands_at z a.list.now i) e (c.place.ensures ∙ ap (λ (z : ℤ). place_of z a.list.now) e)
+    ∙ member_at_place a.z a.list.now c.requires
 
 pub stands_spec : {M : Type 1} → statement M
-stands_spec = tie.close (tie.spec place-requires stands-at-requires returns)
+stands_spec = tie.close (tie.spec place-requires stands_at-requires returns)

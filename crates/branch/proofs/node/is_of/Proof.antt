@@ -7,19 +7,18 @@ use Rattle.branch.proofs.NodeColumns.{column_at}
 use Rattle.branch.proofs.node.is_of.Statement.{statement}
 use Rattle.branch.proofs.node.is_of.Tie as tie
 
-mul-is-at : tie.Need-overflow-mul-is-at
-mul-is-at c = search rules
+overflow_mul-j : tie.Need-overflow_mul-j
+overflow_mul-j c = search rules
 
-add-is-at : tie.Need-overflow-add-is-at
-add-is-at c = search rules
+overflow_add-j : tie.Need-overflow_add-j
+overflow_add-j c = search rules
 
-is-at-requires : tie.Need-is-at-requires
-is-at-requires c κs = search rules
+is_at-requires : tie.Need-is_at-requires
+is_at-requires c κs = search rules
 
 returns : tie.Need-returns
 returns c =
-    let b = c.before in
-    c.is_at.ensures ∙ ap (eq_z _) (to_z-of_z b.ranges.z) ∙ ap (λ (z : ℤ). eq_z z b.args.z) (column_at b.args.nodes.now b.args.j b.args.k b.requires.1)
+    c.is_at.ensures ∙ ap (eq_z _) (to_z-of_z c.ranges.z) ∙ ap (λ (z : ℤ). eq_z z c.args.z) (column_at c.args.nodes.now c.args.j c.args.k c.requires.1)
 
 pub is_of_spec : {M : Type 1} → statement M
-is_of_spec = tie.close (tie.spec mul-is-at add-is-at is-at-requires returns)
+is_of_spec = tie.close (tie.spec overflow_mul-j overflow_add-j is_at-requires returns)

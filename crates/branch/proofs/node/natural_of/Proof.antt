@@ -5,19 +5,18 @@ use Rattle.branch.proofs.NodeColumns.{column_at}
 use Rattle.branch.proofs.node.natural_of.Statement.{statement}
 use Rattle.branch.proofs.node.natural_of.Tie as tie
 
-mul_natural_at : tie.Need-overflow-mul-natural-at
-mul_natural_at c = search rules
+overflow_mul-j : tie.Need-overflow_mul-j
+overflow_mul-j c = search rules
 
-add_natural_at : tie.Need-overflow-add-natural-at
-add_natural_at c = search rules
+overflow_add-j : tie.Need-overflow_add-j
+overflow_add-j c = search rules
 
-natural_at_requires : tie.Need-natural-at-requires
-natural_at_requires c κs = search rules
+natural_at-requires : tie.Need-natural_at-requires
+natural_at-requires c κs = search rules
 
 returns : tie.Need-returns
 returns c =
-    let b = c.before in
-    (c.natural-at.ensures.0 ∙ ap nat (column_at b.args.nodes.now b.args.j b.args.k b.requires.1), c.natural-at.ensures.1)
+    (c.natural_at.ensures.0 ∙ ap nat (column_at c.args.nodes.now c.args.j c.args.k c.requires.1), c.natural_at.ensures.1)
 
 pub natural_of_spec : {M : Type 1} → statement M
-natural_of_spec = tie.close (tie.spec mul_natural_at add_natural_at natural_at_requires returns)
+natural_of_spec = tie.close (tie.spec overflow_mul-j overflow_add-j natural_at-requires returns)

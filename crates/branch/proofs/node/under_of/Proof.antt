@@ -6,19 +6,18 @@ use Rattle.branch.proofs.NodeColumns.{column_at}
 use Rattle.branch.proofs.node.under_of.Statement.{statement}
 use Rattle.branch.proofs.node.under_of.Tie as tie
 
-mul-under-at : tie.Need-overflow-mul-under-at
-mul-under-at c = search rules
+overflow_mul-j : tie.Need-overflow_mul-j
+overflow_mul-j c = search rules
 
-add-under-at : tie.Need-overflow-add-under-at
-add-under-at c = search rules
+overflow_add-j : tie.Need-overflow_add-j
+overflow_add-j c = search rules
 
-under-at-requires : tie.Need-under-at-requires
-under-at-requires c κs = search rules
+under_at-requires : tie.Need-under_at-requires
+under_at-requires c κs = search rules
 
 returns : tie.Need-returns
 returns c =
-    let b = c.before in
-    c.Under-at.ensures ∙ ap (λ (z : ℤ). nat (neg_ℤ z)) (column_at b.args.nodes.now b.args.j b.args.k b.requires.1)
+    c.under_at.ensures ∙ ap (λ (z : ℤ). nat (neg_ℤ z)) (column_at c.args.nodes.now c.args.j c.args.k c.requires.1)
 
 pub under_of_spec : {M : Type 1} → statement M
-under_of_spec = tie.close (tie.spec mul-under-at add-under-at under-at-requires returns)
+under_of_spec = tie.close (tie.spec overflow_mul-j overflow_add-j under_at-requires returns)

@@ -10,33 +10,31 @@ use Rattle.signed.proofs.Signs.{read_back, nat_small}
 use Rattle.branch.proofs.split.at.Statement.{statement}
 use Rattle.branch.proofs.split.at.Tie as tie
 
-number-of-requires : tie.Need-number-of-requires
-number-of-requires c κs = search rules
+number_of-by-requires : tie.Need-number_of-by-requires
+number_of-by-requires c κs = search rules
 
 equal-requires : tie.Need-equal-requires
 equal-requires c κs = search rules
 
+returns-then-equal : tie.Need-returns-then-equal
+unfolding split_at
+returns-then-equal c =
+    let e = read_back _ c.number_of-by.type_inv ∙ c.number_of-by.ensures in
+    (sym (if_true _ _ _ (sym (c.equal.ensures ∙ ap (λ (z : ℤ). eq_z z (pos 0)) e) ∙ c.if-equal.true)), λ m l h. l)
+
+natural-requires : tie.Need-natural-requires
+natural-requires c κs = search rules
+
 returns : tie.Need-returns
 unfolding split_at
 returns c =
-    let b = c.before.before in
-    let e = read_back _ b.number_of.type-inv ∙ b.number_of.ensures in
-    (sym (if_true _ _ _ (sym (c.before.equal.ensures ∙ ap (λ (z : ℤ). eq_z z (pos 0)) e) ∙ c.if1.true)), λ m l h. l)
-
-natural_requires : tie.Need-natural-requires
-natural_requires c κs = search rules
-
-returns_2 : tie.Need-returns-2
-unfolding split_at
-returns_2 c =
-    let b = c.before.before.before in
-    let r = read_back _ b.number_of.type-inv in
-    let e = r ∙ b.number_of.ensures in
-    let small : nat b.number_of.result < 2 ^ 31 = nat_small _ (record { sfits = b.number_of.type-inv }) in
-    let is : c.natural.result ≡ nat b.number_of.result = c.natural.ensures ∙ ap nat r in (
-      c.natural.ensures ∙ ap nat e ∙ sym (if_false _ _ _ (sym (c.before.before.equal.ensures ∙ ap (λ (z : ℤ). eq_z z (pos 0)) e) ∙ c.before.if1.false)),
+    let r = read_back _ c.number_of-by.type_inv in
+    let e = r ∙ c.number_of-by.ensures in
+    let small : nat c.number_of-by.result < 2 ^ 31 = nat_small _ (record { sfits = c.number_of-by.type_inv }) in
+    let is : c.natural.result ≡ nat c.number_of-by.result = c.natural.ensures ∙ ap nat r in (
+      c.natural.ensures ∙ ap nat e ∙ sym (if_false _ _ _ (sym (c.equal.ensures ∙ ap (λ (z : ℤ). eq_z z (pos 0)) e) ∙ c.if-equal.false)),
       λ m l h. omega (arith, is, small),
     )
 
 pub at_spec : {M : Type 1} → statement M
-at_spec = tie.close (tie.spec number-of-requires equal-requires returns natural_requires returns_2)
+at_spec = tie.close (tie.spec number_of-by-requires equal-requires returns-then-equal natural-requires returns)

@@ -6,104 +6,104 @@ use Rattle.classes.specs.Key.{forms_with, sides_with}
 use Rattle.classes.proofs.chain.keep.Statement.{statement}
 use Rattle.classes.proofs.chain.keep.Tie as tie
 
-mul-i : tie.Need-overflow-mul-i
-mul-i c = search rules
+overflow_mul-i : tie.Need-overflow_mul-i
+overflow_mul-i c = search rules
 
-cast-forms : tie.Need-overflow-cast-forms
-cast-forms c = search rules
+overflow_cast-forms : tie.Need-overflow_cast-forms
+overflow_cast-forms c = search rules
 
-mul-forms : tie.Need-overflow-mul-forms
-mul-forms c = search rules
+offset_bounds-forms-i : tie.Need-offset_bounds-forms-i
+offset_bounds-forms-i c = search rules
 
-slice-write-forms : tie.Need-slice-write-forms
-slice-write-forms c = search rules
+bounds-forms-i : tie.Need-bounds-forms-i
+bounds-forms-i c = search rules
 
-cast-forms-2 : tie.Need-overflow-cast-forms-2
-cast-forms-2 c = search rules
+overflow_cast-forms-2 : tie.Need-overflow_cast-forms-2
+overflow_cast-forms-2 c = search rules
 
-add-forms : tie.Need-overflow-add-forms
-add-forms c = search rules
+overflow_add-forms : tie.Need-overflow_add-forms
+overflow_add-forms c = search rules
 
-mul-forms-2 : tie.Need-overflow-mul-forms-2
-mul-forms-2 c = search rules
+offset_bounds-forms-i-2 : tie.Need-offset_bounds-forms-i-2
+offset_bounds-forms-i-2 c = search rules
 
-slice-write-forms-2 : tie.Need-slice-write-forms-2
-slice-write-forms-2 c = simp length-set (omega arith)
+bounds-forms-i-2 : tie.Need-bounds-forms-i-2
+bounds-forms-i-2 c = simp length-set (omega arith)
 
-cast-forms-3 : tie.Need-overflow-cast-forms-3
-cast-forms-3 c = search rules
+overflow_cast-forms-3 : tie.Need-overflow_cast-forms-3
+overflow_cast-forms-3 c = search rules
 
-add-forms-2 : tie.Need-overflow-add-forms-2
-add-forms-2 c = search rules
+overflow_add-forms-2 : tie.Need-overflow_add-forms-2
+overflow_add-forms-2 c = search rules
 
-mul-forms-3 : tie.Need-overflow-mul-forms-3
-mul-forms-3 c = search rules
+offset_bounds-forms-i-3 : tie.Need-offset_bounds-forms-i-3
+offset_bounds-forms-i-3 c = search rules
 
-slice-write-forms-3 : tie.Need-slice-write-forms-3
-slice-write-forms-3 c = simp length-set (omega arith)
+bounds-forms-i-3 : tie.Need-bounds-forms-i-3
+bounds-forms-i-3 c = simp length-set (omega arith)
 
-mul-forms-4 : tie.Need-overflow-mul-forms-4
-mul-forms-4 c = search rules
+offset_bounds-heads-h : tie.Need-offset_bounds-heads-h
+offset_bounds-heads-h c = search rules
 
-slice-read-forms : tie.Need-slice-read-forms
-slice-read-forms c = search rules
+bounds-heads-h : tie.Need-bounds-heads-h
+bounds-heads-h c = search rules
 
-cast-forms-4 : tie.Need-overflow-cast-forms-4
-cast-forms-4 c = omega (arith, c.slice-known.given c.before.before.before.args.h)
+overflow_cast-forms-4 : tie.Need-overflow_cast-forms-4
+overflow_cast-forms-4 c = omega (arith, c.slice_known-1.given c.args.h)
 
-add-forms-3 : tie.Need-overflow-add-forms-3
-add-forms-3 c = search rules
+overflow_add-forms-3 : tie.Need-overflow_add-forms-3
+overflow_add-forms-3 c = search rules
 
-mul-forms-5 : tie.Need-overflow-mul-forms-5
-mul-forms-5 c = search rules
+offset_bounds-forms-i-4 : tie.Need-offset_bounds-forms-i-4
+offset_bounds-forms-i-4 c = search rules
 
-slice-write-forms-4 : tie.Need-slice-write-forms-4
-slice-write-forms-4 c = search rules
+bounds-forms-i-4 : tie.Need-bounds-forms-i-4
+bounds-forms-i-4 c = search rules
 
-mul-k : tie.Need-overflow-mul-k
-mul-k c = search rules
+overflow_mul-k : tie.Need-overflow_mul-k
+overflow_mul-k c = search rules
 
-cast-sides : tie.Need-overflow-cast-sides
-cast-sides c = search rules
+overflow_cast-sides : tie.Need-overflow_cast-sides
+overflow_cast-sides c = search rules
 
-mul-sides : tie.Need-overflow-mul-sides
-mul-sides c = search rules
+offset_bounds-sides-k : tie.Need-offset_bounds-sides-k
+offset_bounds-sides-k c = search rules
 
-slice-write-sides : tie.Need-slice-write-sides
-slice-write-sides c = search rules
+bounds-sides-k : tie.Need-bounds-sides-k
+bounds-sides-k c = search rules
 
-cast-sides-2 : tie.Need-overflow-cast-sides-2
-cast-sides-2 c = search rules
+overflow_cast-sides-2 : tie.Need-overflow_cast-sides-2
+overflow_cast-sides-2 c = search rules
 
-add-sides : tie.Need-overflow-add-sides
-add-sides c = search rules
+overflow_add-sides : tie.Need-overflow_add-sides
+overflow_add-sides c = search rules
 
-mul-sides-2 : tie.Need-overflow-mul-sides-2
-mul-sides-2 c = search rules
+offset_bounds-sides-k-2 : tie.Need-offset_bounds-sides-k-2
+offset_bounds-sides-k-2 c = search rules
 
-slice-write-sides-2 : tie.Need-slice-write-sides-2
-slice-write-sides-2 c = search rules
+bounds-sides-k-2 : tie.Need-bounds-sides-k-2
+bounds-sides-k-2 c = search rules
 
-add-heads : tie.Need-overflow-add-heads
-add-heads c = search rules
+overflow_add-heads : tie.Need-overflow_add-heads
+overflow_add-heads c = search rules
 
-cast-heads : tie.Need-overflow-cast-heads
-cast-heads c = search rules
+overflow_cast-heads : tie.Need-overflow_cast-heads
+overflow_cast-heads c = search rules
 
-mul-heads : tie.Need-overflow-mul-heads
-mul-heads c = search rules
+offset_bounds-heads-h-2 : tie.Need-offset_bounds-heads-h-2
+offset_bounds-heads-h-2 c = search rules
 
-slice-write-heads : tie.Need-slice-write-heads
-slice-write-heads c = search rules
+bounds-heads-h-2 : tie.Need-bounds-heads-h-2
+bounds-heads-h-2 c = search rules
 
-same_length : tie.Need-same-length
-same_length c = search rules
+shape_of-forms : tie.Need-shape_of-forms
+shape_of-forms c = search rules
 
-same_length_2 : tie.Need-same-length-2
-same_length_2 c = search rules
+shape_of-sides : tie.Need-shape_of-sides
+shape_of-sides c = search rules
 
-same_length_3 : tie.Need-same-length-3
-same_length_3 c = search rules
+shape_of-heads : tie.Need-shape_of-heads
+shape_of-heads c = search rules
 
 returns : tie.Need-returns
 unfolding forms_with sides_with
@@ -113,37 +113,37 @@ pub keep_spec : {M : Type 1} → statement M
 keep_spec =
     tie.close
     (tie.spec
-    mul-i
-    cast-forms
-    mul-forms
-    slice-write-forms
-    cast-forms-2
-    add-forms
-    mul-forms-2
-    slice-write-forms-2
-    cast-forms-3
-    add-forms-2
-    mul-forms-3
-    slice-write-forms-3
-    mul-forms-4
-    slice-read-forms
-    cast-forms-4
-    add-forms-3
-    mul-forms-5
-    slice-write-forms-4
-    mul-k
-    cast-sides
-    mul-sides
-    slice-write-sides
-    cast-sides-2
-    add-sides
-    mul-sides-2
-    slice-write-sides-2
-    add-heads
-    cast-heads
-    mul-heads
-    slice-write-heads
-    same_length
-    same_length_2
-    same_length_3
+    overflow_mul-i
+    overflow_cast-forms
+    offset_bounds-forms-i
+    bounds-forms-i
+    overflow_cast-forms-2
+    overflow_add-forms
+    offset_bounds-forms-i-2
+    bounds-forms-i-2
+    overflow_cast-forms-3
+    overflow_add-forms-2
+    offset_bounds-forms-i-3
+    bounds-forms-i-3
+    offset_bounds-heads-h
+    bounds-heads-h
+    overflow_cast-forms-4
+    overflow_add-forms-3
+    offset_bounds-forms-i-4
+    bounds-forms-i-4
+    overflow_mul-k
+    overflow_cast-sides
+    offset_bounds-sides-k
+    bounds-sides-k
+    overflow_cast-sides-2
+    overflow_add-sides
+    offset_bounds-sides-k-2
+    bounds-sides-k-2
+    overflow_add-heads
+    overflow_cast-heads
+    offset_bounds-heads-h-2
+    bounds-heads-h-2
+    shape_of-forms
+    shape_of-sides
+    shape_of-heads
     returns)

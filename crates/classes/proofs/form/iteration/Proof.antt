@@ -16,41 +16,41 @@ use Rattle.classes.proofs.form.iteration.Statement.{statement}
 use Rattle.classes.proofs.form.iteration.Tie as tie
 
 -- where the body has been read
-abbrev start : tie.After-natural → tie.Start
+abbrev start : tie.After-natural-body → tie.Start
 start c = c.before.before.before
 
-body_is : (c : tie.After-natural) → c.natural.result ≡ nat (start c).args.w.a
-body_is c = c.natural.ensures ∙ ap nat (read_back (start c).args.w.a c.before.struct_told.given.1.0.1)
+body_is : (c : tie.After-natural-body) → c.natural-body.result ≡ nat (start c).args.w.a
+body_is c = c.natural-body.ensures ∙ ap nat (read_back (start c).args.w.a c.struct_told-1.given.1.0.1)
 
-body_small : (c : tie.After-natural) → c.natural.result < 1024
+body_small : (c : tie.After-natural-body) → c.natural-body.result < 1024
 body_small c = omega (arith, body_is c, (start c).requires.0)
 
-natural_requires : tie.Need-natural-requires
-natural_requires c κs = search rules
+natural-body-requires : tie.Need-natural-body-requires
+natural-body-requires c κs = search rules
 
-mul-held-at : tie.Need-overflow-mul-held-at
-mul-held-at c = omega (arith, body_small c)
+overflow_mul-body : tie.Need-overflow_mul-body
+overflow_mul-body c = omega (arith, body_small c)
 
-held-at-requires : tie.Need-held-at-requires
-held-at-requires c κs = omega (arith, body_is c, (start c).requires.3)
+held_at-class-requires : tie.Need-held_at-class-requires
+held_at-class-requires c κs = omega (arith, body_is c, (start c).requires.3)
 
-mul-held-at-2 : tie.Need-overflow-mul-held-at-2
-mul-held-at-2 c = omega (arith, body_small c.before)
+overflow_mul-body-2 : tie.Need-overflow_mul-body-2
+overflow_mul-body-2 c = omega (arith, body_small c.before)
 
-add-held-at : tie.Need-overflow-add-held-at
-add-held-at c = omega (arith, body_small c.before)
+overflow_add-body : tie.Need-overflow_add-body
+overflow_add-body c = omega (arith, body_small c.before)
 
-held-at-requires-2 : tie.Need-held-at-requires-2
-held-at-requires-2 c κs = omega (arith, body_is c.before, (start c.before).requires.3)
+held_at-shift-requires : tie.Need-held_at-shift-requires
+held_at-shift-requires c κs = omega (arith, body_is c.before, (start c.before).requires.3)
 
-mul_low : tie.Need-overflow-mul-low
-mul_low c = search rules
+overflow_mul-low : tie.Need-overflow_mul-low
+overflow_mul-low c = search rules
 
-add_low : tie.Need-overflow-add-low
-add_low c = omega (arith, body_small c.before.before, c.before.held_at.ensures.1, c.held-at2.ensures.1)
+overflow_add-low : tie.Need-overflow_add-low
+overflow_add-low c = omega (arith, body_small c.before.before, c.held_at-class.ensures.1, c.held_at-shift.ensures.1)
 
-raised-requires : tie.Need-raised-requires
-raised-requires c κs = search (rules, offset_read)
+raised-high-requires : tie.Need-raised-high-requires
+raised-high-requires c κs = search (rules, offset_read)
 
 mirrored-requires : tie.Need-mirrored-requires
 mirrored-requires c κs = search (rules, offset_read)
@@ -58,29 +58,27 @@ mirrored-requires c κs = search (rules, offset_read)
 returns : tie.Need-returns
 unfolding iteration_form row_of
 returns c =
-    let r = c.before.before in
-    let d = r.before.before.before.before in
-    let b = start d in
+    let b = start c.before.before.before.before.before.before in
     form_same
-    (c.mirrored.ensures ∙ ap (λ (z : ℤ). shift_code (some (neg_ℤ z))) (read_back b.args.w.c c.before.struct-told3.given.1.1.1.0.1))
+    (c.mirrored.ensures ∙ ap (λ (z : ℤ). shift_code (some (neg_ℤ z))) (read_back b.args.w.c c.struct_told-3-1.given.1.1.1.0.1))
     refl
     (ap₂ (λ (x y : ℕ). x + 1024 * y)
-    (r.before.before.before.held_at.ensures.0 ∙ ap (λ (m : ℕ). get_or b.args.forms.now (4 * m) 0) (body_is d))
-    (r.before.before.held-at2.ensures.0 ∙ ap (λ (m : ℕ). get_or b.args.forms.now (4 * m + 1) 0) (body_is d)))
-    (r.raised.ensures ∙ ap (λ (z : ℤ). shift_code (some z)) (read_back b.args.w.b r.before.struct-told2.given.1.1.0.1))
+    (c.held_at-class.ensures.0 ∙ ap (λ (m : ℕ). get_or b.args.forms.now (4 * m) 0) (body_is c.before.before.before.before.before.before))
+    (c.held_at-shift.ensures.0 ∙ ap (λ (m : ℕ). get_or b.args.forms.now (4 * m + 1) 0) (body_is c.before.before.before.before.before.before)))
+    (c.raised-high.ensures ∙ ap (λ (z : ℤ). shift_code (some z)) (read_back b.args.w.b c.struct_told-2-1.given.1.1.0.1))
 
 pub iteration_spec : {M : Type 1} → statement M
 iteration_spec =
     tie.close
     (tie.spec
-    natural_requires
-    mul-held-at
-    held-at-requires
-    mul-held-at-2
-    add-held-at
-    held-at-requires-2
-    mul_low
-    add_low
-    raised-requires
+    natural-body-requires
+    overflow_mul-body
+    held_at-class-requires
+    overflow_mul-body-2
+    overflow_add-body
+    held_at-shift-requires
+    overflow_mul-low
+    overflow_add-low
+    raised-high-requires
     mirrored-requires
     returns)

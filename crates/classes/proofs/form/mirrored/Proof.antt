@@ -10,26 +10,26 @@ use Rattle.classes.proofs.Shifts.{mirrored_is}
 use Rattle.classes.proofs.form.mirrored.Statement.{statement}
 use Rattle.classes.proofs.form.mirrored.Tie as tie
 
-under_is : (c : tie.After-under) → c.under.result ≡ nat (neg_ℤ c.before.args.z)
-under_is c = c.under.ensures ∙ ap (λ (z : ℤ). nat (neg_ℤ z)) (to_z-of_z c.before.ranges.z)
+under_is : (c : tie.After-under) → c.under.result ≡ nat (neg_ℤ c.args.z)
+under_is c = c.under.ensures ∙ ap (λ (z : ℤ). nat (neg_ℤ z)) (to_z-of_z c.ranges.z)
 
-natural_is : (c : tie.After-natural) → c.natural.result ≡ nat c.before.before.args.z
-natural_is c = c.natural.ensures ∙ ap nat (to_z-of_z c.before.before.ranges.z)
+natural_is : (c : tie.After-natural) → c.natural.result ≡ nat c.args.z
+natural_is c = c.natural.ensures ∙ ap nat (to_z-of_z c.ranges.z)
 
 under-requires : tie.Need-under-requires
 under-requires c κs = search rules
 
-add-result : tie.Need-overflow-add-result
-add-result c = omega (arith, under_is c, offset_small _ c.before.requires)
+overflow_add-result : tie.Need-overflow_add-result
+overflow_add-result c = omega (arith, under_is c, offset_small _ c.requires)
 
-natural_requires : tie.Need-natural-requires
-natural_requires c κs = search rules
+natural-requires : tie.Need-natural-requires
+natural-requires c κs = search rules
 
-sub-result : tie.Need-overflow-sub-result
-sub-result c = omega (arith, natural_is c, offset_small _ c.before.before.requires)
+overflow_sub-result : tie.Need-overflow_sub-result
+overflow_sub-result c = omega (arith, natural_is c, offset_small _ c.requires)
 
 returns : tie.Need-returns
-returns c = ap₂ (λ (a b : ℕ). a + 10000 - b) (under_is c.before) (natural_is c) ∙ mirrored_is _ c.before.before.requires
+returns c = ap₂ (λ (a b : ℕ). a + 10000 - b) (under_is c.before) (natural_is c) ∙ mirrored_is _ c.requires
 
 pub mirrored_spec : {M : Type 1} → statement M
-mirrored_spec = tie.close (tie.spec under-requires add-result natural_requires sub-result returns)
+mirrored_spec = tie.close (tie.spec under-requires overflow_add-result natural-requires overflow_sub-result returns)

@@ -4,17 +4,17 @@ use mathlib.Core.Path.{refl}
 use Rattle.classes.proofs.held.head_at.Statement.{statement}
 use Rattle.classes.proofs.held.head_at.Tie as tie
 
-mul-result : tie.Need-overflow-mul-result
-mul-result c = search rules
+offset_bounds-t-i : tie.Need-offset_bounds-t-i
+offset_bounds-t-i c = search rules
 
-shared-slice-read-result : tie.Need-shared-slice-read-result
-shared-slice-read-result c = search rules
+bounds-t-i : tie.Need-bounds-t-i
+bounds-t-i c = search rules
 
-cast-result : tie.Need-overflow-cast-result
-cast-result c = omega (arith, c.shared-slice-known.given c.before.args.i)
+overflow_cast-result : tie.Need-overflow_cast-result
+overflow_cast-result c = omega (arith, c.shared_slice_known-1.given c.args.i)
 
 returns : tie.Need-returns
 returns c = refl
 
 pub head_at_spec : {M : Type 1} → statement M
-head_at_spec = tie.close (tie.spec mul-result shared-slice-read-result cast-result returns)
+head_at_spec = tie.close (tie.spec offset_bounds-t-i bounds-t-i overflow_cast-result returns)

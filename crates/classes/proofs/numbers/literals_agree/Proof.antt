@@ -28,127 +28,116 @@ c_of : (w : Cells) {r : Row} → row_of w ≡ r → w.c ≡ r.c
 unfolding row_of
 c_of w e = ap (λ (u : Row). u.c) e
 
-natural_requires : tie.Need-natural-requires
-natural_requires c κs = search rules
+natural-requires : tie.Need-natural-requires
+natural-requires c κs = search rules
 
-natural_requires_2 : tie.Need-natural-requires-2
-natural_requires_2 c κs = search rules
+natural-requires-2 : tie.Need-natural-requires-2
+natural-requires-2 c κs = search rules
 
 -- ---- symbols
 
-abbrev start : tie.After-natural2 → tie.Start
+abbrev start : tie.After-natural-2 → tie.Start
 start c = c.before.before.before.before
 
-symbol_x : (c : tie.After-natural2) → c.before.before.natural.result ≡ nat (start c).args.x.a
+symbol_x : (c : tie.After-natural-2) → c.natural.result ≡ nat (start c).args.x.a
 symbol_x c =
-    let n = c.before.before in
-    n.natural.ensures ∙ ap nat (read_back (start c).args.x.a n.before.struct_told.given.1.0.1)
+    c.natural.ensures ∙ ap nat (read_back (start c).args.x.a c.struct_told-1.given.1.0.1)
 
-symbol_y : (c : tie.After-natural2) → c.natural2.result ≡ nat (start c).args.y.a
-symbol_y c = c.natural2.ensures ∙ ap nat (read_back (start c).args.y.a c.before.struct-told2.given.1.0.1)
+symbol_y : (c : tie.After-natural-2) → c.natural-2.result ≡ nat (start c).args.y.a
+symbol_y c = c.natural-2.ensures ∙ ap nat (read_back (start c).args.y.a c.struct_told-2-1.given.1.0.1)
 
-returns : tie.Need-returns
-returns c rows f g ex ey wf wg same p l =
-    let d = c.before in
+returns-then-natural : tie.Need-returns-then-natural
+returns-then-natural c rows f g ex ey wf wg same p l =
     sym
-    (symbols_differ rows (by (start d)) f g wf wg same p l
-    (λ e. c.if1.true (symbol_x d ∙ a_of (start d).args.x ex ∙ e ∙ sym (symbol_y d ∙ a_of (start d).args.y ey))))
+    (symbols_differ rows (by (start c.before)) f g wf wg same p l
+    (λ e. c.if-natural.true (symbol_x c.before ∙ a_of (start c.before).args.x ex ∙ e ∙ sym (symbol_y c.before ∙ a_of (start c.before).args.y ey))))
 
-natural_requires_3 : tie.Need-natural-requires-3
-natural_requires_3 c κs = search rules
+natural-base-requires : tie.Need-natural-base-requires
+natural-base-requires c κs = search rules
 
-natural_requires_4 : tie.Need-natural-requires-4
-natural_requires_4 c κs = search rules
+natural-other-requires : tie.Need-natural-other-requires
+natural-other-requires c κs = search rules
 
 -- ---- where what both are on has been read
 
-abbrev symbols : tie.After-natural4 → tie.After-natural2
+abbrev symbols : tie.After-natural-other → tie.After-natural-2
 symbols c = c.before.before.before.before.before
 
-abbrev begin : tie.After-natural4 → tie.Start
+abbrev begin : tie.After-natural-other → tie.Start
 begin c = start (symbols c)
 
-one_symbol : (c : tie.After-natural4) → nat (begin c).args.x.a ≡ nat (begin c).args.y.a
-one_symbol c = sym (symbol_x (symbols c)) ∙ c.before.before.before.before.if1.false ∙ symbol_y (symbols c)
+one_symbol : (c : tie.After-natural-other) → nat (begin c).args.x.a ≡ nat (begin c).args.y.a
+one_symbol c = sym (symbol_x (symbols c)) ∙ c.if-natural.false ∙ symbol_y (symbols c)
 
-base_x : (c : tie.After-natural4) → c.before.before.natural3.result ≡ nat (begin c).args.x.b
+base_x : (c : tie.After-natural-other) → c.natural-base.result ≡ nat (begin c).args.x.b
 base_x c =
-    let n = c.before.before in
-    n.natural3.ensures ∙ ap nat (read_back (begin c).args.x.b n.before.struct-told3.given.1.1.0.1)
+    c.natural-base.ensures ∙ ap nat (read_back (begin c).args.x.b c.struct_told-3-1.given.1.1.0.1)
 
-base_y : (c : tie.After-natural4) → c.natural4.result ≡ nat (begin c).args.y.b
-base_y c = c.natural4.ensures ∙ ap nat (read_back (begin c).args.y.b c.before.struct-told4.given.1.1.0.1)
+base_y : (c : tie.After-natural-other) → c.natural-other.result ≡ nat (begin c).args.y.b
+base_y c = c.natural-other.ensures ∙ ap nat (read_back (begin c).args.y.b c.struct_told-4-1.given.1.1.0.1)
 
 -- ---- a number of its own
 
-returns_2 : tie.Need-returns-2
-returns_2 c rows f g ex ey wf wg same p l =
-    let d = c.before.before in
+returns-then-other-ne0 : tie.Need-returns-then-other-ne0
+returns-then-other-ne0 c rows f g ex ey wf wg same p l =
     sym
-    (nothing_other rows (by (begin d)) f g wf wg same p l (sym (a_of (begin d).args.x ex) ∙ one_symbol d ∙ a_of (begin d).args.y ey)
-    (sym (b_of (begin d).args.x ex) ∙ sym (base_x d) ∙ c.before.if2.true)
-    (λ e. c.if3.true (base_y d ∙ b_of (begin d).args.y ey ∙ e)))
+    (nothing_other rows (by (begin c.before.before)) f g wf wg same p l (sym (a_of (begin c.before.before).args.x ex) ∙ one_symbol c.before.before ∙ a_of (begin c.before.before).args.y ey)
+    (sym (b_of (begin c.before.before).args.x ex) ∙ sym (base_x c.before.before) ∙ c.if-base-eq0.true)
+    (λ e. c.if-other-ne0.true (base_y c.before.before ∙ b_of (begin c.before.before).args.y ey ∙ e)))
 
-is-raised-requires : tie.Need-is-raised-requires
-is-raised-requires c κs =
+is_raised-requires : tie.Need-is_raised-requires
+is_raised-requires c κs =
     let p = (begin c.before.before.before.before).requires in
-    ((omega arith, omega arith), (offset_read _ c.before.struct-told5.given.1.1.1.0.1 p.2, offset_read _ c.struct-told6.given.1.1.1.0.1 p.3))
+    ((omega arith, omega arith), (offset_read _ c.struct_told-then-base-eq0-1.given.1.1.1.0.1 p.2, offset_read _ c.struct_told-then-base-eq0-2-1.given.1.1.1.0.1 p.3))
 
-returns_3 : tie.Need-returns-3
-returns_3 c rows f g ex ey wf wg same p l =
-    let t = c.before in
-    let e = t.before.before in
-    let d = e.before.before in
-    let a = (begin d).args in
-    c.is-raised.ensures
-    ∙ ap₂ (λ (z w : ℤ). eq_z (z +ℤ (pos 0 -ℤ pos 0)) w) (read_back a.x.c t.before.struct-told5.given.1.1.1.0.1 ∙ c_of (begin d).args.x ex) (read_back a.y.c t.struct-told6.given.1.1.1.0.1 ∙ c_of (begin d).args.y ey)
+returns-then-base-eq0 : tie.Need-returns-then-base-eq0
+returns-then-base-eq0 c rows f g ex ey wf wg same p l =
+    let a = (begin c.before.before.before.before.before).args in
+    c.is_raised.ensures
+    ∙ ap₂ (λ (z w : ℤ). eq_z (z +ℤ (pos 0 -ℤ pos 0)) w) (read_back a.x.c c.struct_told-then-base-eq0-1.given.1.1.1.0.1 ∙ c_of (begin c.before.before.before.before.before).args.x ex) (read_back a.y.c c.struct_told-then-base-eq0-2-1.given.1.1.1.0.1 ∙ c_of (begin c.before.before.before.before.before).args.y ey)
     ∙ ap (λ (z : ℤ). eq_z z (rows g).c) (and_none (rows f).c)
     ∙ sym
-    (nothings_met rows (by (begin d)) f g wf wg same p l (sym (a_of (begin d).args.x ex) ∙ one_symbol d ∙ a_of (begin d).args.y ey)
-    (sym (b_of (begin d).args.x ex) ∙ sym (base_x d) ∙ e.before.if2.true)
-    (sym (b_of (begin d).args.y ey) ∙ sym (base_y d) ∙ e.if3.false))
+    (nothings_met rows (by (begin c.before.before.before.before.before)) f g wf wg same p l (sym (a_of (begin c.before.before.before.before.before).args.x ex) ∙ one_symbol c.before.before.before.before.before ∙ a_of (begin c.before.before.before.before.before).args.y ey)
+    (sym (b_of (begin c.before.before.before.before.before).args.x ex) ∙ sym (base_x c.before.before.before.before.before) ∙ c.if-base-eq0.true)
+    (sym (b_of (begin c.before.before.before.before.before).args.y ey) ∙ sym (base_y c.before.before.before.before.before) ∙ c.if-other-ne0.false))
 
 -- ---- a number added to n or i
 
-returns_4 : tie.Need-returns-4
-returns_4 c rows f g ex ey wf wg same p l =
-    let d = c.before.before in
+returns-then-other-eq0 : tie.Need-returns-then-other-eq0
+returns-then-other-eq0 c rows f g ex ey wf wg same p l =
     sym
-    (other_nothing rows (by (begin d)) f g wf wg same p l (sym (a_of (begin d).args.x ex) ∙ one_symbol d ∙ a_of (begin d).args.y ey)
-    (λ e. c.before.if2.false (base_x d ∙ b_of (begin d).args.x ex ∙ e))
-    (sym (b_of (begin d).args.y ey) ∙ sym (base_y d) ∙ c.if4.true))
+    (other_nothing rows (by (begin c.before.before)) f g wf wg same p l (sym (a_of (begin c.before.before).args.x ex) ∙ one_symbol c.before.before ∙ a_of (begin c.before.before).args.y ey)
+    (λ e. c.if-base-eq0.false (base_x c.before.before ∙ b_of (begin c.before.before).args.x ex ∙ e))
+    (sym (b_of (begin c.before.before).args.y ey) ∙ sym (base_y c.before.before) ∙ c.if-other-eq0.true))
 
-is-raised-requires-2 : tie.Need-is-raised-requires-2
-is-raised-requires-2 c κs =
+is_raised-requires-2 : tie.Need-is_raised-requires-2
+is_raised-requires-2 c κs =
     let p = (begin c.before.before.before.before).requires in
-    ((omega (arith, p.1), omega (arith, p.0)), (offset_read _ c.before.struct-told7.given.1.1.1.0.1 p.2, offset_read _ c.struct-told8.given.1.1.1.0.1 p.3))
+    ((omega (arith, p.1), omega (arith, p.0)), (offset_read _ c.struct_told-5-1.given.1.1.1.0.1 p.2, offset_read _ c.struct_told-6-1.given.1.1.1.0.1 p.3))
 
-returns_5 : tie.Need-returns-5
-returns_5 c rows f g ex ey wf wg same p l =
-    let t = c.before in
-    let e = t.before.before in
-    let d = e.before.before in
-    let a = (begin d).args in
-    c.is-raised2.ensures
-    ∙ ap₂ (λ (z w : ℤ). eq_z (z +ℤ (pos a.down -ℤ pos a.up)) w) (read_back a.x.c t.before.struct-told7.given.1.1.1.0.1 ∙ c_of (begin d).args.x ex) (read_back a.y.c t.struct-told8.given.1.1.1.0.1 ∙ c_of (begin d).args.y ey)
+returns : tie.Need-returns
+returns c rows f g ex ey wf wg same p l =
+    let a = (begin c.before.before.before.before.before).args in
+    c.is_raised-2.ensures
+    ∙ ap₂ (λ (z w : ℤ). eq_z (z +ℤ (pos a.down -ℤ pos a.up)) w) (read_back a.x.c c.struct_told-5-1.given.1.1.1.0.1 ∙ c_of (begin c.before.before.before.before.before).args.x ex) (read_back a.y.c c.struct_told-6-1.given.1.1.1.0.1 ∙ c_of (begin c.before.before.before.before.before).args.y ey)
     ∙ ap (λ (z : ℤ). eq_z z (rows g).c) (less_is_more (rows f).c a.up a.down)
     ∙ sym
-    (others_met rows (by (begin d)) f g wf wg same p l (sym (a_of (begin d).args.x ex) ∙ one_symbol d ∙ a_of (begin d).args.y ey)
-    (λ h. e.before.if2.false (base_x d ∙ b_of (begin d).args.x ex ∙ h))
-    (λ h. e.if4.false (base_y d ∙ b_of (begin d).args.y ey ∙ h)))
+    (others_met rows (by (begin c.before.before.before.before.before)) f g wf wg same p l (sym (a_of (begin c.before.before.before.before.before).args.x ex) ∙ one_symbol c.before.before.before.before.before ∙ a_of (begin c.before.before.before.before.before).args.y ey)
+    (λ h. c.if-base-eq0.false (base_x c.before.before.before.before.before ∙ b_of (begin c.before.before.before.before.before).args.x ex ∙ h))
+    (λ h. c.if-other-eq0.false (base_y c.before.before.before.before.before ∙ b_of (begin c.before.before.before.before.before).args.y ey ∙ h)))
 
 pub literals_agree_spec : {M : Type 1} → statement M
 literals_agree_spec =
     tie.close
     (tie.spec
-    natural_requires
-    natural_requires_2
-    returns
-    natural_requires_3
-    natural_requires_4
-    returns_2
-    is-raised-requires
-    returns_3
-    returns_4
-    is-raised-requires-2
-    returns_5)
+    natural-requires
+    natural-requires-2
+    returns-then-natural
+    natural-base-requires
+    natural-other-requires
+    returns-then-other-ne0
+    is_raised-requires
+    returns-then-base-eq0
+    returns-then-other-eq0
+    is_raised-requires-2
+    returns)

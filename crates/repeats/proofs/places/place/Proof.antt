@@ -27,17 +27,11 @@ spread-requires c κs = search rules
 returns : tie.Need-returns
 unfolding place_of row_of
 returns c =
-    let d = c.before in
-    let b = d.before.before in
-    let a = b.before.before in
-    let k = a.before.before in
-    let r = k.before in
-    let w = r.before.args.w in
-    let g = r.struct_told.given in
-    let ek : k.rank.result ≡ rank_of w.kind = k.rank.ensures.0 ∙ ap rank_of (read_back w.kind g.0.1) in
-    let ea : a.rank2.result ≡ rank_of w.a = a.rank2.ensures.0 ∙ ap rank_of (read_back w.a g.1.0.1) in
-    let eb : b.rank3.result ≡ rank_of w.b = b.rank3.ensures.0 ∙ ap rank_of (read_back w.b g.1.1.0.1) in
-    let ec : d.rank4.result ≡ rank_of w.c = d.rank4.ensures.0 ∙ ap rank_of (read_back w.c g.1.1.1.0.1) in
+    let w = c.args.w in
+    let ek : c.rank.result ≡ rank_of w.kind = c.rank.ensures.0 ∙ ap rank_of (read_back w.kind c.struct_told-1.given.0.1) in
+    let ea : c.rank-2.result ≡ rank_of w.a = c.rank-2.ensures.0 ∙ ap rank_of (read_back w.a c.struct_told-1.given.1.0.1) in
+    let eb : c.rank-3.result ≡ rank_of w.b = c.rank-3.ensures.0 ∙ ap rank_of (read_back w.b c.struct_told-1.given.1.1.0.1) in
+    let ec : c.rank-4.result ≡ rank_of w.c = c.rank-4.ensures.0 ∙ ap rank_of (read_back w.c c.struct_told-1.given.1.1.1.0.1) in
     ap (λ (n : ℕ). n / 1048576) (c.spread.ensures.0 ∙ λ i. spread_of (ek i) (ea i) (eb i) (ec i))
 
 pub place_spec : {M : Type 1} → statement M

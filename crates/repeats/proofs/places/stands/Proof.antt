@@ -9,16 +9,16 @@ use Rattle.repeats.proofs.Links.{leads_end, leads_found, leads_on}
 use Rattle.repeats.proofs.places.stands.Statement.{statement}
 use Rattle.repeats.proofs.places.stands.Tie as tie
 
-abbrev invariant_loop : tie.invariant-loop
+abbrev invariant_loop : tie.invariant-loop-rest
 invariant_loop schema s proof r h next heads rest₀ rest =
     Leads (formula_rows schema s proof) (formula_rows schema s proof r) r rest
 
-abbrev decreases_loop : tie.decreases-loop
+abbrev decreases_loop : tie.decreases-loop-rest
 decreases_loop schema s proof r h next heads rest₀ rest = rest
 
 -- in a turn of the loop
 abbrev Turn : Type 0
-Turn = tie.In-loop invariant_loop decreases_loop
+Turn = tie.In-loop-rest invariant_loop decreases_loop
 
 abbrev start : Turn → tie.Start invariant_loop decreases_loop
 start c = c.before.before.before.before.before
@@ -29,47 +29,44 @@ rows b = let a = b.args in formula_rows a.schema.now a.s a.proof.now
 abbrev LeadsTo : tie.Start invariant_loop decreases_loop → ℕ → ℕ → Type 0
 LeadsTo b = Leads (rows b) (rows b b.args.r)
 
-row_below : (c : Turn) → c.before.loop.rest - 1 < (start c).args.r
-row_below c = omega (arith, c.before.loop.invariant.within)
+row_below : (c : Turn) → c.loop-rest.rest - 1 < (start c).args.r
+row_below c = omega (arith, c.loop-rest.invariant.within)
 
 -- what is kept for the row that is looked at
-onward : (c : Turn) → LeadsTo (start c) (c.before.loop.rest - 1) (get_or (start c).args.next.now (c.before.loop.rest - 1) 0)
-onward c = (start c).requires.1.0.onward _ (row_below c) _ (c.before.loop.invariant.of-place c.loop-test.true)
+onward : (c : Turn) → LeadsTo (start c) (c.loop-rest.rest - 1) (get_or (start c).args.next.now (c.loop-rest.rest - 1) 0)
+onward c = (start c).requires.1.0.onward _ (row_below c) _ (c.loop-rest.invariant.of_place c.loop-rest-test.true)
 
-number-at-requires : tie.Need-number-at-requires invariant_loop decreases_loop
-number-at-requires c κs = search rules
+number_at-rest-requires : tie.Need-number_at-rest-requires invariant_loop decreases_loop
+number_at-rest-requires c κs = search rules
 
-loop_holds : tie.Need-loop-init invariant_loop decreases_loop
-loop_holds c =
-    let b = c.before.before.before in
-    subst (LeadsTo b b.args.r) (sym (c.number_at.ensures ∙ ap (λ (x : ℕ). get_or b.args.heads.now x 0) b.requires.1.1))
-    (b.requires.1.0.first _)
+loop-rest-init : tie.Need-loop-rest-init invariant_loop decreases_loop
+loop-rest-init c =
+    subst (LeadsTo c.before.before.before c.args.r) (sym (c.number_at-rest.ensures ∙ ap (λ (x : ℕ). get_or c.args.heads.now x 0) c.requires.1.1))
+    (c.requires.1.0.first _)
 
-sub-q : tie.Need-overflow-sub-q invariant_loop decreases_loop
-sub-q c = omega arith
+overflow_sub-q : tie.Need-overflow_sub-q invariant_loop decreases_loop
+overflow_sub-q c = omega arith
 
 same-requires : tie.Need-same-requires invariant_loop decreases_loop
 same-requires c κs = (omega (arith, row_below c, (start c).requires.0), omega (arith, (start c).requires.0))
 
+returns-then-same : tie.Need-returns-then-same invariant_loop decreases_loop
+returns-then-same c =
+    leads_found _ _ _ _ c.loop-rest-test.true c.loop-rest.invariant (sym c.same.ensures ∙ c.if-same.true)
+
+number_at-rest-requires-in-loop-rest : tie.Need-number_at-rest-requires-in-loop-rest invariant_loop decreases_loop
+number_at-rest-requires-in-loop-rest c κs = search rules
+
+loop-rest-smaller : tie.Need-loop-rest-smaller invariant_loop decreases_loop
+loop-rest-smaller c = omega (arith, c.number_at-rest-in-loop-rest.ensures, (onward c.before.before.before).within, c.loop-rest-test.true)
+
+loop-rest-preserved : tie.Need-loop-rest-preserved invariant_loop decreases_loop
+loop-rest-preserved c =
+    leads_on _ _ _ _ c.loop-rest-test.true c.loop-rest.invariant _ (sym c.same.ensures ∙ c.if-same.false)
+    (subst (LeadsTo (start c.before.before.before) (c.loop-rest.rest - 1)) (sym c.number_at-rest-in-loop-rest.ensures) (onward c.before.before.before))
+
 returns : tie.Need-returns invariant_loop decreases_loop
-returns c =
-    let d = c.before.before in
-    leads_found _ _ _ _ d.loop-test.true d.before.loop.invariant (sym c.before.same.ensures ∙ c.if1.true)
-
-number-at-requires-2 : tie.Need-number-at-requires-2 invariant_loop decreases_loop
-number-at-requires-2 c κs = search rules
-
-loop_less : tie.Need-loop-smaller invariant_loop decreases_loop
-loop_less c = let d = c.before.before.before in omega (arith, c.number-at2.ensures, (onward d).within, d.loop-test.true)
-
-loop_again : tie.Need-loop-preserved invariant_loop decreases_loop
-loop_again c =
-    let d = c.before.before.before in
-    leads_on _ _ _ _ d.loop-test.true d.before.loop.invariant _ (sym c.before.before.same.ensures ∙ c.before.if1.false)
-    (subst (LeadsTo (start d) (d.before.loop.rest - 1)) (sym c.number-at2.ensures) (onward d))
-
-returns_2 : tie.Need-returns-2 invariant_loop decreases_loop
-returns_2 c = leads_end _ _ _ _ c.loop-test.false c.before.loop.invariant
+returns c = leads_end _ _ _ _ c.loop-rest-test.false c.loop-rest.invariant
 
 pub stands_spec : {M : Type 1} → statement M
 stands_spec =
@@ -77,12 +74,12 @@ stands_spec =
     (tie.spec
     invariant_loop
     decreases_loop
-    number-at-requires
-    loop_holds
-    sub-q
+    number_at-rest-requires
+    loop-rest-init
+    overflow_sub-q
     same-requires
-    returns
-    number-at-requires-2
-    loop_less
-    loop_again
-    returns_2)
+    returns-then-same
+    number_at-rest-requires-in-loop-rest
+    loop-rest-smaller
+    loop-rest-preserved
+    returns)

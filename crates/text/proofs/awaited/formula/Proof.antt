@@ -8,68 +8,57 @@ use Rattle.text.proofs.awaited.formula.Statement.{statement}
 use Rattle.text.proofs.awaited.formula.Tie as tie
 use Rattle.stab.proofs.Texts.ProofRows.{node_heading_lacks}
 
-add-t8 : tie.Need-overflow-add-t8
-add-t8 c = search rules
+returns-then-text-at : tie.Need-returns-then-text-at
+returns-then-text-at c = let a = c.args in (formula_end a.text.now a.at a.n c.if-text-at.true, into_over a.text.now a.at 4 (4 * a.n) a.table.now c.if-text-at.true)
 
-returns : tie.Need-returns
-returns c = let a = c.before.before.args in (formula_end a.text.now a.at a.n c.if1.true, into_over a.text.now a.at 4 (4 * a.n) a.table.now c.if1.true)
+byte_at-requires : tie.Need-byte_at-requires
+byte_at-requires c κs = search rules
 
-byte-at-requires : tie.Need-byte-at-requires
-byte-at-requires c κs = search rules
+overflow_add-n : tie.Need-overflow_add-n
+overflow_add-n c = search rules
 
-slice-aggregate-heading-line : tie.Need-slice-aggregate-heading-line
-slice-aggregate-heading-line c = search rules
-
-add-heading-line : tie.Need-overflow-add-heading-line
-add-heading-line c = search rules
-
-heading-line-requires : tie.Need-heading-line-requires
+heading_line-requires : tie.Need-heading_line-requires
 unfolding node_heading bytes
-heading-line-requires c κs = (c.before.before.before.before.before.requires.0, node_heading_lacks)
+heading_line-requires c κs = (c.requires.0, node_heading_lacks)
 
-returns_2 : tie.Need-returns-2
+returns-then-byte_at-eq117 : tie.Need-returns-then-byte_at-eq117
 unfolding node_heading bytes
-returns_2 c =
-    let b = c.before.before.before in
-    let a = b.before.before.before.args in
-    let e = sym b.byte_at.ensures ∙ c.before.before.if2.true in (
-      c.heading-line.ensures ∙ sym (formula_u a.text.now a.at a.n b.before.if1.false e),
-      into_none a.text.now a.at 4 (4 * a.n) a.table.now (first_letter a.text.now a.at b.before.if1.false e),
+returns-then-byte_at-eq117 c =
+    let a = c.args in
+    let e = sym c.byte_at.ensures ∙ c.if-byte_at-eq117.true in (
+      c.heading_line.ensures ∙ sym (formula_u a.text.now a.at a.n c.if-text-at.false e),
+      into_none a.text.now a.at 4 (4 * a.n) a.table.now (first_letter a.text.now a.at c.if-text-at.false e),
     )
 
-add_row : tie.Need-overflow-add-row
-add_row c = search rules
+overflow_add-n-2 : tie.Need-overflow_add-n-2
+overflow_add-n-2 c = search rules
 
-add-t16 : tie.Need-overflow-add-t16
-add-t16 c = search rules
+overflow_add-n-3 : tie.Need-overflow_add-n-3
+overflow_add-n-3 c = search rules
 
 row-requires : tie.Need-row-requires
 row-requires c κs = search rules
 
-same_length : tie.Need-same-length
-same_length c = search rules
+shape_of-table : tie.Need-shape_of-table
+shape_of-table c = search rules
 
-returns_3 : tie.Need-returns-3
-returns_3 c =
-    let e = c.before.before.before in
-    let b = e.before in
-    let a = b.before.before.before.args in
-    let w = c.before.row in
-    (w.ensures.0 ∙ sym (formula_other a.text.now a.at a.n b.before.if1.false (λ x. e.if2.false (b.byte_at.ensures ∙ x))), w.ensures.1)
+returns : tie.Need-returns
+returns c =
+    let a = c.args in
+    let w = c.row in
+    (w.ensures.0 ∙ sym (formula_other a.text.now a.at a.n c.if-text-at.false (λ x. c.if-byte_at-eq117.false (c.byte_at.ensures ∙ x))), w.ensures.1)
 
 pub formula_spec : {M : Type 1} → statement M
 formula_spec =
     tie.close
     (tie.spec
-    add-t8
-    returns
-    byte-at-requires
-    slice-aggregate-heading-line
-    add-heading-line
-    heading-line-requires
-    returns_2
-    add_row
-    add-t16
+    returns-then-text-at
+    byte_at-requires
+    overflow_add-n
+    heading_line-requires
+    returns-then-byte_at-eq117
+    overflow_add-n-2
+    overflow_add-n-3
     row-requires
-    same_length
-    returns_3)
+    shape_of-table
+    returns)

@@ -10,31 +10,30 @@ use borrow.Author.Rules.{rules}
 use Rattle.text.proofs.awaited.listed.Statement.{statement}
 use Rattle.text.proofs.awaited.listed.Tie as tie
 
-returns : tie.Need-returns
+returns-then-text-at : tie.Need-returns-then-text-at
 unfolding listed_by
-returns c =
-    let a = c.before.before.args in (
-      sym (if_true (leb (length a.text.now) a.at) _ _ (le-leb (length a.text.now) a.at c.if1.true)),
-      into_over a.text.now a.at a.w (a.w * a.n) a.table.now c.if1.true,
+returns-then-text-at c =
+    let a = c.args in (
+      sym (if_true (leb (length a.text.now) a.at) _ _ (le-leb (length a.text.now) a.at c.if-text-at.true)),
+      into_over a.text.now a.at a.w (a.w * a.n) a.table.now c.if-text-at.true,
     )
 
-add_row : tie.Need-overflow-add-row
-add_row c = search rules
+overflow_add-n : tie.Need-overflow_add-n
+overflow_add-n c = search rules
 
 row-requires : tie.Need-row-requires
 row-requires c κs = search rules
 
-same_length : tie.Need-same-length
-same_length c = search rules
+shape_of-table : tie.Need-shape_of-table
+shape_of-table c = search rules
 
-returns_2 : tie.Need-returns-2
+returns : tie.Need-returns
 unfolding listed_by
-returns_2 c =
-    let e = c.before.before.before in
-    let a = e.before.before.args in (
-      c.before.row.ensures.0 ∙ sym (if_false (leb (length a.text.now) a.at) _ _ (lt-leb (length a.text.now) a.at e.if1.false)),
-      c.before.row.ensures.1,
+returns c =
+    let a = c.args in (
+      c.row.ensures.0 ∙ sym (if_false (leb (length a.text.now) a.at) _ _ (lt-leb (length a.text.now) a.at c.if-text-at.false)),
+      c.row.ensures.1,
     )
 
 pub listed_spec : {M : Type 1} → statement M
-listed_spec = tie.close (tie.spec returns add_row row-requires same_length returns_2)
+listed_spec = tie.close (tie.spec returns-then-text-at overflow_add-n row-requires shape_of-table returns)

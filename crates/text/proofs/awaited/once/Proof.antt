@@ -12,155 +12,133 @@ use Rattle.text.proofs.awaited.once.Statement.{statement}
 use Rattle.text.proofs.awaited.once.Tie as tie
 use Rattle.stab.proofs.Texts.Kinds.{schema_heading_lacks, row_heading_lacks, model_heading_lacks, pair_heading_lacks}
 
-enum_told : tie.Need-enum-told
-enum_told c = search rules
+enum_told-1 : tie.Need-enum_told-1
+enum_told-1 c = search rules
 
-slice-aggregate-heading-line : tie.Need-slice-aggregate-heading-line
-slice-aggregate-heading-line c = search rules
-
-heading-line-requires : tie.Need-heading-line-requires
+heading_line-requires : tie.Need-heading_line-requires
 unfolding schema_heading bytes
-heading-line-requires c κs = (c.before.before.before.before.requires, schema_heading_lacks)
+heading_line-requires c κs = (c.requires, schema_heading_lacks)
 
-enum-told-2 : tie.Need-enum-told-2
-enum-told-2 c = search rules
+enum_told-in-SchemaValues : tie.Need-enum_told-in-SchemaValues
+enum_told-in-SchemaValues c = search rules
 
 row-requires : tie.Need-row-requires
 row-requires c κs = search rules
 
-enum-told-3 : tie.Need-enum-told-3
-enum-told-3 c = search rules
+enum_told-in-RowHeading : tie.Need-enum_told-in-RowHeading
+enum_told-in-RowHeading c = search rules
 
-slice-aggregate-heading-line-2 : tie.Need-slice-aggregate-heading-line-2
-slice-aggregate-heading-line-2 c = search rules
-
-heading-line-requires-2 : tie.Need-heading-line-requires-2
+heading_line-requires-in-RowHeading : tie.Need-heading_line-requires-in-RowHeading
 unfolding row_heading bytes
-heading-line-requires-2 c κs = (c.before.before.before.before.requires, row_heading_lacks)
+heading_line-requires-in-RowHeading c κs = (c.requires, row_heading_lacks)
 
-enum-told-4 : tie.Need-enum-told-4
-enum-told-4 c = search rules
+enum_told-in-ModelHeading : tie.Need-enum_told-in-ModelHeading
+enum_told-in-ModelHeading c = search rules
 
-slice-aggregate-heading-line-3 : tie.Need-slice-aggregate-heading-line-3
-slice-aggregate-heading-line-3 c = search rules
-
-heading-line-requires-3 : tie.Need-heading-line-requires-3
+heading_line-requires-in-ModelHeading : tie.Need-heading_line-requires-in-ModelHeading
 unfolding model_heading bytes
-heading-line-requires-3 c κs = (c.before.before.before.before.requires, model_heading_lacks)
+heading_line-requires-in-ModelHeading c κs = (c.requires, model_heading_lacks)
 
-enum-told-5 : tie.Need-enum-told-5
-enum-told-5 c = search rules
+enum_told-in-ModelValue : tie.Need-enum_told-in-ModelValue
+enum_told-in-ModelValue c = search rules
 
-row-requires-2 : tie.Need-row-requires-2
-row-requires-2 c κs = search rules
+row-requires-in-ModelValue : tie.Need-row-requires-in-ModelValue
+row-requires-in-ModelValue c κs = search rules
 
-enum-told-6 : tie.Need-enum-told-6
-enum-told-6 c = search rules
+enum_told-in-PairHeading : tie.Need-enum_told-in-PairHeading
+enum_told-in-PairHeading c = search rules
 
-slice-aggregate-heading-line-4 : tie.Need-slice-aggregate-heading-line-4
-slice-aggregate-heading-line-4 c = search rules
-
-heading-line-requires-4 : tie.Need-heading-line-requires-4
+heading_line-requires-in-PairHeading : tie.Need-heading_line-requires-in-PairHeading
 unfolding pair_heading bytes
-heading-line-requires-4 c κs = (c.before.before.before.before.requires, pair_heading_lacks)
+heading_line-requires-in-PairHeading c κs = (c.requires, pair_heading_lacks)
 
-enum-told-7 : tie.Need-enum-told-7
-enum-told-7 c = search rules
+enum_told-in-ProofHeading : tie.Need-enum_told-in-ProofHeading
+enum_told-in-ProofHeading c = search rules
 
-slice-aggregate-heading-line-5 : tie.Need-slice-aggregate-heading-line-5
-slice-aggregate-heading-line-5 c = search rules
-
-heading-line-requires-5 : tie.Need-heading-line-requires-5
+heading_line-requires-in-ProofHeading : tie.Need-heading_line-requires-in-ProofHeading
 unfolding row_heading bytes
-heading-line-requires-5 c κs = (c.before.before.before.before.requires, row_heading_lacks)
+heading_line-requires-in-ProofHeading c κs = (c.requires, row_heading_lacks)
 
-returns : tie.Need-returns
+returns-in-SchemaHeading : tie.Need-returns-in-SchemaHeading
 unfolding step schema_heading bytes
-returns c =
-    let a = c.before.before.before.before.before.args in
-    λ t m s. subst (λ (p : Awaited). Stepped a.text.now a.at p t a.store.now m c.heading-line.result t a.store.now m) (sym c.before.before.enum_told.given.1) (ap (λ (r : Taken). stand r t a.store.now m) c.heading-line.ensures)
+returns-in-SchemaHeading c =
+    let a = c.args in
+    λ t m s. subst (λ (p : Awaited). Stepped a.text.now a.at p t a.store.now m c.heading_line.result t a.store.now m) (sym c.in-SchemaHeading.is) (ap (λ (r : Taken). stand r t a.store.now m) c.heading_line.ensures)
 
-same_length : tie.Need-same-length
-same_length c = search rules
+shape_of-store-in-SchemaValues : tie.Need-shape_of-store-in-SchemaValues
+shape_of-store-in-SchemaValues c = search rules
 
-returns_2 : tie.Need-returns-2
+returns-in-SchemaValues : tie.Need-returns-in-SchemaValues
 unfolding step
-returns_2 c =
-    let b = c.before in
-    let a = b.before.before.before.before.before.args in
-    λ t m s. subst (λ (p : Awaited). Stepped a.text.now a.at p t a.store.now m b.row.result t b.row.new.1.1.0 m) (sym b.before.before.enum-told2.given.1)
-    (ap₂ (λ (r : Taken) (u : List ℤ). stand r t u m) b.row.ensures.0 b.row.ensures.1)
+returns-in-SchemaValues c =
+    let a = c.args in
+    λ t m s. subst (λ (p : Awaited). Stepped a.text.now a.at p t a.store.now m c.row.result t c.row.new.table m) (sym c.in-SchemaValues.is)
+    (ap₂ (λ (r : Taken) (u : List ℤ). stand r t u m) c.row.ensures.0 c.row.ensures.1)
 
-returns_3 : tie.Need-returns-3
+returns-in-RowHeading : tie.Need-returns-in-RowHeading
 unfolding step row_heading bytes
-returns_3 c =
-    let a = c.before.before.before.before.before.args in
-    λ t m s. subst (λ (p : Awaited). Stepped a.text.now a.at p t a.store.now m c.heading-line2.result t a.store.now m) (sym c.before.before.enum-told3.given.1) (ap (λ (r : Taken). stand r t a.store.now m) c.heading-line2.ensures)
+returns-in-RowHeading c =
+    let a = c.args in
+    λ t m s. subst (λ (p : Awaited). Stepped a.text.now a.at p t a.store.now m c.heading_line-in-RowHeading.result t a.store.now m) (sym c.in-RowHeading.is) (ap (λ (r : Taken). stand r t a.store.now m) c.heading_line-in-RowHeading.ensures)
 
-returns_4 : tie.Need-returns-4
+returns-in-ModelHeading : tie.Need-returns-in-ModelHeading
 unfolding step model_heading bytes
-returns_4 c =
-    let a = c.before.before.before.before.before.args in
-    λ t m s. subst (λ (p : Awaited). Stepped a.text.now a.at p t a.store.now m c.heading-line3.result t a.store.now m) (sym c.before.before.enum-told4.given.1) (ap (λ (r : Taken). stand r t a.store.now m) c.heading-line3.ensures)
+returns-in-ModelHeading c =
+    let a = c.args in
+    λ t m s. subst (λ (p : Awaited). Stepped a.text.now a.at p t a.store.now m c.heading_line-in-ModelHeading.result t a.store.now m) (sym c.in-ModelHeading.is) (ap (λ (r : Taken). stand r t a.store.now m) c.heading_line-in-ModelHeading.ensures)
 
-same_length_2 : tie.Need-same-length-2
-same_length_2 c = search rules
+shape_of-store-in-ModelValue : tie.Need-shape_of-store-in-ModelValue
+shape_of-store-in-ModelValue c = search rules
 
-returns_5 : tie.Need-returns-5
+returns-in-ModelValue : tie.Need-returns-in-ModelValue
 unfolding step
-returns_5 c =
-    let b = c.before in
-    let a = b.before.before.before.before.before.args in
-    λ t m s. subst (λ (p : Awaited). Stepped a.text.now a.at p t a.store.now m b.row2.result t b.row2.new.1.1.0 m) (sym b.before.before.enum-told5.given.1)
-    (ap₂ (λ (r : Taken) (u : List ℤ). stand r t u m) b.row2.ensures.0 b.row2.ensures.1)
+returns-in-ModelValue c =
+    let a = c.args in
+    λ t m s. subst (λ (p : Awaited). Stepped a.text.now a.at p t a.store.now m c.row-in-ModelValue.result t c.row-in-ModelValue.new.table m) (sym c.in-ModelValue.is)
+    (ap₂ (λ (r : Taken) (u : List ℤ). stand r t u m) c.row-in-ModelValue.ensures.0 c.row-in-ModelValue.ensures.1)
 
-returns_6 : tie.Need-returns-6
+returns-in-PairHeading : tie.Need-returns-in-PairHeading
 unfolding step pair_heading bytes
-returns_6 c =
-    let a = c.before.before.before.before.before.args in
-    λ t m s. subst (λ (p : Awaited). Stepped a.text.now a.at p t a.store.now m c.heading-line4.result t a.store.now m) (sym c.before.before.enum-told6.given.1) (ap (λ (r : Taken). stand r t a.store.now m) c.heading-line4.ensures)
+returns-in-PairHeading c =
+    let a = c.args in
+    λ t m s. subst (λ (p : Awaited). Stepped a.text.now a.at p t a.store.now m c.heading_line-in-PairHeading.result t a.store.now m) (sym c.in-PairHeading.is) (ap (λ (r : Taken). stand r t a.store.now m) c.heading_line-in-PairHeading.ensures)
 
-returns_7 : tie.Need-returns-7
+returns-in-ProofHeading : tie.Need-returns-in-ProofHeading
 unfolding step row_heading bytes
-returns_7 c =
-    let a = c.before.before.before.before.before.args in
-    λ t m s. subst (λ (p : Awaited). Stepped a.text.now a.at p t a.store.now m c.heading-line5.result t a.store.now m) (sym c.before.before.enum-told7.given.1) (ap (λ (r : Taken). stand r t a.store.now m) c.heading-line5.ensures)
+returns-in-ProofHeading c =
+    let a = c.args in
+    λ t m s. subst (λ (p : Awaited). Stepped a.text.now a.at p t a.store.now m c.heading_line-in-ProofHeading.result t a.store.now m) (sym c.in-ProofHeading.is) (ap (λ (r : Taken). stand r t a.store.now m) c.heading_line-in-ProofHeading.ensures)
 
-returns-8 : tie.Need-returns-8
-returns-8 c =
-    let a = c.before.before.args in
-    λ t m s. over_steps a.text.now a.at t a.store.now m a.p (others_over a.p c.match.keys8 s)
+returns-in_default : tie.Need-returns-in_default
+returns-in_default c =
+    let a = c.args in
+    λ t m s. over_steps a.text.now a.at t a.store.now m a.p (others_over a.p c.in_default.in_default-own.keys8 s)
 
 pub once_spec : {M : Type 1} → statement M
 once_spec =
     tie.close
     (tie.spec
-    enum_told
-    slice-aggregate-heading-line
-    heading-line-requires
-    enum-told-2
+    enum_told-1
+    heading_line-requires
+    enum_told-in-SchemaValues
     row-requires
-    enum-told-3
-    slice-aggregate-heading-line-2
-    heading-line-requires-2
-    enum-told-4
-    slice-aggregate-heading-line-3
-    heading-line-requires-3
-    enum-told-5
-    row-requires-2
-    enum-told-6
-    slice-aggregate-heading-line-4
-    heading-line-requires-4
-    enum-told-7
-    slice-aggregate-heading-line-5
-    heading-line-requires-5
-    returns
-    same_length
-    returns_2
-    returns_3
-    returns_4
-    same_length_2
-    returns_5
-    returns_6
-    returns_7
-    returns-8)
+    enum_told-in-RowHeading
+    heading_line-requires-in-RowHeading
+    enum_told-in-ModelHeading
+    heading_line-requires-in-ModelHeading
+    enum_told-in-ModelValue
+    row-requires-in-ModelValue
+    enum_told-in-PairHeading
+    heading_line-requires-in-PairHeading
+    enum_told-in-ProofHeading
+    heading_line-requires-in-ProofHeading
+    returns-in-SchemaHeading
+    shape_of-store-in-SchemaValues
+    returns-in-SchemaValues
+    returns-in-RowHeading
+    returns-in-ModelHeading
+    shape_of-store-in-ModelValue
+    returns-in-ModelValue
+    returns-in-PairHeading
+    returns-in-ProofHeading
+    returns-in_default)

@@ -10,85 +10,80 @@ use Rattle.text.proofs.nodes.node_at.Tie as tie
 numbers-requires : tie.Need-numbers-requires
 numbers-requires c κs = search rules
 
-enum_told : tie.Need-enum-told
-enum_told c = search rules
+enum_told-1 : tie.Need-enum_told-1
+enum_told-1 c = search rules
 
-enum-known-end : tie.Need-enum-known-end
-enum-known-end c = search rules
+enum_known-end : tie.Need-enum_known-end
+enum_known-end c = search rules
 
-add-if1 : tie.Need-overflow-add-if1
-add-if1 c = search rules
+overflow_add-to : tie.Need-overflow_add-to
+overflow_add-to c = search rules
 
-enum-known-next : tie.Need-enum-known-next
-enum-known-next c = search rules
+enum_known-next : tie.Need-enum_known-next
+enum_known-next c = search rules
 
-set-at-requires : tie.Need-set-at-requires
-set-at-requires c κs =
-    let b = c.before.before.before.before.before in
-    let a = c.before.before.before.before.before.before.before.before.args in
-    let p = c.before.before.before.before.before.before.before.before.requires in
-    ((subst (PartOf a.text.now a.at a.nodes.now a.to 7 b.numbers.new.1.1.0) c.before.before.next.given.1 b.numbers.ensures.0).within, p.1, p.3)
+set_at-requires : tie.Need-set_at-requires
+set_at-requires c κs =
+    let a = c.args in
+    let p = c.requires in
+    ((subst (PartOf a.text.now a.at a.nodes.now a.to 7 c.numbers.new.table) c.in-Open.is c.numbers.ensures.0).within, p.1, p.3)
 
-same_length : tie.Need-same-length
-same_length c = search rules
+shape_of-nodes-in-Bad : tie.Need-shape_of-nodes-in-Bad
+shape_of-nodes-in-Bad c = search rules
 
-returns : tie.Need-returns
-returns c =
-    let b = c.before.before.before in
-    let a = c.before.before.before.before.before.before.args in
-    let r = subst (PartOf a.text.now a.at a.nodes.now a.to 7 b.numbers.new.1.1.0) c.enum_told.given.1 b.numbers.ensures.0 in (
-      node_is a.text.now a.at a.nodes.now a.to a.members.now a.start b.numbers.new.1.1.0 a.members.now Nothing (node_bad a.text.now a.at a.nodes.now a.to b.numbers.new.1.1.0 r.0),
-      b.numbers.ensures.1,
+returns-in-Bad : tie.Need-returns-in-Bad
+returns-in-Bad c =
+    let a = c.args in
+    let r = subst (PartOf a.text.now a.at a.nodes.now a.to 7 c.numbers.new.table) c.in-Bad.is c.numbers.ensures.0 in (
+      node_is a.text.now a.at a.nodes.now a.to a.members.now a.start c.numbers.new.table a.members.now Nothing (node_bad a.text.now a.at a.nodes.now a.to c.numbers.new.table r.0),
+      c.numbers.ensures.1,
       few_set a.text.now a.at a.start a.members.now r.1,
     )
 
-same_length_2 : tie.Need-same-length-2
-same_length_2 c = search rules
+shape_of-nodes-then-end-to : tie.Need-shape_of-nodes-then-end-to
+shape_of-nodes-then-end-to c = search rules
 
-returns_2 : tie.Need-returns-2
-returns_2 c =
-    let b = c.before.before.before.before.before in
-    let a = c.before.before.before.before.before.before.before.before.args in
-    let r = subst (PartOf a.text.now a.at a.nodes.now a.to 7 b.numbers.new.1.1.0) c.before.before.end.given.1 b.numbers.ensures.0 in
-    let n = c.before.before.end.given.0.1.0 in (
-      node_is a.text.now a.at a.nodes.now a.to a.members.now a.start b.numbers.new.1.1.0 a.members.now (At n a.start)
-          (node_seven a.text.now a.at a.nodes.now a.to b.numbers.new.1.1.0 a.members.now a.start n
-          (subst (λ (k : ℕ). RowEnded a.text.now a.at a.nodes.now a.to b.numbers.new.1.1.0 k n) c.if1.true r.0)),
-      b.numbers.ensures.1,
-      few_set a.text.now a.at a.start a.members.now (ended_few a.text.now a.at a.nodes.now a.to b.numbers.new.1.1.0 _ _ r.1 r.0),
+returns-then-end-to : tie.Need-returns-then-end-to
+returns-then-end-to c =
+    let a = c.args in
+    let r = subst (PartOf a.text.now a.at a.nodes.now a.to 7 c.numbers.new.table) c.in-Ended.is c.numbers.ensures.0 in
+    let n = c.in-Ended.next in (
+      node_is a.text.now a.at a.nodes.now a.to a.members.now a.start c.numbers.new.table a.members.now (At n a.start)
+          (node_seven a.text.now a.at a.nodes.now a.to c.numbers.new.table a.members.now a.start n
+          (subst (λ (k : ℕ). RowEnded a.text.now a.at a.nodes.now a.to c.numbers.new.table k n) c.if-end-to.true r.0)),
+      c.numbers.ensures.1,
+      few_set a.text.now a.at a.start a.members.now (ended_few a.text.now a.at a.nodes.now a.to c.numbers.new.table _ _ r.1 r.0),
     )
 
-same_length_3 : tie.Need-same-length-3
-same_length_3 c = search rules
+shape_of-nodes-else-end-to : tie.Need-shape_of-nodes-else-end-to
+shape_of-nodes-else-end-to c = search rules
 
-returns_3 : tie.Need-returns-3
-returns_3 c =
-    let b = c.before.before.before.before.before in
-    let a = c.before.before.before.before.before.before.before.before.args in
-    let r = subst (PartOf a.text.now a.at a.nodes.now a.to 7 b.numbers.new.1.1.0) c.before.before.end.given.1 b.numbers.ensures.0 in (
-      node_is a.text.now a.at a.nodes.now a.to a.members.now a.start b.numbers.new.1.1.0 a.members.now Nothing
-          (node_short a.text.now a.at a.nodes.now a.to b.numbers.new.1.1.0 _ _ r.1 c.if1.false r.0),
-      b.numbers.ensures.1,
-      few_set a.text.now a.at a.start a.members.now (ended_few a.text.now a.at a.nodes.now a.to b.numbers.new.1.1.0 _ _ r.1 r.0),
+returns-else-end-to : tie.Need-returns-else-end-to
+returns-else-end-to c =
+    let a = c.args in
+    let r = subst (PartOf a.text.now a.at a.nodes.now a.to 7 c.numbers.new.table) c.in-Ended.is c.numbers.ensures.0 in (
+      node_is a.text.now a.at a.nodes.now a.to a.members.now a.start c.numbers.new.table a.members.now Nothing
+          (node_short a.text.now a.at a.nodes.now a.to c.numbers.new.table _ _ r.1 c.if-end-to.false r.0),
+      c.numbers.ensures.1,
+      few_set a.text.now a.at a.start a.members.now (ended_few a.text.now a.at a.nodes.now a.to c.numbers.new.table _ _ r.1 r.0),
     )
 
-same-length-4 : tie.Need-same-length-4
-same-length-4 c = search rules
+shape_of-nodes-in-Open : tie.Need-shape_of-nodes-in-Open
+shape_of-nodes-in-Open c = search rules
 
-same-length-5 : tie.Need-same-length-5
-same-length-5 c = search rules
+shape_of-members : tie.Need-shape_of-members
+shape_of-members c = search rules
 
-returns_4 : tie.Need-returns-4
-returns_4 c =
-    let b = c.before.before.before.before.before.before.before in
-    let a = c.before.before.before.before.before.before.before.before.before.before.args in
-    let s = c.before.set_at in
-    let n = c.before.before.before.before.next.given.0.0 in
-    let r = subst (PartOf a.text.now a.at a.nodes.now a.to 7 b.numbers.new.1.1.0) c.before.before.before.before.next.given.1 b.numbers.ensures.0 in (
-      node_is a.text.now a.at a.nodes.now a.to a.members.now a.start b.numbers.new.1.1.0 s.new.1.1.0 s.result
-          (node_by_set a.text.now a.at a.nodes.now a.to b.numbers.new.1.1.0 n r a.members.now a.start s.new.1.1.0 s.result s.ensures.0),
-      b.numbers.ensures.1,
-      s.ensures.1 ∙ open_set a.text.now a.at a.nodes.now a.to b.numbers.new.1.1.0 n r a.members.now a.start,
+returns-in-Open : tie.Need-returns-in-Open
+returns-in-Open c =
+    let a = c.args in
+    let s = c.set_at in
+    let n = c.in-Open.next in
+    let r = subst (PartOf a.text.now a.at a.nodes.now a.to 7 c.numbers.new.table) c.in-Open.is c.numbers.ensures.0 in (
+      node_is a.text.now a.at a.nodes.now a.to a.members.now a.start c.numbers.new.table s.new.members s.result
+          (node_by_set a.text.now a.at a.nodes.now a.to c.numbers.new.table n r a.members.now a.start s.new.members s.result s.ensures.0),
+      c.numbers.ensures.1,
+      s.ensures.1 ∙ open_set a.text.now a.at a.nodes.now a.to c.numbers.new.table n r a.members.now a.start,
     )
 
 pub node_at_spec : {M : Type 1} → statement M
@@ -96,17 +91,17 @@ node_at_spec =
     tie.close
     (tie.spec
     numbers-requires
-    enum_told
-    enum-known-end
-    add-if1
-    enum-known-next
-    set-at-requires
-    same_length
-    returns
-    same_length_2
-    returns_2
-    same_length_3
-    returns_3
-    same-length-4
-    same-length-5
-    returns_4)
+    enum_told-1
+    enum_known-end
+    overflow_add-to
+    enum_known-next
+    set_at-requires
+    shape_of-nodes-in-Bad
+    returns-in-Bad
+    shape_of-nodes-then-end-to
+    returns-then-end-to
+    shape_of-nodes-else-end-to
+    returns-else-end-to
+    shape_of-nodes-in-Open
+    shape_of-members
+    returns-in-Open)

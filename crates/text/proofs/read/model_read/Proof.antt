@@ -9,56 +9,52 @@ use borrow.Author.Rules.{rules}
 use Rattle.text.proofs.read.model_read.Statement.{statement}
 use Rattle.text.proofs.read.model_read.Tie as tie
 
-enum-known-p : tie.Need-enum-known-p
-enum-known-p c = search rules
+enum_known-p : tie.Need-enum_known-p
+enum_known-p c = search rules
 
-enum-known-p-2 : tie.Need-enum-known-p-2
-enum-known-p-2 c = search rules
+enum_known-p-in-NoHeading-1 : tie.Need-enum_known-p-in-NoHeading-1
+enum_known-p-in-NoHeading-1 c = search rules
 
-enum-known-p-3 : tie.Need-enum-known-p-3
-enum-known-p-3 c = search rules
+enum_known-p-in-BadLine-1 : tie.Need-enum_known-p-in-BadLine-1
+enum_known-p-in-BadLine-1 c = search rules
 
-enum-known-p-4 : tie.Need-enum-known-p-4
-enum-known-p-4 c = search rules
+enum_known-p-in-TooMany-1 : tie.Need-enum_known-p-in-TooMany-1
+enum_known-p-in-TooMany-1 c = search rules
 
-returns : tie.Need-returns
-returns c =
-    let q = c.before in
-    let f = q.before.before.ranges in
-    λ ls t u m x p. let y : Came ModelHeading ls _ t u m = subst (λ (p : Awaited). Came ModelHeading ls p t u m) q.p.given.1 x in
-    (model_all ls t u m q.p.given.0.0 _ y (to_z-of_z f.n ∙ p), y.room)
+returns-in-Model : tie.Need-returns-in-Model
+returns-in-Model c =
+    let f = c.ranges in
+    λ ls t u m x p. let y : Came ModelHeading ls _ t u m = subst (λ (p : Awaited). Came ModelHeading ls p t u m) c.in-Model.is x in
+    (model_all ls t u m c.in-Model.k _ y (to_z-of_z f.n ∙ p), y.room)
 
-returns_2 : tie.Need-returns-2
+returns-in-NoHeading : tie.Need-returns-in-NoHeading
 unfolding rest
-returns_2 c =
-    let q = c.before in
-    λ ls t u m x p. model_refused ls t u m _ _ _ (subst (λ (p : Awaited). Came ModelHeading ls p t u m) q.p2.given.1 x) refl
+returns-in-NoHeading c =
+    λ ls t u m x p. model_refused ls t u m _ _ _ (subst (λ (p : Awaited). Came ModelHeading ls p t u m) c.in-NoHeading.is x) refl
 
-returns_3 : tie.Need-returns-3
+returns-in-BadLine : tie.Need-returns-in-BadLine
 unfolding rest
-returns_3 c =
-    let q = c.before in
-    λ ls t u m x p. model_refused ls t u m _ _ _ (subst (λ (p : Awaited). Came ModelHeading ls p t u m) q.p3.given.1 x) refl
+returns-in-BadLine c =
+    λ ls t u m x p. model_refused ls t u m _ _ _ (subst (λ (p : Awaited). Came ModelHeading ls p t u m) c.in-BadLine.is x) refl
 
-returns_4 : tie.Need-returns-4
+returns-in-TooMany : tie.Need-returns-in-TooMany
 unfolding rest
-returns_4 c =
-    let q = c.before in
-    λ ls t u m x p. model_refused ls t u m _ _ _ (subst (λ (p : Awaited). Came ModelHeading ls p t u m) q.p4.given.1 x) refl
+returns-in-TooMany c =
+    λ ls t u m x p. model_refused ls t u m _ _ _ (subst (λ (p : Awaited). Came ModelHeading ls p t u m) c.in-TooMany.is x) refl
 
-returns_5 : tie.Need-returns-5
-returns_5 c = λ ls t u m x p. model_other ls t u m c.before.args.p c.match.keys5 x
+returns-in_default : tie.Need-returns-in_default
+returns-in_default c = λ ls t u m x p. model_other ls t u m c.args.p c.in_default.in_default-own.keys5 x
 
 pub model_read_spec : {M : Type 1} → statement M
 model_read_spec =
     tie.close
     (tie.spec
-    enum-known-p
-    enum-known-p-2
-    enum-known-p-3
-    enum-known-p-4
-    returns
-    returns_2
-    returns_3
-    returns_4
-    returns_5)
+    enum_known-p
+    enum_known-p-in-NoHeading-1
+    enum_known-p-in-BadLine-1
+    enum_known-p-in-TooMany-1
+    returns-in-Model
+    returns-in-NoHeading
+    returns-in-BadLine
+    returns-in-TooMany
+    returns-in_default)

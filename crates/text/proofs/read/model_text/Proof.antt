@@ -12,60 +12,57 @@ use borrow.Author.Rules.{rules}
 use Rattle.text.proofs.read.model_text.Statement.{statement}
 use Rattle.text.proofs.read.model_text.Tie as tie
 
-returns : tie.Need-returns
+returns-then-text-gt65536 : tie.Need-returns-then-text-gt65536
 unfolding text_limit
-returns c = let a = c.before.before.args in model_long (length a.table.now) a.text.now c.if1.true
+returns-then-text-gt65536 c = let a = c.args in model_long (length a.table.now) a.text.now c.if-text-gt65536.true
 
-returns_2 : tie.Need-returns-2
+returns-then-table-lt8192 : tie.Need-returns-then-table-lt8192
 unfolding text_limit
-returns_2 c = let a = c.before.before.before.args in model_short (length a.table.now) a.text.now c.before.if1.false c.if2.true
+returns-then-table-lt8192 c = let a = c.args in model_short (length a.table.now) a.text.now c.if-text-gt65536.false c.if-table-lt8192.true
 
-slice-aggregate-read-lines : tie.Need-slice-aggregate-read-lines
-slice-aggregate-read-lines c = search rules
+slice_bounds-read_lines-end : tie.Need-slice_bounds-read_lines-end
+slice_bounds-read_lines-end c = search rules
 
-slice-aggregate-read-lines-2 : tie.Need-slice-aggregate-read-lines-2
-slice-aggregate-read-lines-2 c = search rules
+slice_bounds-read_lines-end-2 : tie.Need-slice_bounds-read_lines-end-2
+slice_bounds-read_lines-end-2 c = search rules
 
-read-lines-requires : tie.Need-read-lines-requires
+read_lines-p-requires : tie.Need-read_lines-p-requires
 unfolding text_limit
-read-lines-requires c κs =
-    let e = c.before.before.before in
-    record { within = omega arith; short = e.before.if1.false; room = (e.if2.false, omega arith) }
+read_lines-p-requires c κs =
+    record { within = omega arith; short = c.if-text-gt65536.false; room = (c.if-table-lt8192.false, omega arith) }
 
-slice-aggregate-at : tie.Need-slice-aggregate-at
-slice-aggregate-at c = search rules
+slice_bounds-at-end : tie.Need-slice_bounds-at-end
+slice_bounds-at-end c = search rules
 
 at-requires : tie.Need-at-requires
 at-requires c κs = search rules
 
-model-read-requires : tie.Need-model-read-requires
-model-read-requires c κs = search rules
+model_read-requires : tie.Need-model_read-requires
+model_read-requires c κs = search rules
 
-same_length : tie.Need-same-length
-same_length c = search rules
+shape_of-table : tie.Need-shape_of-table
+shape_of-table c = search rules
 
-returns_3 : tie.Need-returns-3
+returns : tie.Need-returns
 unfolding rest text_limit
-returns_3 c =
-    let b = c.before.before.before.before.before.before in
-    let e = b.before.before.before.before in
-    let a = e.before.before.before.args in
-    let r = b.read-lines in
-    let n = c.before.at in
-    subst (λ x. ModelOf x r.new.1.1.0 c.model-read.result) (sym (model_on (length a.table.now) a.text.now e.before.if1.false e.if2.false))
-    (c.model-read.ensures (lines a.text.now) r.new.1.1.0 r.new.1.1.1.0 r.new.1.1.1.1.0 (came a.text.now ModelHeading _ _ _ _ _ _ _ r.ensures refl) (read_back _ n.type-inv ∙ n.ensures))
+returns c =
+    let a = c.args in
+    let r = c.read_lines-p in
+    let n = c.at in
+    subst (λ x. ModelOf x r.new.table c.model_read.result) (sym (model_on (length a.table.now) a.text.now c.if-text-gt65536.false c.if-table-lt8192.false))
+    (c.model_read.ensures (lines a.text.now) r.new.table r.new.nodes r.new.members (came a.text.now ModelHeading _ _ _ _ _ _ _ r.ensures refl) (read_back _ n.type_inv ∙ n.ensures))
 
 pub model_text_spec : {M : Type 1} → statement M
 model_text_spec =
     tie.close
     (tie.spec
-    returns
-    returns_2
-    slice-aggregate-read-lines
-    slice-aggregate-read-lines-2
-    read-lines-requires
-    slice-aggregate-at
+    returns-then-text-gt65536
+    returns-then-table-lt8192
+    slice_bounds-read_lines-end
+    slice_bounds-read_lines-end-2
+    read_lines-p-requires
+    slice_bounds-at-end
     at-requires
-    model-read-requires
-    same_length
-    returns_3)
+    model_read-requires
+    shape_of-table
+    returns)

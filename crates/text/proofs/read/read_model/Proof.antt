@@ -9,69 +9,66 @@ use borrow.Author.Rules.{rules}
 use Rattle.text.proofs.read.read_model.Statement.{statement}
 use Rattle.text.proofs.read.read_model.Tie as tie
 
-model-text-requires : tie.Need-model-text-requires
-model-text-requires c κs = search rules
+model_text-r-requires : tie.Need-model_text-r-requires
+model_text-r-requires c κs = search rules
 
-enum-known-r : tie.Need-enum-known-r
-enum-known-r c = search rules
+enum_known-r : tie.Need-enum_known-r
+enum_known-r c = search rules
 
 -- the rows that were read stand within the table
-kept : (c : tie.After-clear-arg) → 2 * c.before.before.r.given.0.1.0 ≤ length c.before.before.before.before.before.model-text.new.1.0
+kept : (c : tie.After-clear-arg-1) → 2 * c.in-Model.k ≤ length c.model_text-r.new.table
 kept c =
-    let b = c.before.before.before.before.before in
-    let a = b.before.before.before.args in
-    (subst (ModelOf (read_model (length a.table.now) a.text.now) b.model-text.new.1.0) c.before.before.r.given.1 b.model-text.ensures).1
+    let a = c.args in
+    (subst (ModelOf (read_model (length a.table.now) a.text.now) c.model_text-r.new.table) c.in-Model.is c.model_text-r.ensures).1
 
-mul-clear : tie.Need-overflow-mul-clear
-mul-clear c = omega (arith, kept c)
+overflow_mul-k : tie.Need-overflow_mul-k
+overflow_mul-k c = omega (arith, kept c)
 
 clear-requires : tie.Need-clear-requires
 clear-requires c κs = kept c
 
-enum_told : tie.Need-enum-told
-enum_told c = search rules
+enum_told-1 : tie.Need-enum_told-1
+enum_told-1 c = search rules
 
-clear-requires-2 : tie.Need-clear-requires-2
-clear-requires-2 c κs = search rules
+clear-requires-in-Refused : tie.Need-clear-requires-in-Refused
+clear-requires-in-Refused c κs = search rules
 
-same_length : tie.Need-same-length
-same_length c = search rules
+shape_of-table-in-Model : tie.Need-shape_of-table-in-Model
+shape_of-table-in-Model c = search rules
 
-returns : tie.Need-returns
-returns c =
-    let b = c.before.before.before.before.before.before.before in
-    let a = b.before.before.before.args in
-    let t = b.model-text.new.1.0 in
+returns-in-Model : tie.Need-returns-in-Model
+returns-in-Model c =
+    let a = c.args in
+    let t = c.model_text-r.new.table in
     let whole = read_model (length a.table.now) a.text.now in
-    let p = subst (ModelOf whole t) c.before.before.before.before.r.given.1 b.model-text.ensures in
-    (model_answer_lem whole t _ p, c.before.clear.ensures ∙ model_rows_kept whole t _ _ (length a.table.now) b.model-text.auto.1.0 p)
+    let p = subst (ModelOf whole t) c.in-Model.is c.model_text-r.ensures in
+    (model_answer_lem whole t _ p, c.clear.ensures ∙ model_rows_kept whole t _ _ (length a.table.now) c.model_text-r.auto.table p)
 
-same_length_2 : tie.Need-same-length-2
-same_length_2 c = search rules
+shape_of-table-in-Refused : tie.Need-shape_of-table-in-Refused
+shape_of-table-in-Refused c = search rules
 
-returns_2 : tie.Need-returns-2
-returns_2 c =
-    let b = c.before.before.before.before.before.before in
-    let a = b.before.before.before.args in
-    let t = b.model-text.new.1.0 in
+returns-in-Refused : tie.Need-returns-in-Refused
+returns-in-Refused c =
+    let a = c.args in
+    let t = c.model_text-r.new.table in
     let whole = read_model (length a.table.now) a.text.now in (
-      model_answer_lem whole t b.model-text.result b.model-text.ensures,
-      c.before.clear2.ensures
-          ∙ model_none_kept whole t c.before.before.before.enum_told.given.0.0 c.before.before.before.enum_told.given.0.1.0 (length a.table.now) b.model-text.auto.1.0
-          (subst (ModelOf whole t) c.before.before.before.enum_told.given.1 b.model-text.ensures),
+      model_answer_lem whole t c.model_text-r.result c.model_text-r.ensures,
+      c.clear-in-Refused.ensures
+          ∙ model_none_kept whole t c.in-Refused.why c.in-Refused.place (length a.table.now) c.model_text-r.auto.table
+          (subst (ModelOf whole t) c.in-Refused.is c.model_text-r.ensures),
     )
 
 pub read_model_spec : {M : Type 1} → statement M
 read_model_spec =
     tie.close
     (tie.spec
-    model-text-requires
-    enum-known-r
-    mul-clear
+    model_text-r-requires
+    enum_known-r
+    overflow_mul-k
     clear-requires
-    enum_told
-    clear-requires-2
-    same_length
-    returns
-    same_length_2
-    returns_2)
+    enum_told-1
+    clear-requires-in-Refused
+    shape_of-table-in-Model
+    returns-in-Model
+    shape_of-table-in-Refused
+    returns-in-Refused)

@@ -9,118 +9,113 @@ use borrow.Author.Rules.{rules}
 use Rattle.text.proofs.read.read_proof.Statement.{statement}
 use Rattle.text.proofs.read.read_proof.Tie as tie
 
-proof-text-requires : tie.Need-proof-text-requires
-proof-text-requires c κs = search rules
+proof_text-r-requires : tie.Need-proof_text-r-requires
+proof_text-r-requires c κs = search rules
 
-enum-known-r : tie.Need-enum-known-r
-enum-known-r c = search rules
+enum_known-r : tie.Need-enum_known-r
+enum_known-r c = search rules
 
 -- what was read stands in front of the tables
-stands : (c : tie.After-known-told) →
-    let b = c.before.before.before.before.before.before in
-    let a = b.before.before.before.before.before.args in
-    let v = c.before.r.given.0 in
+stands : (c : tie.In-Proof) →
+    let a = c.args in
+    let v = c.r-1.given.0 in
     ProofOf (read_proof (length a.table.now) (length a.nodes.now) (length a.members.now) a.text.now)
-    b.proof-text.new.1.0 b.proof-text.new.1.1.0 b.proof-text.new.1.1.1.0 (Proof v.0 v.1.0 v.1.1.0)
+    c.proof_text-r.new.table c.proof_text-r.new.nodes c.proof_text-r.new.members (Proof v.0 v.1.0 v.1.1.0)
 stands c =
-    let b = c.before.before.before.before.before.before in
-    let a = b.before.before.before.before.before.args in
+    let a = c.args in
     subst
     (ProofOf (read_proof (length a.table.now) (length a.nodes.now) (length a.members.now) a.text.now)
-    b.proof-text.new.1.0 b.proof-text.new.1.1.0 b.proof-text.new.1.1.1.0)
-    c.before.r.given.1 b.proof-text.ensures
+    c.proof_text-r.new.table c.proof_text-r.new.nodes c.proof_text-r.new.members)
+    c.in-Proof.is c.proof_text-r.ensures
 
-mul-clear : tie.Need-overflow-mul-clear
-mul-clear c = omega (arith, (stands c.before).1)
+overflow_mul-n : tie.Need-overflow_mul-n
+overflow_mul-n c = omega (arith, (stands c.before).1)
 
 clear-requires : tie.Need-clear-requires
 clear-requires c κs = (stands c.before).1
 
-mul-clear-2 : tie.Need-overflow-mul-clear-2
-mul-clear-2 c = omega (arith, (stands c.before.before.before.before).2)
+overflow_mul-j : tie.Need-overflow_mul-j
+overflow_mul-j c = omega (arith, (stands c.before.before.before.before).2)
 
-clear-requires-2 : tie.Need-clear-requires-2
-clear-requires-2 c κs = (stands c.before.before.before.before).2
+clear-requires-in-Proof : tie.Need-clear-requires-in-Proof
+clear-requires-in-Proof c κs = (stands c.before.before.before.before).2
 
-clear-requires-3 : tie.Need-clear-requires-3
-clear-requires-3 c κs = (stands c.before.before.before.before.before.before.before).3
+clear-requires-in-Proof-2 : tie.Need-clear-requires-in-Proof-2
+clear-requires-in-Proof-2 c κs = (stands c.before.before.before.before.before.before.before).3
 
-enum_told : tie.Need-enum-told
-enum_told c = search rules
+enum_told-1 : tie.Need-enum_told-1
+enum_told-1 c = search rules
 
-clear-requires-4 : tie.Need-clear-requires-4
-clear-requires-4 c κs = search rules
+clear-requires-in-Refused : tie.Need-clear-requires-in-Refused
+clear-requires-in-Refused c κs = search rules
 
-clear-requires-5 : tie.Need-clear-requires-5
-clear-requires-5 c κs = search rules
+clear-requires-in-Refused-2 : tie.Need-clear-requires-in-Refused-2
+clear-requires-in-Refused-2 c κs = search rules
 
-clear-requires-6 : tie.Need-clear-requires-6
-clear-requires-6 c κs = search rules
+clear-requires-in-Refused-3 : tie.Need-clear-requires-in-Refused-3
+clear-requires-in-Refused-3 c κs = search rules
 
-same_length : tie.Need-same-length
-same_length c = search rules
+shape_of-table-in-Proof : tie.Need-shape_of-table-in-Proof
+shape_of-table-in-Proof c = search rules
 
-same_length_2 : tie.Need-same-length-2
-same_length_2 c = search rules
+shape_of-nodes-in-Proof : tie.Need-shape_of-nodes-in-Proof
+shape_of-nodes-in-Proof c = search rules
 
-same_length_3 : tie.Need-same-length-3
-same_length_3 c = search rules
+shape_of-members-in-Proof : tie.Need-shape_of-members-in-Proof
+shape_of-members-in-Proof c = search rules
 
-returns : tie.Need-returns
-returns c =
-    let b = c.before.before.before.before.before.before.before.before.before.before.before.before.before.before.before in
-    let a = c.before.before.before.before.before.before.before.before.before.before.before.before.before.before.before.before.before.before.before.before.args in
-    let t = b.proof-text.new.1.0 in
-    let u = b.proof-text.new.1.1.0 in
-    let m = b.proof-text.new.1.1.1.0 in
+returns-in-Proof : tie.Need-returns-in-Proof
+returns-in-Proof c =
+    let a = c.args in
+    let t = c.proof_text-r.new.table in
+    let u = c.proof_text-r.new.nodes in
+    let m = c.proof_text-r.new.members in
     let whole = read_proof (length a.table.now) (length a.nodes.now) (length a.members.now) a.text.now in
     let p = stands c.before.before.before.before.before.before.before.before.before in
-    let k = proof_kept whole t u m _ _ _ (length a.table.now) (length a.nodes.now) (length a.members.now) b.proof-text.auto.1.0 b.proof-text.auto.1.1.0 b.proof-text.auto.1.1.1.0 p in
-    (proof_answer_lem whole t u m _ p, (c.before.before.before.before.before.before.before.clear.ensures ∙ k.0, (c.before.before.before.before.clear2.ensures ∙ k.1, c.before.clear3.ensures ∙ k.2)))
+    let k = proof_kept whole t u m _ _ _ (length a.table.now) (length a.nodes.now) (length a.members.now) c.proof_text-r.auto.table c.proof_text-r.auto.nodes c.proof_text-r.auto.members p in
+    (proof_answer_lem whole t u m _ p, (c.clear.ensures ∙ k.0, (c.clear-in-Proof.ensures ∙ k.1, c.clear-in-Proof-2.ensures ∙ k.2)))
 
-same-length-4 : tie.Need-same-length-4
-same-length-4 c = search rules
+shape_of-table-in-Refused : tie.Need-shape_of-table-in-Refused
+shape_of-table-in-Refused c = search rules
 
-same-length-5 : tie.Need-same-length-5
-same-length-5 c = search rules
+shape_of-nodes-in-Refused : tie.Need-shape_of-nodes-in-Refused
+shape_of-nodes-in-Refused c = search rules
 
-same-length-6 : tie.Need-same-length-6
-same-length-6 c = search rules
+shape_of-members-in-Refused : tie.Need-shape_of-members-in-Refused
+shape_of-members-in-Refused c = search rules
 
-returns_2 : tie.Need-returns-2
-returns_2 c =
-    let b = c.before.before.before.before.before.before.before.before.before.before.before.before.before.before in
-    let a = c.before.before.before.before.before.before.before.before.before.before.before.before.before.before.before.before.before.before.before.args in
-    let e = c.before.before.before.before.before.before.before.before.before.enum_told.given in
-    let t = b.proof-text.new.1.0 in
-    let u = b.proof-text.new.1.1.0 in
-    let m = b.proof-text.new.1.1.1.0 in
+returns-in-Refused : tie.Need-returns-in-Refused
+returns-in-Refused c =
+    let a = c.args in
+    let t = c.proof_text-r.new.table in
+    let u = c.proof_text-r.new.nodes in
+    let m = c.proof_text-r.new.members in
     let whole = read_proof (length a.table.now) (length a.nodes.now) (length a.members.now) a.text.now in
-    let k = proof_none_kept whole t u m e.0.0 e.0.1.0 (length a.table.now) (length a.nodes.now) (length a.members.now) b.proof-text.auto.1.0 b.proof-text.auto.1.1.0 b.proof-text.auto.1.1.1.0 (subst (ProofOf whole t u m) e.1 b.proof-text.ensures) in (
-      proof_answer_lem whole t u m b.proof-text.result b.proof-text.ensures,
-      (c.before.before.before.before.before.before.before.clear4.ensures ∙ k.0, (c.before.before.before.before.clear5.ensures ∙ k.1, c.before.clear6.ensures ∙ k.2)),
+    let k = proof_none_kept whole t u m c.in-Refused.why c.in-Refused.place (length a.table.now) (length a.nodes.now) (length a.members.now) c.proof_text-r.auto.table c.proof_text-r.auto.nodes c.proof_text-r.auto.members (subst (ProofOf whole t u m) c.in-Refused.is c.proof_text-r.ensures) in (
+      proof_answer_lem whole t u m c.proof_text-r.result c.proof_text-r.ensures,
+      (c.clear-in-Refused.ensures ∙ k.0, (c.clear-in-Refused-2.ensures ∙ k.1, c.clear-in-Refused-3.ensures ∙ k.2)),
     )
 
 pub read_proof_spec : {M : Type 1} → statement M
 read_proof_spec =
     tie.close
     (tie.spec
-    proof-text-requires
-    enum-known-r
-    mul-clear
+    proof_text-r-requires
+    enum_known-r
+    overflow_mul-n
     clear-requires
-    mul-clear-2
-    clear-requires-2
-    clear-requires-3
-    enum_told
-    clear-requires-4
-    clear-requires-5
-    clear-requires-6
-    same_length
-    same_length_2
-    same_length_3
-    returns
-    same-length-4
-    same-length-5
-    same-length-6
-    returns_2)
+    overflow_mul-j
+    clear-requires-in-Proof
+    clear-requires-in-Proof-2
+    enum_told-1
+    clear-requires-in-Refused
+    clear-requires-in-Refused-2
+    clear-requires-in-Refused-3
+    shape_of-table-in-Proof
+    shape_of-nodes-in-Proof
+    shape_of-members-in-Proof
+    returns-in-Proof
+    shape_of-table-in-Refused
+    shape_of-nodes-in-Refused
+    shape_of-members-in-Refused
+    returns-in-Refused)

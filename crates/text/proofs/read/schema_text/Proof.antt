@@ -12,69 +12,66 @@ use borrow.Author.Rules.{rules}
 use Rattle.text.proofs.read.schema_text.Statement.{statement}
 use Rattle.text.proofs.read.schema_text.Tie as tie
 
-returns : tie.Need-returns
+returns-then-text-gt65536 : tie.Need-returns-then-text-gt65536
 unfolding text_limit
-returns c = let a = c.before.before.args in schema_long (length a.table.now) a.text.now c.if1.true
+returns-then-text-gt65536 c = let a = c.args in schema_long (length a.table.now) a.text.now c.if-text-gt65536.true
 
-returns_2 : tie.Need-returns-2
+returns-then-table-lt4096 : tie.Need-returns-then-table-lt4096
 unfolding text_limit
-returns_2 c = let a = c.before.before.before.args in schema_short (length a.table.now) a.text.now c.before.if1.false c.if2.true
+returns-then-table-lt4096 c = let a = c.args in schema_short (length a.table.now) a.text.now c.if-text-gt65536.false c.if-table-lt4096.true
 
-slice-aggregate-read-lines : tie.Need-slice-aggregate-read-lines
-slice-aggregate-read-lines c = search rules
+slice_bounds-read_lines-end : tie.Need-slice_bounds-read_lines-end
+slice_bounds-read_lines-end c = search rules
 
-slice-aggregate-read-lines-2 : tie.Need-slice-aggregate-read-lines-2
-slice-aggregate-read-lines-2 c = search rules
+slice_bounds-read_lines-end-2 : tie.Need-slice_bounds-read_lines-end-2
+slice_bounds-read_lines-end-2 c = search rules
 
-read-lines-requires : tie.Need-read-lines-requires
+read_lines-p-requires : tie.Need-read_lines-p-requires
 unfolding text_limit
-read-lines-requires c κs =
-    let e = c.before.before.before in
-    record { within = omega arith; short = e.before.if1.false; room = (e.if2.false, omega arith) }
+read_lines-p-requires c κs =
+    record { within = omega arith; short = c.if-text-gt65536.false; room = (c.if-table-lt4096.false, omega arith) }
 
-slice-aggregate-at : tie.Need-slice-aggregate-at
-slice-aggregate-at c = search rules
+slice_bounds-at-end : tie.Need-slice_bounds-at-end
+slice_bounds-at-end c = search rules
 
 at-requires : tie.Need-at-requires
 at-requires c κs = search rules
 
-slice-aggregate-at-2 : tie.Need-slice-aggregate-at-2
-slice-aggregate-at-2 c = search rules
+slice_bounds-at-end-2 : tie.Need-slice_bounds-at-end-2
+slice_bounds-at-end-2 c = search rules
 
 at-requires-2 : tie.Need-at-requires-2
 at-requires-2 c κs = search rules
 
-schema-read-requires : tie.Need-schema-read-requires
-schema-read-requires c κs = search rules
+schema_read-requires : tie.Need-schema_read-requires
+schema_read-requires c κs = search rules
 
-same_length : tie.Need-same-length
-same_length c = search rules
+shape_of-table : tie.Need-shape_of-table
+shape_of-table c = search rules
 
-returns_3 : tie.Need-returns-3
+returns : tie.Need-returns
 unfolding rest text_limit
-returns_3 c =
-    let b = c.before.before.before.before.before.before.before.before in
-    let e = b.before.before.before.before in
-    let a = e.before.before.before.args in
-    let r = b.read-lines in
-    let root = c.before.before.before.at in
-    let least = c.before.at2 in
-    subst (λ x. SchemaOf x r.new.1.1.0 c.schema-read.result) (sym (schema_on (length a.table.now) a.text.now e.before.if1.false e.if2.false))
-    (c.schema-read.ensures (lines a.text.now) r.new.1.1.0 r.new.1.1.1.0 r.new.1.1.1.1.0 (came a.text.now SchemaHeading _ _ _ _ _ _ _ r.ensures refl) (read_back _ root.type-inv ∙ root.ensures) (read_back _ least.type-inv ∙ least.ensures))
+returns c =
+    let a = c.args in
+    let r = c.read_lines-p in
+    let root = c.at in
+    let least = c.at-2 in
+    subst (λ x. SchemaOf x r.new.table c.schema_read.result) (sym (schema_on (length a.table.now) a.text.now c.if-text-gt65536.false c.if-table-lt4096.false))
+    (c.schema_read.ensures (lines a.text.now) r.new.table r.new.nodes r.new.members (came a.text.now SchemaHeading _ _ _ _ _ _ _ r.ensures refl) (read_back _ root.type_inv ∙ root.ensures) (read_back _ least.type_inv ∙ least.ensures))
 
 pub schema_text_spec : {M : Type 1} → statement M
 schema_text_spec =
     tie.close
     (tie.spec
-    returns
-    returns_2
-    slice-aggregate-read-lines
-    slice-aggregate-read-lines-2
-    read-lines-requires
-    slice-aggregate-at
+    returns-then-text-gt65536
+    returns-then-table-lt4096
+    slice_bounds-read_lines-end
+    slice_bounds-read_lines-end-2
+    read_lines-p-requires
+    slice_bounds-at-end
     at-requires
-    slice-aggregate-at-2
+    slice_bounds-at-end-2
     at-requires-2
-    schema-read-requires
-    same_length
-    returns_3)
+    schema_read-requires
+    shape_of-table
+    returns)

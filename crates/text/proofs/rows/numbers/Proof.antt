@@ -8,104 +8,99 @@ use Rattle.text.proofs.Parts.{step_bad, step_more, step_last, open_start, open_b
 use Rattle.text.proofs.rows.numbers.Statement.{statement}
 use Rattle.text.proofs.rows.numbers.Tie as tie
 
-abbrev invariant_loop : tie.invariant-loop
+abbrev invariant_loop : tie.invariant-loop-k
 invariant_loop text at table₀ to w end i₀ k₀ table i k = (to ≤ k) × (k ≤ end) × (length table ≡ length table₀) × RowOpen text at table₀ to table k i
 
-abbrev decreases_loop : tie.decreases-loop
+abbrev decreases_loop : tie.decreases-loop-k
 decreases_loop text at table₀ to w end i₀ k₀ table i k = end - k
 
 -- src/rows.rt:44:15
-add-end : tie.Need-overflow-add-end invariant_loop decreases_loop
-add-end c = omega arith
+overflow_add-end : tie.Need-overflow_add-end invariant_loop decreases_loop
+overflow_add-end c = omega arith
 
 -- src/rows.rt:47:5
-loop_holds : tie.Need-loop-init invariant_loop decreases_loop
-loop_holds c = let a = c.before.args in (omega arith, omega arith, refl, open_start a.text.now a.at a.table.now a.to c.before.requires.0)
+loop-k-init : tie.Need-loop-k-init invariant_loop decreases_loop
+loop-k-init c = let a = c.args in (omega arith, omega arith, refl, open_start a.text.now a.at a.table.now a.to c.requires.0)
 
 -- src/rows.rt:48:15
 number-requires : tie.Need-number-requires invariant_loop decreases_loop
-number-requires c κs = c.before.before.loop.invariant.3.within
+number-requires c κs = c.loop-k.invariant.3.within
 
 -- src/rows.rt:50:17
-enum_told : tie.Need-enum-told invariant_loop decreases_loop
-enum_told c = search rules
+enum_told-1 : tie.Need-enum_told-1 invariant_loop decreases_loop
+enum_told-1 c = search rules
 
 -- src/rows.rt:50:17
-same_length : tie.Need-same-length invariant_loop decreases_loop
-same_length c =
-    let b = c.before.before.before in
-    omega (arith, b.number.auto.1.1.0, b.before.before.before.loop.invariant.2)
+shape_of-table-in-Bad : tie.Need-shape_of-table-in-Bad invariant_loop decreases_loop
+shape_of-table-in-Bad c =
+    omega (arith, c.number.auto.table, c.loop-k.invariant.2)
 
 -- src/rows.rt:50:17
-returns : tie.Need-returns invariant_loop decreases_loop
-returns c =
-    let b = c.before.before.before in
-    let l = b.before.before.before.loop in
-    let a = b.before.before.before.before.before.args in
+returns-in-Bad : tie.Need-returns-in-Bad invariant_loop decreases_loop
+returns-in-Bad c =
+    let l = c.loop-k in
+    let a = c.args in
     open_bad a.text.now a.at a.table.now a.to l.table l.k l.i l.invariant.3
-    (step_bad a.text.now l.i l.table l.k 0 l.table (sym b.number.ensures.0 ∙ c.enum_told.given.1))
-    _ b.number.ensures.1 a.w (omega (arith, b.before.before.loop-test.true))
+    (step_bad a.text.now l.i l.table l.k 0 l.table (sym c.number.ensures.0 ∙ c.in-Bad.is))
+    _ c.number.ensures.1 a.w (omega (arith, c.loop-k-test.true))
 
 -- src/rows.rt:52:24
-enum-known-next : tie.Need-enum-known-next invariant_loop decreases_loop
-enum-known-next c = search rules
+enum_known-next : tie.Need-enum_known-next invariant_loop decreases_loop
+enum_known-next c = search rules
 
 -- src/rows.rt:55:24
-enum-known-next-2 : tie.Need-enum-known-next-2 invariant_loop decreases_loop
-enum-known-next-2 c = search rules
+enum_known-next-in-Last-1 : tie.Need-enum_known-next-in-Last-1 invariant_loop decreases_loop
+enum_known-next-in-Last-1 c = search rules
 
 -- src/rows.rt:56:42
-add-t15 : tie.Need-overflow-add-t15 invariant_loop decreases_loop
-add-t15 c = omega arith
+overflow_add-result : tie.Need-overflow_add-result invariant_loop decreases_loop
+overflow_add-result c = omega arith
 
 -- src/rows.rt:56:17
-same_length_2 : tie.Need-same-length-2 invariant_loop decreases_loop
-same_length_2 c =
-    let b = c.before.before.before.before in
-    omega (arith, b.number.auto.1.1.0, b.before.before.before.loop.invariant.2)
+shape_of-table-in-Last : tie.Need-shape_of-table-in-Last invariant_loop decreases_loop
+shape_of-table-in-Last c =
+    omega (arith, c.number.auto.table, c.loop-k.invariant.2)
 
 -- src/rows.rt:56:17
-returns_2 : tie.Need-returns-2 invariant_loop decreases_loop
-returns_2 c =
-    let b = c.before.before.before.before in
-    let l = b.before.before.before.loop in
-    let a = b.before.before.before.before.before.args in
-    let within : l.k + 1 ≤ a.to + a.w = omega (arith, b.before.before.loop-test.true) in
+returns-in-Last : tie.Need-returns-in-Last invariant_loop decreases_loop
+returns-in-Last c =
+    let l = c.loop-k in
+    let a = c.args in
+    let within : l.k + 1 ≤ a.to + a.w = omega (arith, c.loop-k-test.true) in
     let r = open_last a.text.now a.at a.table.now a.to l.table l.k l.i l.invariant.3 _ _ _
-    (step_last a.text.now l.i l.table l.k _ _ (sym b.number.ensures.0 ∙ c.before.next2.given.1) b.number.ensures.1 l.invariant.3.within) in
+    (step_last a.text.now l.i l.table l.k _ _ (sym c.number.ensures.0 ∙ c.in-Last.is) c.number.ensures.1 l.invariant.3.within) in
     ((r, within), ended_kept a.text.now a.at a.table.now a.to _ a.w _ (l.k + 1) within r)
 
 -- src/rows.rt:59:9
-add_k : tie.Need-overflow-add-k invariant_loop decreases_loop
-add_k c = omega arith
+overflow_add-k : tie.Need-overflow_add-k invariant_loop decreases_loop
+overflow_add-k c = omega arith
 
 -- src/rows.rt:47:5
-loop_less : tie.Need-loop-smaller invariant_loop decreases_loop
-loop_less c = omega arith
+loop-k-smaller : tie.Need-loop-k-smaller invariant_loop decreases_loop
+loop-k-smaller c = omega arith
 
 -- src/rows.rt:47:5
-loop_again : tie.Need-loop-preserved invariant_loop decreases_loop
-loop_again c =
-    let b = c.before.before.before.before in
-    let l = b.before.before.before.loop in
-    let a = b.before.before.before.before.before.args in (
+loop-k-preserved : tie.Need-loop-k-preserved invariant_loop decreases_loop
+loop-k-preserved c =
+    let l = c.loop-k in
+    let a = c.args in (
       omega arith,
       omega arith,
-      omega (arith, b.number.auto.1.1.0, l.invariant.2),
+      omega (arith, c.number.auto.table, l.invariant.2),
       open_more a.text.now a.at a.table.now a.to l.table l.k l.i l.invariant.3 _ _ _
-          (step_more a.text.now l.i l.table l.k _ _ (sym b.number.ensures.0 ∙ c.before.next.given.1) b.number.ensures.1 l.invariant.3.within),
+          (step_more a.text.now l.i l.table l.k _ _ (sym c.number.ensures.0 ∙ c.in-More.is) c.number.ensures.1 l.invariant.3.within),
     )
 
 -- src/rows.rt:40:1
-same_length_3 : tie.Need-same-length-3 invariant_loop decreases_loop
-same_length_3 c = c.before.loop.invariant.2
+shape_of-table : tie.Need-shape_of-table invariant_loop decreases_loop
+shape_of-table c = c.loop-k.invariant.2
 
 -- src/rows.rt:40:1
-returns_3 : tie.Need-returns-3 invariant_loop decreases_loop
-returns_3 c =
-    let l = c.before.loop in
-    let a = c.before.before.before.args in
-    let e : l.k ≡ a.to + a.w = omega (arith, c.loop-test.false, l.invariant.1) in
+returns : tie.Need-returns invariant_loop decreases_loop
+returns c =
+    let l = c.loop-k in
+    let a = c.args in
+    let e : l.k ≡ a.to + a.w = omega (arith, c.loop-k-test.false, l.invariant.1) in
     let r = subst (λ (k : ℕ). RowOpen a.text.now a.at a.table.now a.to l.table k l.i) e l.invariant.3 in
     (r, open_kept a.text.now a.at a.table.now a.to l.table a.w l.i r)
 
@@ -115,19 +110,19 @@ numbers_spec =
     (tie.spec
     invariant_loop
     decreases_loop
-    add-end
-    loop_holds
+    overflow_add-end
+    loop-k-init
     number-requires
-    enum_told
-    same_length
-    returns
-    enum-known-next
-    enum-known-next-2
-    add-t15
-    same_length_2
-    returns_2
-    add_k
-    loop_less
-    loop_again
-    same_length_3
-    returns_3)
+    enum_told-1
+    shape_of-table-in-Bad
+    returns-in-Bad
+    enum_known-next
+    enum_known-next-in-Last-1
+    overflow_add-result
+    shape_of-table-in-Last
+    returns-in-Last
+    overflow_add-k
+    loop-k-smaller
+    loop-k-preserved
+    shape_of-table
+    returns)
