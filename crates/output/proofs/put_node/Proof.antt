@@ -58,12 +58,12 @@ abbrev B : tie.After-slice_known-3-1 → tie.After-slice_known-2-1
 B c = c.before.before.before.before
 
 abbrev N : tie.After-slice_known-3-1 → ℕ
-N c = (B c).before.before.put_numbers.result + c.put_numbers.result
+N c = (B c).put_numbers-at.result + c.put_numbers.result
 
 abbrev Out : tie.After-slice_known-3-1 → List ℕ
 Out c =
-    let p = (B c).before.before.put_numbers in
-    put_mid p.result (length p.last.0 - p.result) p.last.0 c.put_numbers.new.out
+    let p = (B c).put_numbers-at in
+    put_mid p.result (length p.new.out - p.result) p.new.out c.put_numbers.new.out
 
 counted : (c : tie.After-slice_known-3-1) → N c ≡ length (spread (R (S (B c)) ++ Set (S (B c))))
 counted c = lent_count (room (B c)) c.put_numbers.ensures.0 ∙ ap length (together (S (B c)))

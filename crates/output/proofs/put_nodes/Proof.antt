@@ -103,7 +103,7 @@ room c =
     }
 
 overflow_add-end : tie.Need-overflow_add-end invariant_loop decreases_loop
-overflow_add-end c = record { fits = omega (arith, sized c, within c.before, (S c.before).good.1.1.1.0.0) }
+overflow_add-end c = record { fits = omega (arith, sized c, within c.before, (S c.before).well_formed.1.1.1.0.0) }
 
 slice_bounds-put_node-count : tie.Need-slice_bounds-put_node-count invariant_loop decreases_loop
 slice_bounds-put_node-count c = lent_start (room c)
@@ -155,13 +155,13 @@ abbrev P : tie.After-slice_known-in-loop-j-1 invariant_loop decreases_loop → t
 P c = c.before.before.before.before.before.before
 
 overflow_add-at : tie.Need-overflow_add-at invariant_loop decreases_loop
-overflow_add-at c = count_fits (room (P c)) c.put_node-at.ensures.0 (S (P c).before).good.0.0
+overflow_add-at c = count_fits (room (P c)) c.put_node-at.ensures.0 (S (P c).before).well_formed.0.0
 
 overflow_add-j : tie.Need-overflow_add-j invariant_loop decreases_loop
-overflow_add-j c = let n = (P c).before in record { fits = omega (arith, n.loop_test.taken, (S n).fits.count) }
+overflow_add-j c = let n = P c in record { fits = omega (arith, n.loop-j-test.true, (S n.before).ranges.count) }
 
 loop-j-smaller : tie.Need-loop-j-smaller invariant_loop decreases_loop
-loop-j-smaller c = omega (arith, (P c).before.loop_test.true)
+loop-j-smaller c = omega (arith, (P c).loop-j-test.true)
 
 loop-j-preserved : tie.Need-loop-j-preserved invariant_loop decreases_loop
 loop-j-preserved c =
@@ -169,9 +169,9 @@ loop-j-preserved c =
     (
       lent_over (room p) c.put_node-at.ensures.1 ∙ ap (λ (x : List ℕ). over x (S p.before).args.out.now) (next_is p),
       lent_count (room p) c.put_node-at.ensures.0 ∙ ap length (next_is p),
-      omega (arith, p.loop-j-test.taken),
+      omega (arith, p.loop-j-test.true),
       lent_length (room p) c.put_node-at.ensures.1,
-      next_start (Nodes p.before) (Members p.before) (S p.before).args.count (S p.before).requires.0 (J p.before) (F p.before) p.loop-j-test.taken p.loop-j.inv.4
+      next_start (Nodes p.before) (Members p.before) (S p.before).args.count (S p.before).requires.0 (J p.before) (F p.before) p.loop-j-test.true p.loop-j.invariant.4
           ∙ ap (λ (k : ℕ). pos (F p.before + k)) (sym (sized p)),
     )
 

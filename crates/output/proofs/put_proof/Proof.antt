@@ -77,12 +77,12 @@ abbrev S₂ : tie.After-slice_known-3-1 → tie.Start
 S₂ c = S₁ (P₂ c)
 
 abbrev at₂ : tie.After-slice_known-3-1 → ℕ
-at₂ c = (P₂ c).before.before.put_heading.result + c.put_rows-at.result
+at₂ c = (P₂ c).put_heading-at.result + c.put_rows-at.result
 
 abbrev out₂ : tie.After-slice_known-3-1 → List ℕ
 out₂ c =
-    let h = (P₂ c).before.before.put_heading in
-    put_mid h.result (length h.last.0 - h.result) h.last.0 c.put_rows-at.new.out
+    let h = (P₂ c).put_heading-at in
+    put_mid h.result (length h.new.out - h.result) h.new.out c.put_rows-at.new.out
 
 room₂ : (c : tie.After-slice_known-3-1) → Room (A ++ B (S₂ c)) C (L (S₂ c)) (out₂ c) (at₂ c)
 room₂ c =

@@ -42,9 +42,9 @@ loop-j-preserved c =
     let o = c.is_of.ensures in (
       omega arith,
       ⊎_elim
-          (λ w. w.1 ∙ ap (λ (n : ℕ). n + 1) l.invariant.1 ∙ sym (count_true (is_link a.nodes.now) l.j (sym o ∙ w.0.taken)))
-          (λ w. w.1 ∙ l.invariant.1 ∙ sym (count_false (is_link a.nodes.now) l.j (sym o ∙ w.0.left)))
-          c.if-is_of.branch,
+          (λ w. w.n-is ∙ ap (λ (n : ℕ). n + 1) l.invariant.1 ∙ sym (count_true (is_link a.nodes.now) l.j (sym o ∙ w.if-is_of.true)))
+          (λ w. w.n-is ∙ l.invariant.1 ∙ sym (count_false (is_link a.nodes.now) l.j (sym o ∙ w.if-is_of.false)))
+          c.if-is_of.branch-raw,
     )
 
 returns : tie.Need-returns invariant_loop decreases_loop
