@@ -107,7 +107,7 @@ pub record Walk (rows : ℕ → Row) (r best rest : ℕ) : Type 0 where
 
 module _ (rows : ℕ → Row) (r : ℕ) where
   pub walk_start : (v : ℕ) → Leads rows (rows r) r v → Walk rows r r v
-  walk_start v l = record { within = l.within; of_place = l.of-place; finds = ap (row_or r) (leads_earliest rows (rows r) r v l) }
+  walk_start v l = record { within = l.within; of_place = l.of_place; finds = ap (row_or r) (leads_earliest rows (rows r) r v l) }
 
   pub walk_end : (best rest : ℕ) → rest ≤ 0 → Walk rows r best rest → best ≡ row_or r (earliest rows r (rows r))
   unfolding row_or earliest first
@@ -128,14 +128,14 @@ module _ (rows : ℕ → Row) (r : ℕ) where
     pub walk_found : same_row (rows (rest - 1)) (rows r) ≡ true → Walk rows r (rest - 1) u
     walk_found h = record {
       within = omega (arith, l.within, k.within);
-      of_place = l.of-place;
+      of_place = l.of_place;
       finds = k.finds ∙ ap (row_or best) (here ∙ ap (λ (o : Option ℕ). or_else (earliest rows u (rows r)) o) (if_true (same_row (rows (rest - 1)) (rows r)) _ _ h)) ∙ or_this (earliest rows u (rows r)) best (rest - 1);
     }
 
     pub walk_on : same_row (rows (rest - 1)) (rows r) ≡ false → Walk rows r best u
     walk_on h = record {
       within = omega (arith, l.within, k.within);
-      of_place = l.of-place;
+      of_place = l.of_place;
       finds = k.finds ∙ ap (row_or best) (here ∙ ap (λ (o : Option ℕ). or_else (earliest rows u (rows r)) o) (if_false (same_row (rows (rest - 1)) (rows r)) _ _ h) ∙ or_none (earliest rows u (rows r)));
     }
 
@@ -154,7 +154,7 @@ module _ (rows rows' : ℕ → Row) (n : ℕ) (agree : (q : ℕ) → q < n → r
   leads_agree : (w : Row) (m v : ℕ) → m ≤ n → Leads rows w m v → Leads rows' w m v
   leads_agree w m v h l = record {
     within = l.within;
-    of_place = λ p. ap place_of (sym (agree (v - 1) (omega (arith, l.within)))) ∙ l.of-place p;
+    of_place = λ p. ap place_of (sym (agree (v - 1) (omega (arith, l.within)))) ∙ l.of_place p;
     same = sym (stands_agree w m h) ∙ l.same ∙ stands_agree w v (omega (arith, l.within));
   }
 

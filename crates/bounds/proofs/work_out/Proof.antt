@@ -12,65 +12,63 @@ use Rattle.bounds.proofs.WorkLaws.{table_worked}
 use Rattle.bounds.proofs.work_out.Statement.{statement}
 use Rattle.bounds.proofs.work_out.Tie as tie
 
-abbrev invariant_loop : tie.invariant-loop
+abbrev invariant_loop : tie.invariant-loop-j
 invariant_loop nodes k least work₀ l j₀ work j = (j ≤ k) × (length work ≡ length work₀) × AllWorked nodes (pos l) j work j × Stays (4 * j) work₀ work
 
-abbrev decreases_loop : tie.decreases-loop
+abbrev decreases_loop : tie.decreases-loop-j
 decreases_loop nodes k least work₀ l j₀ work j = k - j
 
-natural_requires : tie.Need-natural-requires invariant_loop decreases_loop
-natural_requires c κs = tt
+natural-l-requires : tie.Need-natural-l-requires invariant_loop decreases_loop
+natural-l-requires c κs = tt
 
-loop_holds : tie.Need-loop-init invariant_loop decreases_loop
-loop_holds c = (omega arith, refl, λ j p. absurd (omega arith), λ x p. refl)
+loop-j-init : tie.Need-loop-j-init invariant_loop decreases_loop
+loop-j-init c = (omega arith, refl, λ j p. absurd (omega arith), λ x p. refl)
 
 -- least is a natural number, at most 9999
-natural : (c : tie.After-natural invariant_loop decreases_loop) → c.natural.result ≡ nat c.before.before.args.least
-natural c = c.natural.ensures ∙ ap nat (to_z-of_z c.before.before.ranges.least)
+natural : (c : tie.After-natural-l invariant_loop decreases_loop) → c.natural-l.result ≡ nat c.args.least
+natural c = c.natural-l.ensures ∙ ap nat (to_z-of_z c.ranges.least)
 
-small : (c : tie.After-natural invariant_loop decreases_loop) → c.natural.result ≤ 9999
-small c = omega (arith, natural c, within_most 9999 c.before.before.args.least c.before.before.requires.2)
+small : (c : tie.After-natural-l invariant_loop decreases_loop) → c.natural-l.result ≤ 9999
+small c = omega (arith, natural c, within_most 9999 c.args.least c.requires.2)
 
-work-node-requires : tie.Need-work-node-requires invariant_loop decreases_loop
-work-node-requires c κs =
-    let b = c.before.before.before.before.before in
-    let l = c.before.before.loop in (
+work_node-requires : tie.Need-work_node-requires invariant_loop decreases_loop
+work_node-requires c κs =
+    let l = c.loop-j in (
       small c.before.before.before,
       omega arith,
-      omega (arith, l.invariant.1, b.requires.1),
-      λ i p. b.requires.3 i (omega arith),
+      omega (arith, l.invariant.1, c.requires.1),
+      λ i p. c.requires.3 i (omega arith),
       l.invariant.2,
     )
 
-add-j : tie.Need-overflow-add-j invariant_loop decreases_loop
-add-j c = omega arith
+overflow_add-j : tie.Need-overflow_add-j invariant_loop decreases_loop
+overflow_add-j c = omega arith
 
-loop_less : tie.Need-loop-smaller invariant_loop decreases_loop
-loop_less c = omega arith
+loop-j-smaller : tie.Need-loop-j-smaller invariant_loop decreases_loop
+loop-j-smaller c = omega arith
 
-loop_again : tie.Need-loop-preserved invariant_loop decreases_loop
-loop_again c =
-    let l = c.before.before.before.before.before.loop in (
+loop-j-preserved : tie.Need-loop-j-preserved invariant_loop decreases_loop
+loop-j-preserved c =
+    let l = c.loop-j in (
       omega arith,
-      c.before.before.work-node.auto.1.1.0 ∙ l.invariant.1,
-      c.before.before.work-node.ensures.0,
-      λ x p. c.before.before.work-node.ensures.1 x p ∙ l.invariant.3 x (omega arith),
+      c.work_node.auto.work ∙ l.invariant.1,
+      c.work_node.ensures.0,
+      λ x p. c.work_node.ensures.1 x p ∙ l.invariant.3 x (omega arith),
     )
 
-same_length : tie.Need-same-length invariant_loop decreases_loop
-same_length c = c.before.loop.invariant.1
+shape_of-work : tie.Need-shape_of-work invariant_loop decreases_loop
+shape_of-work c = c.loop-j.invariant.1
 
 returns : tie.Need-returns invariant_loop decreases_loop
 returns c =
-    let b = c.before.before.before.before in
-    let l = c.before.loop in
-    let e : l.j ≡ b.args.k = omega (arith, l.invariant.0) in
-    let z = ap pos (natural c.before.before) ∙ within_natural 9999 b.args.least b.requires.2 in
-    let w : AllWorked b.args.nodes.now b.args.least b.args.k l.work b.args.k =
-    subst (λ (n : ℕ). AllWorked b.args.nodes.now b.args.least n l.work n) e
-    (subst (λ (x : ℤ). AllWorked b.args.nodes.now x l.j l.work l.j) z l.invariant.2)
+    let l = c.loop-j in
+    let e : l.j ≡ c.args.k = omega (arith, l.invariant.0) in
+    let z = ap pos (natural c.before.before) ∙ within_natural 9999 c.args.least c.requires.2 in
+    let w : AllWorked c.args.nodes.now c.args.least c.args.k l.work c.args.k =
+    subst (λ (n : ℕ). AllWorked c.args.nodes.now c.args.least n l.work n) e
+    (subst (λ (x : ℤ). AllWorked c.args.nodes.now x l.j l.work l.j) z l.invariant.2)
     in
-    (w, table_worked b.args.nodes.now b.args.least b.args.k b.args.work.now l.work l.invariant.1 (omega (arith, l.invariant.1, b.requires.1)) w (λ x p. l.invariant.3 x (omega (arith, e))))
+    (w, table_worked c.args.nodes.now c.args.least c.args.k c.args.work.now l.work l.invariant.1 (omega (arith, l.invariant.1, c.requires.1)) w (λ x p. l.invariant.3 x (omega (arith, e))))
 
 pub work_out_spec : {M : Type 1} → statement M
 work_out_spec =
@@ -78,11 +76,11 @@ work_out_spec =
     (tie.spec
     invariant_loop
     decreases_loop
-    natural_requires
-    loop_holds
-    work-node-requires
-    add-j
-    loop_less
-    loop_again
-    same_length
+    natural-l-requires
+    loop-j-init
+    work_node-requires
+    overflow_add-j
+    loop-j-smaller
+    loop-j-preserved
+    shape_of-work
     returns)

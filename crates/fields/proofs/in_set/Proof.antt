@@ -7,54 +7,52 @@ use Rattle.branch.proofs.HeldLaws.{part_set}
 use Rattle.fields.proofs.in_set.Statement.{statement}
 use Rattle.fields.proofs.in_set.Tie as tie
 
-natural-of-requires : tie.Need-natural-of-requires
-natural-of-requires c κs = search rules
+natural_of-start-requires : tie.Need-natural_of-start-requires
+natural_of-start-requires c κs = search rules
 
-natural-of-requires-2 : tie.Need-natural-of-requires-2
-natural-of-requires-2 c κs = search rules
+natural_of-size-requires : tie.Need-natural_of-size-requires
+natural_of-size-requires c κs = search rules
 
-add-stands : tie.Need-overflow-add-stands
-add-stands c = search rules
+overflow_add-start : tie.Need-overflow_add-start
+overflow_add-start c = search rules
 
-mul-stands : tie.Need-overflow-mul-stands
-mul-stands c = search rules
+offset_bounds-members-start : tie.Need-offset_bounds-members-start
+offset_bounds-members-start c = search rules
 
-sub-stands : tie.Need-overflow-sub-stands
-sub-stands c = search rules
+slice_bounds-stands-count : tie.Need-slice_bounds-stands-count
+slice_bounds-stands-count c = search rules
 
-part-stands-start : tie.Need-slice-bounds-stands-start
-part-stands-start c = search rules
+slice_bounds-stands-start : tie.Need-slice_bounds-stands-start
+slice_bounds-stands-start c = search rules
 
-part-stands-end : tie.Need-slice-bounds-stands-end
-part-stands-end c = search rules
+slice_bounds-stands-end : tie.Need-slice_bounds-stands-end
+slice_bounds-stands-end c = search rules
 
-number-of-requires : tie.Need-number-of-requires
-number-of-requires c κs = search rules
+number_of-requires : tie.Need-number_of-requires
+number_of-requires c κs = search rules
 
 stands-requires : tie.Need-stands-requires
 stands-requires c κs =
-    let s = c.before.before.before.before in
-    rw (part_set s.args.members.now (node_at s.args.nodes.now s.args.j) _ _ c.before.before.before.natural-of.ensures.0 c.before.before.natural-of2.ensures.0) s.requires.1.up
+    rw (part_set c.args.members.now (node_at c.args.nodes.now c.args.j) _ _ c.natural_of-start.ensures.0 c.natural_of-size.ensures.0) c.requires.1.up
 
 returns : tie.Need-returns
 returns c =
-    let s = c.before.before.before.before.before in
     c.stands.ensures
     ∙ ap₂ has
-    (read_back _ c.before.number_of.type-inv ∙ c.before.number_of.ensures)
-    (part_set s.args.members.now (node_at s.args.nodes.now s.args.j) _ _ c.before.before.before.before.natural-of.ensures.0 c.before.before.before.natural-of2.ensures.0)
+    (read_back _ c.number_of.type_inv ∙ c.number_of.ensures)
+    (part_set c.args.members.now (node_at c.args.nodes.now c.args.j) _ _ c.natural_of-start.ensures.0 c.natural_of-size.ensures.0)
 
 pub in_set_spec : {M : Type 1} → statement M
 in_set_spec =
     tie.close
     (tie.spec
-    natural-of-requires
-    natural-of-requires-2
-    add-stands
-    mul-stands
-    sub-stands
-    part-stands-start
-    part-stands-end
-    number-of-requires
+    natural_of-start-requires
+    natural_of-size-requires
+    overflow_add-start
+    offset_bounds-members-start
+    slice_bounds-stands-count
+    slice_bounds-stands-start
+    slice_bounds-stands-end
+    number_of-requires
     stands-requires
     returns)

@@ -11,21 +11,21 @@ use Rattle.fields.proofs.on_stands.Tie as tie
 equal-requires : tie.Need-equal-requires
 equal-requires c κs = search rules
 
-returns : tie.Need-returns
+returns-then-equal : tie.Need-returns-then-equal
 unfolding unused
-returns c =
-    sym (or_left _ _ (rw (to_z-of_z c.before.before.ranges.need) at (sym c.before.equal.ensures ∙ c.if1.true)))
+returns-then-equal c =
+    sym (or_left _ _ (rw (to_z-of_z c.ranges.need) at (sym c.equal.ensures ∙ c.if-equal.true)))
 
 -- a kind is needed
-needed : (c : tie.Else1) → eq_z c.before.before.args.need unused ≡ mathlib.Core.Bool.false
+needed : (c : tie.Else-equal) → eq_z c.args.need unused ≡ mathlib.Core.Bool.false
 unfolding unused
-needed c = rw (to_z-of_z c.before.before.ranges.need) at (sym c.before.equal.ensures ∙ c.if1.false)
+needed c = rw (to_z-of_z c.ranges.need) at (sym c.equal.ensures ∙ c.if-equal.false)
 
-in-set-requires : tie.Need-in-set-requires
-in-set-requires c κs = ((c.before.before.requires.0, omega arith), c.before.before.requires.1)
+in_set-requires : tie.Need-in_set-requires
+in_set-requires c κs = ((c.requires.0, omega arith), c.requires.1)
 
-returns_2 : tie.Need-returns-2
-returns_2 c = c.in-set.ensures ∙ sym (or_first_false _ _ (needed c.before))
+returns : tie.Need-returns
+returns c = c.in_set.ensures ∙ sym (or_first_false _ _ (needed c.before))
 
 pub on_stands_spec : {M : Type 1} → statement M
-on_stands_spec = tie.close (tie.spec equal-requires returns in-set-requires returns_2)
+on_stands_spec = tie.close (tie.spec equal-requires returns-then-equal in_set-requires returns)

@@ -6,22 +6,22 @@ use Rattle.branch.specs.Lent.{other_fits}
 use Rattle.fields.proofs.other_fits.Statement.{statement}
 use Rattle.fields.proofs.other_fits.Tie as tie
 
-add-is-below : tie.Need-overflow-add-is-below
-add-is-below c = search rules
+overflow_add-h : tie.Need-overflow_add-h
+overflow_add-h c = search rules
 
-is-below-requires : tie.Need-is-below-requires
-is-below-requires c κs = search rules
+is_below-requires : tie.Need-is_below-requires
+is_below-requires c κs = search rules
+
+returns-then-used : tie.Need-returns-then-used
+unfolding other_fits
+returns-then-used c = c.is_below.ensures ∙ sym (if_true _ _ _ c.if-used.true)
+
+is_of-requires : tie.Need-is_of-requires
+is_of-requires c κs = search rules
 
 returns : tie.Need-returns
-unfolding other_fits
-returns c = c.is_below.ensures ∙ sym (if_true _ _ _ c.before.before.if1.true)
-
-is-of-requires : tie.Need-is-of-requires
-is-of-requires c κs = search rules
-
-returns_2 : tie.Need-returns-2
 unfolding other_fits unused
-returns_2 c = c.is-of.ensures ∙ sym (if_false _ _ _ c.before.if1.false)
+returns c = c.is_of.ensures ∙ sym (if_false _ _ _ c.if-used.false)
 
 pub other_fits_spec : {M : Type 1} → statement M
-other_fits_spec = tie.close (tie.spec add-is-below is-below-requires returns is-of-requires returns_2)
+other_fits_spec = tie.close (tie.spec overflow_add-h is_below-requires returns-then-used is_of-requires returns)

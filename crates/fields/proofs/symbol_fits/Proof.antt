@@ -1,6 +1,7 @@
+use mathlib.Core.Bool.{not}
 use borrow.Author.Rules.{rules}
 use native.Mathlib.Omega.{arith}
-use mathlib.Core.Path.{◌∙◌}
+use mathlib.Core.Path.{◌∙◌, ap}
 use Rattle.stab.specs.Node.{node, set, row, rows}
 use Rattle.stab.specs.Rule.{symbol_fits}
 use Rattle.stab.proofs.Trees.{below_nat}
@@ -10,38 +11,38 @@ use Rattle.fields.proofs.symbol_fits.Statement.{statement}
 use Rattle.fields.proofs.symbol_fits.Tie as tie
 use Rattle.stab.proofs.Bools.{asked_false, asked_true}
 
-in-set-requires : tie.Need-in-set-requires
-in-set-requires c κs = ((c.requires.0, omega arith), c.requires.1.0)
+in_set-requires : tie.Need-in_set-requires
+in_set-requires c κs = ((c.requires.0, omega arith), c.requires.1.0)
+
+returns-then-not-in_set : tie.Need-returns-then-not-in_set
+unfolding symbol_fits node set
+returns-then-not-in_set c = first_fails _ _ (asked_false c.in_set.ensures (ap not c.if-not-in_set.true))
+
+natural_of-on-requires : tie.Need-natural_of-on-requires
+natural_of-on-requires c κs = search rules
+
+natural_of-with-requires : tie.Need-natural_of-with-requires
+natural_of-with-requires c κs = search rules
+
+same_in-requires : tie.Need-same_in-requires
+same_in-requires c κs =
+    let p = c.requires.1.1 in
+    omega (arith, c.natural_of-with.ensures.0, c.natural_of-on.ensures.0, below_nat 1024 _ p.0, below_nat 1024 _ p.1)
 
 returns : tie.Need-returns
-unfolding symbol_fits node set
-returns c = first_fails _ _ (asked_false c.before.in-set.ensures c.if1.true)
-
-natural-of-requires : tie.Need-natural-of-requires
-natural-of-requires c κs = search rules
-
-natural-of-requires-2 : tie.Need-natural-of-requires-2
-natural-of-requires-2 c κs = search rules
-
-same-in-requires : tie.Need-same-in-requires
-same-in-requires c κs =
-    let p = c.before.before.before.before.requires.1.1 in
-    omega (arith, c.natural-of2.ensures.0, c.before.natural-of.ensures.0, below_nat 1024 _ p.0, below_nat 1024 _ p.1)
-
-returns_2 : tie.Need-returns-2
 unfolding symbol_fits node set row rows column
-returns_2 c =
+returns c =
     c.same_in.ensures
-    ∙ rw (c.before.natural-of2.ensures.0, c.before.before.natural-of.ensures.0)
-    (second_decides _ _ (asked_true c.before.before.before.before.in-set.ensures c.before.before.before.if1.false))
+    ∙ rw (c.natural_of-with.ensures.0, c.natural_of-on.ensures.0)
+    (second_decides _ _ (asked_true c.in_set.ensures (ap not c.if-not-in_set.false)))
 
 pub symbol_fits_spec : {M : Type 1} → statement M
 symbol_fits_spec =
     tie.close
     (tie.spec
-    in-set-requires
-    returns
-    natural-of-requires
-    natural-of-requires-2
-    same-in-requires
-    returns_2)
+    in_set-requires
+    returns-then-not-in_set
+    natural_of-on-requires
+    natural_of-with-requires
+    same_in-requires
+    returns)

@@ -8,7 +8,7 @@ use Rattle.folds.proofs.Steps.{counted}
 use Rattle.folds.proofs.each.Statement.{statement}
 use Rattle.folds.proofs.each.Tie as tie
 
-abbrev invariant_loop : tie.invariant-loop
+abbrev invariant_loop : tie.invariant-loop-k
 invariant_loop schema s proof p out₀ numbers₀ next₀ heads₀ count₀ k₀ out numbers next heads count k =
     (k ≤ p)
     × (length out ≡ length out₀)
@@ -17,66 +17,59 @@ invariant_loop schema s proof p out₀ numbers₀ next₀ heads₀ count₀ k₀
     × (length heads ≡ length heads₀)
     × Folds schema s (folding schema s proof k) count out numbers next heads
 
-abbrev decreases_loop : tie.decreases-loop
+abbrev decreases_loop : tie.decreases-loop-k
 decreases_loop schema s proof p out₀ numbers₀ next₀ heads₀ count₀ k₀ out numbers next heads count k = p - k
 
 -- in a turn of the loop
 abbrev Turn : Type 0
-Turn = tie.In-loop invariant_loop decreases_loop
+Turn = tie.In-loop-k invariant_loop decreases_loop
 
 abbrev start : Turn → tie.Start invariant_loop decreases_loop
 start c = c.before.before.before.before.before
 
-loop_holds : tie.Need-loop-init invariant_loop decreases_loop
-loop_holds c =
-    let b = c.before.before.before in
-    (omega arith, refl, refl, refl, refl, b.requires.1)
+loop-k-init : tie.Need-loop-k-init invariant_loop decreases_loop
+loop-k-init c =
+    (omega arith, refl, refl, refl, refl, c.requires.1)
 
-step-requires : tie.Need-step-requires invariant_loop decreases_loop
-step-requires c κs =
-    let t = c.before.before.before.before in
-    let b = start t in
+step-count-requires : tie.Need-step-count-requires invariant_loop decreases_loop
+step-count-requires c κs =
+    let b = start c.before.before.before.before in
     let a = b.args in
-    let l = t.before.loop in
+    let l = c.loop-k in
     let i = l.invariant in
-    ((omega (arith, b.pre.0.0, t.loop-test.true), omega (arith, i.5.counted, (counted a.schema.now a.s a.proof.now l.k).few), omega (arith, b.pre.0.1, i.1, t.loop-test.true), omega (arith, b.pre.0.2, i.2, t.loop-test.true), omega (arith, b.pre.0.3, i.3), omega (arith, b.pre.0.4, i.4)), i.5)
+    ((omega (arith, b.requires.0.0, c.loop-k-test.true), omega (arith, i.5.counted, (counted a.schema.now a.s a.proof.now l.k).few), omega (arith, b.requires.0.1, i.1, c.loop-k-test.true), omega (arith, b.requires.0.2, i.2, c.loop-k-test.true), omega (arith, b.requires.0.3, i.3), omega (arith, b.requires.0.4, i.4)), i.5)
 
-add_k : tie.Need-overflow-add-k invariant_loop decreases_loop
-add_k c =
-    let t = c.before.before.before.before.before.before.before.before.before.before.before.before in
-    omega (arith, (start t).requires.0.0, t.loop-test.true)
+overflow_add-k : tie.Need-overflow_add-k invariant_loop decreases_loop
+overflow_add-k c =
+    omega (arith, (start c.before.before.before.before.before.before.before.before.before.before.before.before).requires.0.0, c.loop-k-test.true)
 
-loop_less : tie.Need-loop-smaller invariant_loop decreases_loop
-loop_less c =
-    let t = c.before.before.before.before.before.before.before.before.before.before.before.before in
-    omega (arith, t.loop-test.true)
+loop-k-smaller : tie.Need-loop-k-smaller invariant_loop decreases_loop
+loop-k-smaller c =
+    omega (arith, c.loop-k-test.true)
 
-loop_again : tie.Need-loop-preserved invariant_loop decreases_loop
-loop_again c =
-    let d = c.before.before.before.before.before.before.before in
-    let t = d.before.before.before.before.before in
-    let i = t.before.loop.invariant in
-    let same = d.step.auto.1.1.1.1.1 in
-    (omega (arith, t.loop-test.true), same.0 ∙ i.1, same.1.0 ∙ i.2, same.1.1.0 ∙ i.3, same.1.1.1.0 ∙ i.4, d.step.ensures)
+loop-k-preserved : tie.Need-loop-k-preserved invariant_loop decreases_loop
+loop-k-preserved c =
+    let i = c.loop-k.invariant in
+    let same = c.step-count.auto in
+    (omega (arith, c.loop-k-test.true), same.out ∙ i.1, same.numbers ∙ i.2, same.next ∙ i.3, same.heads ∙ i.4, c.step-count.ensures)
 
-same_length : tie.Need-same-length invariant_loop decreases_loop
-same_length c = c.before.loop.invariant.1
+shape_of-out : tie.Need-shape_of-out invariant_loop decreases_loop
+shape_of-out c = c.loop-k.invariant.1
 
-same_length_2 : tie.Need-same-length-2 invariant_loop decreases_loop
-same_length_2 c = c.before.loop.invariant.2
+shape_of-numbers : tie.Need-shape_of-numbers invariant_loop decreases_loop
+shape_of-numbers c = c.loop-k.invariant.2
 
-same_length_3 : tie.Need-same-length-3 invariant_loop decreases_loop
-same_length_3 c = c.before.loop.invariant.3
+shape_of-next : tie.Need-shape_of-next invariant_loop decreases_loop
+shape_of-next c = c.loop-k.invariant.3
 
-same-length-4 : tie.Need-same-length-4 invariant_loop decreases_loop
-same-length-4 c = c.before.loop.invariant.4
+shape_of-heads : tie.Need-shape_of-heads invariant_loop decreases_loop
+shape_of-heads c = c.loop-k.invariant.4
 
 returns : tie.Need-returns invariant_loop decreases_loop
 returns c =
-    let b = c.before.before.before.before.before in
-    let a = b.args in
-    let l = c.before.loop in
-    let e : l.k ≡ a.p = omega (arith, c.loop-test.false, l.invariant.0) in
+    let a = c.args in
+    let l = c.loop-k in
+    let e : l.k ≡ a.p = omega (arith, c.loop-k-test.false, l.invariant.0) in
     subst (λ (F : Folding). Folds a.schema.now a.s F l.count l.out l.numbers l.next l.heads) (ap (folding a.schema.now a.s a.proof.now) e) l.invariant.5
 
 pub each_spec : {M : Type 1} → statement M
@@ -85,13 +78,13 @@ each_spec =
     (tie.spec
     invariant_loop
     decreases_loop
-    loop_holds
-    step-requires
-    add_k
-    loop_less
-    loop_again
-    same_length
-    same_length_2
-    same_length_3
-    same-length-4
+    loop-k-init
+    step-count-requires
+    overflow_add-k
+    loop-k-smaller
+    loop-k-preserved
+    shape_of-out
+    shape_of-numbers
+    shape_of-next
+    shape_of-heads
     returns)

@@ -13,75 +13,68 @@ use Rattle.folds.proofs.fold.Statement.{statement}
 use Rattle.folds.proofs.fold.Tie as tie
 
 -- where all rows are folded
-abbrev start : tie.After-each → tie.Start
-start c = c.before.before.before.before.before.before.before.before.before.before.before.before
+abbrev start : tie.After-each-count → tie.Start
+start c = c.before.before.before.before.before.before.before.before.before.before.before
 
-abbrev folded : tie.After-each → Folding
+abbrev folded : tie.After-each-count → Folding
 folded c = let a = (start c).args in folding a.schema.now a.s a.proof.now a.p
 
-abbrev out : tie.After-each → List ℤ
-out c = c.each.new.1.1.1.1.0
+abbrev out : tie.After-each-count → List ℤ
+out c = c.each-count.new.out
 
-out_length : (c : tie.After-each) → length (out c) ≡ length (start c).args.out.now
-out_length c = c.each.auto.1.1.1.1.0
+out_length : (c : tie.After-each-count) → length (out c) ≡ length (start c).args.out.now
+out_length c = c.each-count.auto.out
 
-count_few : (c : tie.After-each) → c.each.result ≤ (start c).args.p
-count_few c = let a = (start c).args in omega (arith, c.each.ensures.counted, (counted a.schema.now a.s a.proof.now a.p).few)
+count_few : (c : tie.After-each-count) → c.each-count.result ≤ (start c).args.p
+count_few c = let a = (start c).args in omega (arith, c.each-count.ensures.counted, (counted a.schema.now a.s a.proof.now a.p).few)
 
-slice-aggregate-schema-rows : tie.Need-slice-aggregate-schema-rows
-slice-aggregate-schema-rows c = search rules
+slice_bounds-schema_rows-end : tie.Need-slice_bounds-schema_rows-end
+slice_bounds-schema_rows-end c = search rules
 
-slice-aggregate-schema-rows-2 : tie.Need-slice-aggregate-schema-rows-2
-slice-aggregate-schema-rows-2 c = search rules
+slice_bounds-schema_rows-end-2 : tie.Need-slice_bounds-schema_rows-end-2
+slice_bounds-schema_rows-end-2 c = search rules
 
-schema-rows-requires : tie.Need-schema-rows-requires
-schema-rows-requires c κs =
-    let b = c.before.before.before.before in
-    ((omega (arith, b.requires.0.0), omega (arith, b.requires.0.0), omega arith), λ h l. get_or-replicate 1024 h 0 0 l)
+schema_rows-requires : tie.Need-schema_rows-requires
+schema_rows-requires c κs =
+    ((omega (arith, c.requires.0.0), omega (arith, c.requires.0.0), omega arith), λ h l. get_or-replicate 1024 h 0 0 l)
 
-slice-aggregate-each : tie.Need-slice-aggregate-each
-slice-aggregate-each c = search rules
+slice_bounds-each-end : tie.Need-slice_bounds-each-end
+slice_bounds-each-end c = search rules
 
-slice-aggregate-each-2 : tie.Need-slice-aggregate-each-2
-slice-aggregate-each-2 c = search rules
+slice_bounds-each-end-2 : tie.Need-slice_bounds-each-end-2
+slice_bounds-each-end-2 c = search rules
 
-each-requires : tie.Need-each-requires
-each-requires c κs =
-    let d = c.before.before.before.before.before.before in
-    let b = d.before.before.before.before.before in
-    let same = d.schema-rows.auto.1.1.1 in (
-      (b.requires.0.0, b.requires.0.1, b.requires.0.2, omega (arith, same.0), omega (arith, same.1.0)),
-      folds_none _ _ _ _ _ _ _ b.requires.1 d.schema-rows.ensures,
+each-count-requires : tie.Need-each-count-requires
+each-count-requires c κs =
+    let same = c.schema_rows.auto in (
+      (c.requires.0.0, c.requires.0.1, c.requires.0.2, omega (arith, same.next), omega (arith, same.heads)),
+      folds_none _ _ _ _ _ _ _ c.requires.1 c.schema_rows.ensures,
     )
 
-mul-clear : tie.Need-overflow-mul-clear
-mul-clear c =
-    let d = c.before.before.before.before.before.before in
-    omega (arith, count_few d, (start d).requires.0.0)
+overflow_mul-count : tie.Need-overflow_mul-count
+overflow_mul-count c =
+    omega (arith, count_few c.before.before.before.before.before.before, (start c.before.before.before.before.before.before).requires.0.0)
 
 clear-requires : tie.Need-clear-requires
 clear-requires c κs =
-    let d = c.before.before.before.before.before.before in
-    omega (arith, count_few d, out_length d, (start d).requires.0.1)
+    omega (arith, count_few c.before.before.before.before.before.before, out_length c.before.before.before.before.before.before, (start c.before.before.before.before.before.before).requires.0.1)
 
-same_length : tie.Need-same-length
-same_length c = search rules
+shape_of-out : tie.Need-shape_of-out
+shape_of-out c = search rules
 
-same_length_2 : tie.Need-same-length-2
-same_length_2 c = search rules
+shape_of-numbers : tie.Need-shape_of-numbers
+shape_of-numbers c = search rules
 
 returns : tie.Need-returns
 returns c =
-    let k = c.before in
-    let d = k.before.before.before.before.before.before.before in
-    let b = start d in
-    let i = d.each.ensures in (
+    let b = start c.before.before.before.before.before.before.before.before in
+    let i = c.each-count.ensures in (
       i.counted,
       (
-        k.clear.ensures
-            ∙ cleared_padded (out d) (4 * d.each.result) (length b.args.out.now) (omega (arith, count_few d, out_length d, b.pre.0.1)) (out_length d)
+        c.clear.ensures
+            ∙ cleared_padded (out c.before.before.before.before.before.before.before.before) (4 * c.each-count.result) (length b.args.out.now) (omega (arith, count_few c.before.before.before.before.before.before.before.before, out_length c.before.before.before.before.before.before.before.before, b.requires.0.1)) (out_length c.before.before.before.before.before.before.before.before)
             ∙ ap (padded (pos 0) (length b.args.out.now)) i.held,
-        (i.known ∙ ap (λ (n : ℕ). padded 0 n (folded d).numbers) d.each.auto.1.1.1.1.1.0, i.small),
+        (i.known ∙ ap (λ (n : ℕ). padded 0 n (folded c.before.before.before.before.before.before.before.before).numbers) c.each-count.auto.numbers, i.small),
       ),
     )
 
@@ -89,14 +82,14 @@ pub fold_spec : {M : Type 1} → statement M
 fold_spec =
     tie.close
     (tie.spec
-    slice-aggregate-schema-rows
-    slice-aggregate-schema-rows-2
-    schema-rows-requires
-    slice-aggregate-each
-    slice-aggregate-each-2
-    each-requires
-    mul-clear
+    slice_bounds-schema_rows-end
+    slice_bounds-schema_rows-end-2
+    schema_rows-requires
+    slice_bounds-each-end
+    slice_bounds-each-end-2
+    each-count-requires
+    overflow_mul-count
     clear-requires
-    same_length
-    same_length_2
+    shape_of-out
+    shape_of-numbers
     returns)

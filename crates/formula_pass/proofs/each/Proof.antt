@@ -16,7 +16,7 @@ use Rattle.repeats.proofs.Links.{linked_none}
 use Rattle.formula_pass.proofs.each.Statement.{statement}
 use Rattle.formula_pass.proofs.each.Tie as tie
 
-abbrev invariant_loop : tie.invariant-loop
+abbrev invariant_loop : tie.invariant-loop-r
 invariant_loop older schema s proof n facts₀ next₀ heads₀ r₀ facts next heads r =
     (r ≤ n)
     × (length facts ≡ length facts₀)
@@ -27,46 +27,44 @@ invariant_loop older schema s proof n facts₀ next₀ heads₀ r₀ facts next 
     × (older ≡ false → Linked (formula_rows schema s proof) next heads r)
     × (facts ≡ facts_table older (formula_rows schema s proof) s facts₀ r)
 
-abbrev decreases_loop : tie.decreases-loop
+abbrev decreases_loop : tie.decreases-loop-r
 decreases_loop older schema s proof n facts₀ next₀ heads₀ r₀ facts next heads r = n - r
 
-loop_holds : tie.Need-loop-init invariant_loop decreases_loop
+loop-r-init : tie.Need-loop-r-init invariant_loop decreases_loop
 unfolding facts_table
-loop_holds c =
-    let b = c.before.before.before in
-    (omega arith, refl, refl, refl, scan_nothing _ 0 (λ k l. absurd (omega arith)), passed_none _ _, λ f. linked_none _ _ _ (b.requires.1 f), table_none _ _ _ _)
+loop-r-init c =
+    (omega arith, refl, refl, refl, scan_nothing _ 0 (λ k l. absurd (omega arith)), passed_none _ _, λ f. linked_none _ _ _ (c.requires.1 f), table_none _ _ _ _)
 
-row-requires : tie.Need-row-requires invariant_loop decreases_loop
-row-requires c κs =
-    let b = c.before.before.before.before.before.before.before.before in
-    let l = c.before.before.before.before.loop in (
-      (omega (arith, b.requires.0), omega (arith, b.requires.0), λ f. (omega (arith, b.requires.0.2 f), omega (arith, b.requires.0.2 f))),
+row-found-requires : tie.Need-row-found-requires invariant_loop decreases_loop
+row-found-requires c κs =
+    let l = c.loop-r in (
+      (omega (arith, c.requires.0), omega (arith, c.requires.0), λ f. (omega (arith, c.requires.0.2 f), omega (arith, c.requires.0.2 f))),
       (l.invariant.5, l.invariant.6),
     )
 
-enum_told : tie.Need-enum-told invariant_loop decreases_loop
-enum_told c = search rules
+enum_told-1 : tie.Need-enum_told-1 invariant_loop decreases_loop
+enum_told-1 c = search rules
 
-enum-told-2 : tie.Need-enum-told-2 invariant_loop decreases_loop
-enum-told-2 c = search rules
+enum_told-in_default : tie.Need-enum_told-in_default invariant_loop decreases_loop
+enum_told-in_default c = search rules
 
-same_length : tie.Need-same-length invariant_loop decreases_loop
-same_length c = c.before.before.before.before.before.before.before.before.row.auto.1.1.1.1.1.0 ∙ c.before.before.before.before.before.before.before.before.before.before.before.before.before.loop.invariant.1
+shape_of-facts-in_default : tie.Need-shape_of-facts-in_default invariant_loop decreases_loop
+shape_of-facts-in_default c = c.row-found.auto.facts ∙ c.loop-r.invariant.1
 
-same_length_2 : tie.Need-same-length-2 invariant_loop decreases_loop
-same_length_2 c = c.before.before.before.before.before.before.before.before.row.auto.1.1.1.1.1.1.0 ∙ c.before.before.before.before.before.before.before.before.before.before.before.before.before.loop.invariant.2
+shape_of-next-in_default : tie.Need-shape_of-next-in_default invariant_loop decreases_loop
+shape_of-next-in_default c = c.row-found.auto.next ∙ c.loop-r.invariant.2
 
-same_length_3 : tie.Need-same-length-3 invariant_loop decreases_loop
-same_length_3 c = c.before.before.before.before.before.before.before.before.row.auto.1.1.1.1.1.1.1.0 ∙ c.before.before.before.before.before.before.before.before.before.before.before.before.before.loop.invariant.3
+shape_of-heads-in_default : tie.Need-shape_of-heads-in_default invariant_loop decreases_loop
+shape_of-heads-in_default c = c.row-found.auto.heads ∙ c.loop-r.invariant.3
 
-returns : tie.Need-returns invariant_loop decreases_loop
+returns-in_default : tie.Need-returns-in_default invariant_loop decreases_loop
 unfolding facts_table
-returns c =
-    let w = c.before.before.before.before.before.before.before.before.row in
-    let l = c.before.before.before.before.before.before.before.before.before.before.before.before.before.loop in
-    let e = c.enum-told2.given.1 in
+returns-in_default c =
+    let w = c.row-found in
+    let l = c.loop-r in
+    let e = c.in_default.is in
     let found = sym w.ensures.0 ∙ e in
-    let h = scan_found _ _ _ c.before.before.before.before.before.before.before.before.before.before.before.before.loop-test.true l.invariant.4 found in (
+    let h = scan_found _ _ _ c.loop-r-test.true l.invariant.4 found in (
       e ∙ sym h,
       (
         never (sym h),
@@ -75,48 +73,48 @@ returns c =
       ),
     )
 
-add_r : tie.Need-overflow-add-r invariant_loop decreases_loop
-add_r c = omega arith
+overflow_add-r : tie.Need-overflow_add-r invariant_loop decreases_loop
+overflow_add-r c = omega arith
 
-loop_less : tie.Need-loop-smaller invariant_loop decreases_loop
-loop_less c = omega arith
+loop-r-smaller : tie.Need-loop-r-smaller invariant_loop decreases_loop
+loop-r-smaller c = omega arith
 
-loop_again : tie.Need-loop-preserved invariant_loop decreases_loop
+loop-r-preserved : tie.Need-loop-r-preserved invariant_loop decreases_loop
 unfolding facts_table
-loop_again c =
-    let w = c.before.before.before.before.before.before.before.before.row in
-    let l = c.before.before.before.before.before.before.before.before.before.before.before.before.before.loop in
-    let n = c.enum_told.given.1 in
+loop-r-preserved c =
+    let w = c.row-found in
+    let l = c.loop-r in
+    let n = c.in-Nothing.is in
     let h = sym w.ensures.0 ∙ n in (
       omega arith,
-      w.auto.1.1.1.1.1.0 ∙ l.invariant.1,
-      w.auto.1.1.1.1.1.1.0 ∙ l.invariant.2,
-      w.auto.1.1.1.1.1.1.1.0 ∙ l.invariant.3,
+      w.auto.facts ∙ l.invariant.1,
+      w.auto.next ∙ l.invariant.2,
+      w.auto.heads ∙ l.invariant.3,
       scan_more _ _ l.invariant.4 h,
       w.ensures.1.0 n,
       λ f. w.ensures.1.1.0 n f,
       table_more _ _ _ _ _ l.invariant.4 l.invariant.7 w.ensures.1.1.1,
     )
 
-same-length-4 : tie.Need-same-length-4 invariant_loop decreases_loop
-same-length-4 c = c.before.loop.invariant.1
+shape_of-facts : tie.Need-shape_of-facts invariant_loop decreases_loop
+shape_of-facts c = c.loop-r.invariant.1
 
-same-length-5 : tie.Need-same-length-5 invariant_loop decreases_loop
-same-length-5 c = c.before.loop.invariant.2
+shape_of-next : tie.Need-shape_of-next invariant_loop decreases_loop
+shape_of-next c = c.loop-r.invariant.2
 
-same-length-6 : tie.Need-same-length-6 invariant_loop decreases_loop
-same-length-6 c = c.before.loop.invariant.3
+shape_of-heads : tie.Need-shape_of-heads invariant_loop decreases_loop
+shape_of-heads c = c.loop-r.invariant.3
 
-returns_2 : tie.Need-returns-2 invariant_loop decreases_loop
-returns_2 c =
-    let a = c.before.before.before.before.before.args in
-    let i = c.before.loop.invariant in
+returns : tie.Need-returns invariant_loop decreases_loop
+returns c =
+    let a = c.args in
+    let i = c.loop-r.invariant in
     let rows = formula_rows a.schema.now a.s a.proof.now in
-    let e : c.before.loop.r ≡ a.n = omega arith in (
+    let e : c.loop-r.r ≡ a.n = omega arith in (
       sym (subst (λ (m : ℕ). scan (formula_refusal a.older rows a.s) m ≡ Nothing) e i.4),
       (
-        λ _. subst (λ (m : ℕ). Passed rows c.before.loop.facts m) e i.5,
-        subst (λ (m : ℕ). c.before.loop.facts ≡ facts_table a.older rows a.s a.facts.now m) e i.7,
+        λ _. subst (λ (m : ℕ). Passed rows c.loop-r.facts m) e i.5,
+        subst (λ (m : ℕ). c.loop-r.facts ≡ facts_table a.older rows a.s a.facts.now m) e i.7,
       ),
     )
 
@@ -126,18 +124,18 @@ each_spec =
     (tie.spec
     invariant_loop
     decreases_loop
-    loop_holds
-    row-requires
-    enum_told
-    enum-told-2
-    same_length
-    same_length_2
-    same_length_3
-    returns
-    add_r
-    loop_less
-    loop_again
-    same-length-4
-    same-length-5
-    same-length-6
-    returns_2)
+    loop-r-init
+    row-found-requires
+    enum_told-1
+    enum_told-in_default
+    shape_of-facts-in_default
+    shape_of-next-in_default
+    shape_of-heads-in_default
+    returns-in_default
+    overflow_add-r
+    loop-r-smaller
+    loop-r-preserved
+    shape_of-facts
+    shape_of-next
+    shape_of-heads
+    returns)

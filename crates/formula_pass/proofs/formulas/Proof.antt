@@ -10,24 +10,23 @@ use Rattle.signed.proofs.Signs.{read_back}
 use Rattle.formula_pass.proofs.formulas.Statement.{statement}
 use Rattle.formula_pass.proofs.formulas.Tie as tie
 
-row-count-requires : tie.Need-row-count-requires
-row-count-requires c κs = search rules
+row_count-requires : tie.Need-row_count-requires
+row_count-requires c κs = search rules
 
 pass-requires : tie.Need-pass-requires
 pass-requires c κs = search rules
 
-same_length : tie.Need-same-length
-same_length c = search rules
+shape_of-facts : tie.Need-shape_of-facts
+shape_of-facts c = search rules
 
 returns : tie.Need-returns
 returns c =
-    let p = c.before.before.pass.ensures in
-    let a = c.before.before.before.before.before.before.before.before.args in
-    let g = c.before.before.before.before.struct_told.given in
+    let p = c.pass.ensures in
+    let a = c.args in
     let rows = formula_rows a.schema.now a.h.schema_rows a.proof.now in
-    let root = read_back a.h.root g.1.1.0.1 in
-    let least = read_back a.h.least g.1.1.1.0.1 in
-    let total : c.before.before.before.before.before.before.row_count.result ≡ a.h.schema_rows + a.h.proof_rows = c.before.before.before.before.before.before.row_count.ensures in
+    let root = read_back a.h.root c.struct_told-1.given.1.1.0.1 in
+    let least = read_back a.h.least c.struct_told-1.given.1.1.1.0.1 in
+    let total : c.row_count.result ≡ a.h.schema_rows + a.h.proof_rows = c.row_count.ensures in
     let e =
     ap (λ (n : ℕ). formulas_refusal a.older rows n a.h.schema_rows (to_z w32 (of_z w32 a.h.root)) (to_z w32 (of_z w32 a.h.least))) total
     ∙ ap₂ (formulas_refusal a.older rows (a.h.schema_rows + a.h.proof_rows) a.h.schema_rows) root least in (
@@ -41,4 +40,4 @@ returns c =
     )
 
 pub formulas_spec : {M : Type 1} → statement M
-formulas_spec = tie.close (tie.spec row-count-requires pass-requires same_length returns)
+formulas_spec = tie.close (tie.spec row_count-requires pass-requires shape_of-facts returns)

@@ -6,93 +6,86 @@ use Rattle.formula_pass.proofs.PassLaws.{row_stops, row_passes, row_repeats, row
 use Rattle.formula_pass.proofs.row.Statement.{statement}
 use Rattle.formula_pass.proofs.row.Tie as tie
 
-step-requires : tie.Need-step-requires
-step-requires c κs = search rules
+step-found-requires : tie.Need-step-found-requires
+step-found-requires c κs = search rules
 
-enum_told : tie.Need-enum-told
-enum_told c = search rules
+enum_told-1 : tie.Need-enum_told-1
+enum_told-1 c = search rules
 
-enum-told-2 : tie.Need-enum-told-2
-enum-told-2 c = search rules
+enum_told-in_default : tie.Need-enum_told-in_default
+enum_told-in_default c = search rules
 
-same_length : tie.Need-same-length
-same_length c = search rules
+shape_of-facts-in_default : tie.Need-shape_of-facts-in_default
+shape_of-facts-in_default c = search rules
 
-returns : tie.Need-returns
-returns c =
-    let k = c.before.before.before.before in
-    let e = c.enum-told2.given.1 in
-    (e ∙ sym (row_stops _ _ _ _ (sym k.step.ensures.0 ∙ e)), (λ h. never (sym e) h, (λ h _. never (sym e) h, k.step.ensures.1.1)))
+returns-in_default : tie.Need-returns-in_default
+returns-in_default c =
+    let e = c.in_default.is in
+    (e ∙ sym (row_stops _ _ _ _ (sym c.step-found.ensures.0 ∙ e)), (λ h. never (sym e) h, (λ h _. never (sym e) h, c.step-found.ensures.1.1)))
 
-same_length_2 : tie.Need-same-length-2
-same_length_2 c = search rules
+shape_of-facts-then-older : tie.Need-shape_of-facts-then-older
+shape_of-facts-then-older c = search rules
 
-returns_2 : tie.Need-returns-2
-returns_2 c =
-    let k = c.before.before.before.before.before in
-    let h = sym k.step.ensures.0 ∙ c.before.enum_told.given.1 in
-    let t = c.if1.true in
-    (sym (row_passes _ _ _ _ t h), (λ _. k.step.ensures.1.0 h, (λ _ f. absurd (true≢false (sym t ∙ f)), k.step.ensures.1.1)))
+returns-then-older : tie.Need-returns-then-older
+returns-then-older c =
+    let h = sym c.step-found.ensures.0 ∙ c.in-Nothing.is in
+    let t = c.if-older.true in
+    (sym (row_passes _ _ _ _ t h), (λ _. c.step-found.ensures.1.0 h, (λ _ f. absurd (true≢false (sym t ∙ f)), c.step-found.ensures.1.1)))
 
 repeats-requires : tie.Need-repeats-requires
 repeats-requires c κs =
-    let b = c.before.before.before.before.before.before.before.before.before.before.before.before in
-    let f = c.before.before.if1.false in
-    ((b.requires.0.0, (b.requires.0.2 f).0, (b.requires.0.2 f).1), b.requires.1.1 f)
+    let f = c.if-older.false in
+    ((c.requires.0.0, (c.requires.0.2 f).0, (c.requires.0.2 f).1), c.requires.1.1 f)
 
-same_length_3 : tie.Need-same-length-3
-same_length_3 c = search rules
+shape_of-facts-then-repeats : tie.Need-shape_of-facts-then-repeats
+shape_of-facts-then-repeats c = search rules
 
-same-length-4 : tie.Need-same-length-4
-same-length-4 c = search rules
+shape_of-next-then-repeats : tie.Need-shape_of-next-then-repeats
+shape_of-next-then-repeats c = search rules
 
-same-length-5 : tie.Need-same-length-5
-same-length-5 c = search rules
+shape_of-heads-then-repeats : tie.Need-shape_of-heads-then-repeats
+shape_of-heads-then-repeats c = search rules
 
-returns_3 : tie.Need-returns-3
-returns_3 c =
-    let k = c.before.before.before.before.before.before.before.before.before.before.before.before.before in
-    let r = c.before.before.before.before.before in
-    let h = sym k.step.ensures.0 ∙ c.before.before.before.before.before.before.before.before.before.enum_told.given.1 in
-    let f = c.before.before.before.before.before.before.before.before.if1.false in
-    let e = row_repeats _ _ _ _ f h (sym r.repeats.ensures.0 ∙ c.if2.true) in
-    (sym e, (λ q. never refl q, (λ q _. never refl q, k.step.ensures.1.1)))
+returns-then-repeats : tie.Need-returns-then-repeats
+returns-then-repeats c =
+    let h = sym c.step-found.ensures.0 ∙ c.in-Nothing.is in
+    let f = c.if-older.false in
+    let e = row_repeats _ _ _ _ f h (sym c.repeats.ensures.0 ∙ c.if-repeats.true) in
+    (sym e, (λ q. never refl q, (λ q _. never refl q, c.step-found.ensures.1.1)))
 
-same-length-6 : tie.Need-same-length-6
-same-length-6 c = search rules
+shape_of-facts : tie.Need-shape_of-facts
+shape_of-facts c = search rules
 
-same-length-7 : tie.Need-same-length-7
-same-length-7 c = search rules
+shape_of-next : tie.Need-shape_of-next
+shape_of-next c = search rules
 
-same-length-8 : tie.Need-same-length-8
-same-length-8 c = search rules
+shape_of-heads : tie.Need-shape_of-heads
+shape_of-heads c = search rules
 
-returns_4 : tie.Need-returns-4
-returns_4 c =
-    let k = c.before.before.before.before.before.before.before.before.before.before.before.before.before in
-    let r = c.before.before.before.before.before in
-    let h = sym k.step.ensures.0 ∙ c.before.before.before.before.before.before.before.before.before.enum_told.given.1 in
-    let f = c.before.before.before.before.before.before.before.before.if1.false in
-    let e = row_fresh _ _ _ _ f h (sym r.repeats.ensures.0 ∙ c.if2.false) in
-    (sym e, (λ _. k.step.ensures.1.0 h, (λ _ _. r.repeats.ensures.1.0, k.step.ensures.1.1)))
+returns : tie.Need-returns
+returns c =
+    let h = sym c.step-found.ensures.0 ∙ c.in-Nothing.is in
+    let f = c.if-older.false in
+    let e = row_fresh _ _ _ _ f h (sym c.repeats.ensures.0 ∙ c.if-repeats.false) in
+    (sym e, (λ _. c.step-found.ensures.1.0 h, (λ _ _. c.repeats.ensures.1.0, c.step-found.ensures.1.1)))
 
 pub row_spec : {M : Type 1} → statement M
 row_spec =
     tie.close
     (tie.spec
-    step-requires
-    enum_told
-    enum-told-2
-    same_length
-    returns
-    same_length_2
-    returns_2
+    step-found-requires
+    enum_told-1
+    enum_told-in_default
+    shape_of-facts-in_default
+    returns-in_default
+    shape_of-facts-then-older
+    returns-then-older
     repeats-requires
-    same_length_3
-    same-length-4
-    same-length-5
-    returns_3
-    same-length-6
-    same-length-7
-    same-length-8
-    returns_4)
+    shape_of-facts-then-repeats
+    shape_of-next-then-repeats
+    shape_of-heads-then-repeats
+    returns-then-repeats
+    shape_of-facts
+    shape_of-next
+    shape_of-heads
+    returns)

@@ -11,19 +11,18 @@ use Rattle.formula_pass.proofs.schema_formulas.Tie as tie
 alone-requires : tie.Need-alone-requires
 alone-requires c κs = search rules
 
-same_length : tie.Need-same-length
-same_length c = search rules
+shape_of-facts : tie.Need-shape_of-facts
+shape_of-facts c = search rules
 
 returns : tie.Need-returns
 unfolding schema_refusal
 returns c =
-    let p = c.before.before.alone.ensures in
-    let a = c.before.before.before.before.before.before.before.args in
-    let g = c.before.before.before.before.struct_told.given in
-    let root = read_back a.h.root g.1.0.1 in
-    let least = read_back a.h.least g.1.1.0.1 in
+    let p = c.alone.ensures in
+    let a = c.args in
+    let root = read_back a.h.root c.struct_told-1.given.1.0.1 in
+    let least = read_back a.h.least c.struct_told-1.given.1.1.0.1 in
     let e = ap₂ (formulas_refusal true (row_at a.schema.now) a.h.rows a.h.rows) root least in
     (p.0 ∙ e, (λ h. p.1.0 (e ∙ h), p.1.1 ∙ ap₂ (formulas_table true (row_at a.schema.now) a.facts.now a.h.rows a.h.rows) root least))
 
 pub schema_formulas_spec : {M : Type 1} → statement M
-schema_formulas_spec = tie.close (tie.spec alone-requires same_length returns)
+schema_formulas_spec = tie.close (tie.spec alone-requires shape_of-facts returns)

@@ -14,42 +14,39 @@ use Rattle.sets.proofs.is_outer.Tie as tie
 under-requires : tie.Need-under-requires
 under-requires c κs = search rules
 
-returns : tie.Need-returns
-returns c =
-    let b = c.before.before.before in
-    let a = b.args in
-    let u = c.before.under.ensures ∙ ap (λ (z : ℤ). nat (neg_ℤ z)) (to_z-of_z b.ranges.z) in
+returns-then-under-gt0 : tie.Need-returns-then-under-gt0
+returns-then-under-gt0 c =
+    let a = c.args in
+    let u = c.under.ensures ∙ ap (λ (z : ℤ). nat (neg_ℤ z)) (to_z-of_z c.ranges.z) in
     outer_negative a.facts.now a.n a.z (omega (arith, u))
 
-natural_requires : tie.Need-natural-requires
-natural_requires c κs = search rules
+natural-r-requires : tie.Need-natural-r-requires
+natural-r-requires c κs = search rules
 
-returns_2 : tie.Need-returns-2
-returns_2 c =
-    let b = c.before.before.before.before.before in
-    let a = b.args in
-    let u = c.before.before.before.under.ensures ∙ ap (λ (z : ℤ). nat (neg_ℤ z)) (to_z-of_z b.ranges.z) in
-    let e = c.before.natural.ensures ∙ ap nat (to_z-of_z b.ranges.z) in
+returns-then-n-r : tie.Need-returns-then-n-r
+returns-then-n-r c =
+    let a = c.args in
+    let u = c.under.ensures ∙ ap (λ (z : ℤ). nat (neg_ℤ z)) (to_z-of_z c.ranges.z) in
+    let e = c.natural-r.ensures ∙ ap nat (to_z-of_z c.ranges.z) in
     outer_past a.facts.now a.n a.z (omega (arith, u)) (omega (arith, e))
 
-mul-result : tie.Need-overflow-mul-result
-mul-result c = search rules
+overflow_mul-result : tie.Need-overflow_mul-result
+overflow_mul-result c = search rules
 
-add-result : tie.Need-overflow-add-result
-add-result c = search rules
+overflow_add-result : tie.Need-overflow_add-result
+overflow_add-result c = search rules
 
-mul-result-2 : tie.Need-overflow-mul-result-2
-mul-result-2 c = search rules
+offset_bounds-facts-r : tie.Need-offset_bounds-facts-r
+offset_bounds-facts-r c = search rules
 
-shared-slice-read-result : tie.Need-shared-slice-read-result
-shared-slice-read-result c = search rules
+bounds-facts-r : tie.Need-bounds-facts-r
+bounds-facts-r c = search rules
 
-returns_3 : tie.Need-returns-3
-returns_3 c =
-    let b = c.before.before.before.before.before.before in
-    let a = b.args in
-    let u = c.before.before.before.before.under.ensures ∙ ap (λ (z : ℤ). nat (neg_ℤ z)) (to_z-of_z b.ranges.z) in
-    let e = c.before.before.natural.ensures ∙ ap nat (to_z-of_z b.ranges.z) in
+returns : tie.Need-returns
+returns c =
+    let a = c.args in
+    let u = c.under.ensures ∙ ap (λ (z : ℤ). nat (neg_ℤ z)) (to_z-of_z c.ranges.z) in
+    let e = c.natural-r.ensures ∙ ap nat (to_z-of_z c.ranges.z) in
     ap (λ (r : ℕ). eqb (get_or a.facts.now (4 * r + 2) 0) 0) e
     ∙ outer_row a.facts.now a.n a.z (omega (arith, u)) (omega (arith, e))
 
@@ -58,11 +55,11 @@ is_outer_spec =
     tie.close
     (tie.spec
     under-requires
-    returns
-    natural_requires
-    returns_2
-    mul-result
-    add-result
-    mul-result-2
-    shared-slice-read-result
-    returns_3)
+    returns-then-under-gt0
+    natural-r-requires
+    returns-then-n-r
+    overflow_mul-result
+    overflow_add-result
+    offset_bounds-facts-r
+    bounds-facts-r
+    returns)

@@ -1,6 +1,7 @@
+use mathlib.Core.Bool.{not}
 use borrow.Author.Rules.{rules}
 use Prim.Native.Nat.{◌+◌, ◌-◌}
-use mathlib.Core.Path.{sym, ◌∙◌, ap₂}
+use mathlib.Core.Path.{sym, ◌∙◌, ap₂, ap}
 use lib.IntN.{pos}
 use lib.ListN.{get_or}
 use lib.Signed.{lt_z}
@@ -10,76 +11,68 @@ use Rattle.sets.proofs.SetLaws.{member_inner, member_first, member_next}
 use Rattle.sets.proofs.member_fits.Statement.{statement}
 use Rattle.sets.proofs.member_fits.Tie as tie
 
-add_at : tie.Need-overflow-add-at
-add_at c = search rules
+overflow_add-at : tie.Need-overflow_add-at
+overflow_add-at c = search rules
 
-mul-z : tie.Need-overflow-mul-z
-mul-z c = search rules
+offset_bounds-members-at : tie.Need-offset_bounds-members-at
+offset_bounds-members-at c = search rules
 
-shared-slice-copy-out-z : tie.Need-shared-slice-copy-out-z
-shared-slice-copy-out-z c = search rules
+bounds-members-at : tie.Need-bounds-members-at
+bounds-members-at c = search rules
 
-is-outer-requires : tie.Need-is-outer-requires
-is-outer-requires c κs = search rules
+is_outer-requires : tie.Need-is_outer-requires
+is_outer-requires c κs = search rules
 
-returns : tie.Need-returns
-returns c =
-    let d = c.before.before in
-    let b = d.before.before in
-    let a = b.args in
-    let e = read_back (get_or a.members.now (a.start + a.i) (pos 0)) d.z.given in
-    member_inner a.facts.now a.n a.members.now a.start a.len b.requires.1 a.i b.requires.2
-    (rw e at (sym c.before.is-outer.ensures ∙ not-true c.before.is-outer.result c.if1.true))
+returns-then-not-is_outer : tie.Need-returns-then-not-is_outer
+returns-then-not-is_outer c =
+    let a = c.args in
+    let e = read_back (get_or a.members.now (a.start + a.i) (pos 0)) c.z-1.given in
+    member_inner a.facts.now a.n a.members.now a.start a.len c.requires.1 a.i c.requires.2
+    (rw e at (sym c.is_outer.ensures ∙ not-true c.is_outer.result (ap not c.if-not-is_outer.true)))
 
-returns_2 : tie.Need-returns-2
-returns_2 c =
-    let d = c.before.before.before in
-    let b = d.before.before in
-    let a = b.args in
-    let e = read_back (get_or a.members.now (a.start + a.i) (pos 0)) d.z.given in
-    member_first a.facts.now a.n a.members.now a.start a.len b.requires.1 a.i b.requires.2
-    (rw e at (sym c.before.before.is-outer.ensures ∙ not-false c.before.before.is-outer.result c.before.if1.false))
-    c.if2.true
+returns-then-i-eq0 : tie.Need-returns-then-i-eq0
+returns-then-i-eq0 c =
+    let a = c.args in
+    let e = read_back (get_or a.members.now (a.start + a.i) (pos 0)) c.z-1.given in
+    member_first a.facts.now a.n a.members.now a.start a.len c.requires.1 a.i c.requires.2
+    (rw e at (sym c.is_outer.ensures ∙ not-false c.is_outer.result (ap not c.if-not-is_outer.false)))
+    c.if-i-eq0.true
 
-sub-less : tie.Need-overflow-sub-less
-sub-less c = search rules
+overflow_sub-at : tie.Need-overflow_sub-at
+overflow_sub-at c = search rules
 
-mul-less : tie.Need-overflow-mul-less
-mul-less c = search rules
+offset_bounds-members-at-2 : tie.Need-offset_bounds-members-at-2
+offset_bounds-members-at-2 c = search rules
 
-shared-slice-copy-out-less : tie.Need-shared-slice-copy-out-smaller
-shared-slice-copy-out-less c = search rules
+bounds-members-at-2 : tie.Need-bounds-members-at-2
+bounds-members-at-2 c = search rules
 
 less-requires : tie.Need-less-requires
 less-requires c κs = search rules
 
-returns_3 : tie.Need-returns-3
-returns_3 c =
-    let p = c.before in
-    let l = p.before in
-    let d = l.before.before.before in
-    let b = d.before.before in
-    let a = b.args in
-    let e = read_back (get_or a.members.now (a.start + a.i) (pos 0)) d.z.given in
-    let f = read_back (get_or a.members.now (a.start + a.i - 1) (pos 0)) p.less-arg.given in
+returns : tie.Need-returns
+returns c =
+    let a = c.args in
+    let e = read_back (get_or a.members.now (a.start + a.i) (pos 0)) c.z-1.given in
+    let f = read_back (get_or a.members.now (a.start + a.i - 1) (pos 0)) c.less-arg-1.given in
     c.less.ensures
     ∙ ap₂ lt_z f e
-    ∙ member_next a.facts.now a.n a.members.now a.start a.len b.requires.1 a.i b.requires.2
-    (rw e at (sym l.before.before.is-outer.ensures ∙ not-false l.before.before.is-outer.result l.before.if1.false))
-    l.if2.false
+    ∙ member_next a.facts.now a.n a.members.now a.start a.len c.requires.1 a.i c.requires.2
+    (rw e at (sym c.is_outer.ensures ∙ not-false c.is_outer.result (ap not c.if-not-is_outer.false)))
+    c.if-i-eq0.false
 
 pub member_fits_spec : {M : Type 1} → statement M
 member_fits_spec =
     tie.close
     (tie.spec
-    add_at
-    mul-z
-    shared-slice-copy-out-z
-    is-outer-requires
-    returns
-    returns_2
-    sub-less
-    mul-less
-    shared-slice-copy-out-less
+    overflow_add-at
+    offset_bounds-members-at
+    bounds-members-at
+    is_outer-requires
+    returns-then-not-is_outer
+    returns-then-i-eq0
+    overflow_sub-at
+    offset_bounds-members-at-2
+    bounds-members-at-2
     less-requires
-    returns_3)
+    returns)

@@ -3,7 +3,7 @@ use borrow.Author.Tests.{not-true, not-false}
 use Prim.Native.Nat.{ℕ, ◌+◌, ◌-◌, ◌<◌, ◌≤◌}
 use native.Mathlib.Omega.{arith}
 use mathlib.Core.Path.{◌≡◌, refl, sym, ◌∙◌, ap}
-use mathlib.Core.Bool.{true}
+use mathlib.Core.Bool.{true, not}
 use lib.IntN.{pos}
 use Rattle.stab.specs.Node.{set_start}
 use Rattle.stab.specs.Check.{at_unless}
@@ -15,78 +15,76 @@ use Rattle.sets.proofs.SetLaws.{right_place, place_within, place_next}
 use Rattle.sets.proofs.sets.Statement.{statement}
 use Rattle.sets.proofs.sets.Tie as tie
 
-abbrev invariant_loop : tie.invariant-loop
+abbrev invariant_loop : tie.invariant-loop-j
 invariant_loop facts n nodes k members m from₀ j₀ from j =
     (j ≤ k) × (from ≤ m) × (set_start nodes j ≡ pos from) × ((a : ℕ) → a < j → set_right facts n nodes k members m a ≡ true)
 
-abbrev decreases_loop : tie.decreases-loop
+abbrev decreases_loop : tie.decreases-loop-j
 decreases_loop facts n nodes k members m from₀ j₀ from j = k - j
 
-loop_holds : tie.Need-loop-init invariant_loop decreases_loop
+loop-j-init : tie.Need-loop-j-init invariant_loop decreases_loop
 unfolding set_start
-loop_holds c = (omega arith, omega arith, refl, λ a q. absurd (omega arith))
+loop-j-init c = (omega arith, omega arith, refl, λ a q. absurd (omega arith))
 
-set-is-right-requires : tie.Need-set-is-right-requires invariant_loop decreases_loop
-set-is-right-requires c κs =
-    let b = c.before.before.before in
-    let i = c.before.loop.invariant in
-    (b.requires.0, b.requires.2, c.loop-test.true, b.requires.1, i.2, i.1)
+set_is_right-requires : tie.Need-set_is_right-requires invariant_loop decreases_loop
+set_is_right-requires c κs =
+    let i = c.loop-j.invariant in
+    (c.requires.0, c.requires.2, c.loop-j-test.true, c.requires.1, i.2, i.1)
 
-returns : tie.Need-returns invariant_loop decreases_loop
+returns-then-not-set_is_right : tie.Need-returns-then-not-set_is_right invariant_loop decreases_loop
 unfolding set_fault at_unless
-returns c =
-    let l = c.before.before.before.loop in
-    sym (scan_found _ _ l.j c.before.before.loop-test.true
+returns-then-not-set_is_right c =
+    let l = c.loop-j in
+    sym (scan_found _ _ l.j c.loop-j-test.true
     (scan_nothing _ l.j (λ i q. nothing_unless _ _ _ (l.invariant.3 i q)))
-    (found_unless _ _ _ (sym c.before.set-is-right.ensures ∙ not-true c.before.set-is-right.result c.if1.true)))
+    (found_unless _ _ _ (sym c.set_is_right.ensures ∙ not-true c.set_is_right.result (ap not c.if-not-set_is_right.true))))
 
 -- past the test the set is right, so it ends within the members
 right :
-    (c : tie.After-natural-of invariant_loop decreases_loop)
-    → let a = c.before.before.before.before.before.before.args in
-    set_right a.facts.now a.n a.nodes.now a.k a.members.now a.m c.before.before.before.before.loop.j ≡ true
-right c = sym c.before.before.set-is-right.ensures ∙ not-false c.before.before.set-is-right.result c.before.if1.false
+    (c : tie.After-natural_of-from invariant_loop decreases_loop)
+    → let a = c.args in
+    set_right a.facts.now a.n a.nodes.now a.k a.members.now a.m c.loop-j.j ≡ true
+right c = sym c.set_is_right.ensures ∙ not-false c.set_is_right.result (ap not c.if-not-set_is_right.false)
 
 placed :
-    (c : tie.After-natural-of invariant_loop decreases_loop)
-    → let a = c.before.before.before.before.before.before.args in
-    place_fits a.nodes.now a.m c.before.before.before.before.loop.j ≡ true
+    (c : tie.After-natural_of-from invariant_loop decreases_loop)
+    → let a = c.args in
+    place_fits a.nodes.now a.m c.loop-j.j ≡ true
 placed c =
-    let a = c.before.before.before.before.before.before.args in
-    right_place a.facts.now a.n a.nodes.now a.k a.members.now a.m c.before.before.before.before.loop.j (right c)
+    let a = c.args in
+    right_place a.facts.now a.n a.nodes.now a.k a.members.now a.m c.loop-j.j (right c)
 
-within : (c : tie.After-natural-of invariant_loop decreases_loop) → c.before.before.before.before.loop.from + c.natural-of.result ≤ c.before.before.before.before.before.before.args.m
+within : (c : tie.After-natural_of-from invariant_loop decreases_loop) → c.loop-j.from + c.natural_of-from.result ≤ c.args.m
 within c =
-    let a = c.before.before.before.before.before.before.args in
-    let l = c.before.before.before.before.loop in
-    omega (arith, c.natural-of.ensures.0, place_within a.nodes.now a.m l.j l.from l.invariant.2 (placed c))
+    let a = c.args in
+    let l = c.loop-j in
+    omega (arith, c.natural_of-from.ensures.0, place_within a.nodes.now a.m l.j l.from l.invariant.2 (placed c))
 
-natural-of-requires : tie.Need-natural-of-requires invariant_loop decreases_loop
-natural-of-requires c κs = omega arith
+natural_of-from-requires : tie.Need-natural_of-from-requires invariant_loop decreases_loop
+natural_of-from-requires c κs = omega arith
 
-add-from : tie.Need-overflow-add-from invariant_loop decreases_loop
-add-from c = omega (arith, within c)
+overflow_add-from : tie.Need-overflow_add-from invariant_loop decreases_loop
+overflow_add-from c = omega (arith, within c)
 
-add-j : tie.Need-overflow-add-j invariant_loop decreases_loop
-add-j c = omega arith
+overflow_add-j : tie.Need-overflow_add-j invariant_loop decreases_loop
+overflow_add-j c = omega arith
 
-loop_less : tie.Need-loop-smaller invariant_loop decreases_loop
-loop_less c = omega arith
+loop-j-smaller : tie.Need-loop-j-smaller invariant_loop decreases_loop
+loop-j-smaller c = omega arith
 
-loop_again : tie.Need-loop-preserved invariant_loop decreases_loop
-loop_again c =
-    let b = c.before.before.before.before.before.before in
-    let a = b.args in
-    let l = c.before.before.before.before.loop in (
+loop-j-preserved : tie.Need-loop-j-preserved invariant_loop decreases_loop
+loop-j-preserved c =
+    let a = c.args in
+    let l = c.loop-j in (
       omega arith,
       within c,
-      place_next a.nodes.now a.m l.j l.from l.invariant.2 (placed c) ∙ ap (λ (n : ℕ). pos (l.from + n)) (sym c.natural-of.ensures.0),
+      place_next a.nodes.now a.m l.j l.from l.invariant.2 (placed c) ∙ ap (λ (n : ℕ). pos (l.from + n)) (sym c.natural_of-from.ensures.0),
       below_more _ _ l.invariant.3 (right c),
     )
 
-returns_2 : tie.Need-returns-2 invariant_loop decreases_loop
+returns : tie.Need-returns invariant_loop decreases_loop
 unfolding set_fault at_unless
-returns_2 c = sym (scan_nothing _ _ (λ i q. nothing_unless _ _ _ (c.before.loop.invariant.3 i (omega arith))))
+returns c = sym (scan_nothing _ _ (λ i q. nothing_unless _ _ _ (c.loop-j.invariant.3 i (omega arith))))
 
 pub sets_spec : {M : Type 1} → statement M
 sets_spec =
@@ -94,12 +92,12 @@ sets_spec =
     (tie.spec
     invariant_loop
     decreases_loop
-    loop_holds
-    set-is-right-requires
-    returns
-    natural-of-requires
-    add-from
-    add-j
-    loop_less
-    loop_again
-    returns_2)
+    loop-j-init
+    set_is_right-requires
+    returns-then-not-set_is_right
+    natural_of-from-requires
+    overflow_add-from
+    overflow_add-j
+    loop-j-smaller
+    loop-j-preserved
+    returns)

@@ -32,73 +32,71 @@ members_most : (s : tie.Start) → length (spread (take s.args.m s.args.members.
 members_most s =
     omega (arith, spread_most (take s.args.m s.args.members.now), length-take-le s.args.m s.args.members.now (inside s), s.requires.1.2)
 
-mul-numbers : tie.Need-overflow-mul-numbers
-mul-numbers c = search rules
+overflow_mul-numbers : tie.Need-overflow_mul-numbers
+overflow_mul-numbers c = search rules
 
-slice-aggregate-spread-width : tie.Need-slice-aggregate-spread-width
-slice-aggregate-spread-width c = let s = c.before.before in sym (length-take-le (4 * s.args.rows) s.args.t.now s.requires.0.0.held)
+slice_bounds-spread_width-end : tie.Need-slice_bounds-spread_width-end
+slice_bounds-spread_width-end c = sym (length-take-le (4 * c.args.rows) c.args.t.now c.requires.0.0.held)
 
-spread-width-requires : tie.Need-spread-width-requires
-spread-width-requires c κs = search rules
+spread_width-requires : tie.Need-spread_width-requires
+spread_width-requires c κs = search rules
 
-add-bytes : tie.Need-overflow-add-bytes
-add-bytes c = record { fits = omega (arith, c.spread-width.ensures, rows_most c.before.before.before) }
+overflow_add-bytes : tie.Need-overflow_add-bytes
+overflow_add-bytes c = record { fits = omega (arith, c.spread_width.ensures, rows_most c.before.before) }
 
-columns-width-requires : tie.Need-columns-width-requires
-columns-width-requires c κs = search rules
+columns_width-requires : tie.Need-columns_width-requires
+columns_width-requires c κs = search rules
 
-add-bytes-2 : tie.Need-overflow-add-bytes-2
-add-bytes-2 c =
-    let s = c.before.before.before.before in
+overflow_add-bytes-2 : tie.Need-overflow_add-bytes-2
+overflow_add-bytes-2 c =
     record {
       fits = omega (
         arith,
-        c.before.spread-width.ensures,
-        rows_most s,
-        c.columns-width.ensures,
-        columns_most s.args.nodes.now s.args.count s.requires.0.1.held,
-        s.requires.1.1,
+        c.spread_width.ensures,
+        rows_most c.before.before.before,
+        c.columns_width.ensures,
+        columns_most c.args.nodes.now c.args.count c.requires.0.1.held,
+        c.requires.1.1,
       );
     }
 
-slice-aggregate-spread-width-2 : tie.Need-slice-aggregate-spread-width-2
-slice-aggregate-spread-width-2 c =
-    let s = c.before.before.before.before.before in
-    sym (length-take-le s.args.m s.args.members.now (inside s))
+slice_bounds-spread_width-end-2 : tie.Need-slice_bounds-spread_width-end-2
+slice_bounds-spread_width-end-2 c =
+    sym (length-take-le c.args.m c.args.members.now (inside c.before.before.before))
 
-spread-width-requires-2 : tie.Need-spread-width-requires-2
-spread-width-requires-2 c κs = search rules
+spread_width-requires-2 : tie.Need-spread_width-requires-2
+spread_width-requires-2 c κs = search rules
 
 -- the bytes that were counted are those of the text
-abbrev S : tie.After-spread-width2 → tie.Start
-S c = c.before.before.before.before.before.before
+abbrev S : tie.After-spread_width-2 → tie.Start
+S c = c.before.before.before.before
 
-abbrev Count : tie.After-spread-width2 → ℕ
-Count c = 43 + c.before.before.before.spread-width.result + c.before.before.columns-width.result + c.spread-width2.result
+abbrev Count : tie.After-spread_width-2 → ℕ
+Count c = 43 + c.spread_width.result + c.columns_width.result + c.spread_width-2.result
 
-counted : (c : tie.After-spread-width2) → Count c ≡ length (Whole (S c))
+counted : (c : tie.After-spread_width-2) → Count c ≡ length (Whole (S c))
 counted c =
     let a = (S c).args in
     omega (
       arith,
-      c.before.before.before.spread-width.ensures,
-      c.before.before.columns-width.ensures,
-      c.spread-width2.ensures,
+      c.spread_width.ensures,
+      c.columns_width.ensures,
+      c.spread_width-2.ensures,
       proof_length a.t.now a.rows a.nodes.now a.count a.members.now a.m (S c).requires.0.0 (S c).requires.0.1 (S c).requires.0.2,
     )
 
-add-bytes-3 : tie.Need-overflow-add-bytes-3
-add-bytes-3 c =
+overflow_add-bytes-3 : tie.Need-overflow_add-bytes-3
+overflow_add-bytes-3 c =
     let s = S c in
     record {
       fits = omega (
         arith,
-        c.before.before.before.spread-width.ensures,
+        c.spread_width.ensures,
         rows_most s,
-        c.before.before.columns-width.ensures,
-        columns_most s.args.nodes.now s.args.count s.pre.0.1.held,
-        s.pre.1.1,
-        c.spread-width2.ensures,
+        c.columns_width.ensures,
+        columns_most s.args.nodes.now s.args.count s.requires.0.1.held,
+        s.requires.1.1,
+        c.spread_width-2.ensures,
         members_most s,
       );
     }
@@ -106,70 +104,63 @@ add-bytes-3 c =
 refuse-requires : tie.Need-refuse-requires
 refuse-requires c κs = search rules
 
-same_length : tie.Need-same-length
-same_length c = search rules
+shape_of-out-then-out-bytes : tie.Need-shape_of-out-then-out-bytes
+shape_of-out-then-out-bytes c = search rules
 
-returns : tie.Need-returns
-returns c =
-    let m = c.before.before.before.before.before in
-    answered (length (L (S m)))
-    (no_room (length (L (S m))) (Whole (S m)) (omega (arith, counted m, c.before.before.before.before.if1.true)))
-    c.before.before.refuse.ensures
+returns-then-out-bytes : tie.Need-returns-then-out-bytes
+returns-then-out-bytes c =
+    answered (length (L (S c.before.before.before.before.before)))
+    (no_room (length (L (S c.before.before.before.before.before))) (Whole (S c.before.before.before.before.before)) (omega (arith, counted c.before.before.before.before.before, c.if-out-bytes.true)))
+    c.refuse.ensures
 
-refuse-requires-2 : tie.Need-refuse-requires-2
-refuse-requires-2 c κs = search rules
+refuse-requires-then-bytes-gt65536 : tie.Need-refuse-requires-then-bytes-gt65536
+refuse-requires-then-bytes-gt65536 c κs = search rules
 
-same_length_2 : tie.Need-same-length-2
-same_length_2 c = search rules
+shape_of-out-then-bytes-gt65536 : tie.Need-shape_of-out-then-bytes-gt65536
+shape_of-out-then-bytes-gt65536 c = search rules
 
-returns_2 : tie.Need-returns-2
-returns_2 c =
-    let m = c.before.before.before.before.before.before in
-    answered (length (L (S m)))
-    (too_long (length (L (S m))) (Whole (S m)) (omega (arith, counted m, c.before.before.before.before.if2.true)))
-    c.before.before.refuse2.ensures
+returns-then-bytes-gt65536 : tie.Need-returns-then-bytes-gt65536
+returns-then-bytes-gt65536 c =
+    answered (length (L (S c.before.before.before.before.before.before)))
+    (too_long (length (L (S c.before.before.before.before.before.before))) (Whole (S c.before.before.before.before.before.before)) (omega (arith, counted c.before.before.before.before.before.before, c.if-bytes-gt65536.true)))
+    c.refuse-then-bytes-gt65536.ensures
 
-put-proof-requires : tie.Need-put-proof-requires
-put-proof-requires c κs =
-    let m = c.before.before.before in
-    ((S m).requires.0.0, (S m).requires.0.1, omega (arith, counted m, c.before.before.if1.false))
+put_proof-requires : tie.Need-put_proof-requires
+put_proof-requires c κs =
+    ((S c.before.before.before).requires.0.0, (S c.before.before.before).requires.0.1, omega (arith, counted c.before.before.before, c.if-out-bytes.false))
 
 finish-requires : tie.Need-finish-requires
 finish-requires c κs = search rules
 
-same_length_3 : tie.Need-same-length-3
-same_length_3 c = search rules
+shape_of-out : tie.Need-shape_of-out
+shape_of-out c = search rules
 
-returns_3 : tie.Need-returns-3
-returns_3 c =
-    let f = c.before.before in
-    let h = f.before.before.before.before in
-    let e = h.before.before in
-    let m = e.before.before in
-    answered (length (L (S m)))
-    (fitting (length (L (S m))) (Whole (S m)) (omega (arith, counted m, e.before.if1.false)) (omega (arith, counted m, e.if2.false)))
-    (finished (Whole (S m)) (L (S m)) (omega (arith, counted m, e.before.if1.false)) (counted m) h.put-proof.ensures.1 f.finish.ensures)
+returns : tie.Need-returns
+returns c =
+    answered (length (L (S c.before.before.before.before.before.before.before.before.before.before)))
+    (fitting (length (L (S c.before.before.before.before.before.before.before.before.before.before))) (Whole (S c.before.before.before.before.before.before.before.before.before.before)) (omega (arith, counted c.before.before.before.before.before.before.before.before.before.before, c.if-out-bytes.false)) (omega (arith, counted c.before.before.before.before.before.before.before.before.before.before, c.if-bytes-gt65536.false)))
+    (finished (Whole (S c.before.before.before.before.before.before.before.before.before.before)) (L (S c.before.before.before.before.before.before.before.before.before.before)) (omega (arith, counted c.before.before.before.before.before.before.before.before.before.before, c.if-out-bytes.false)) (counted c.before.before.before.before.before.before.before.before.before.before) c.put_proof.ensures.1 c.finish.ensures)
 
 pub fill_proof_spec : {M : Type 1} → statement M
 fill_proof_spec =
     tie.close
     (tie.spec
-    mul-numbers
-    slice-aggregate-spread-width
-    spread-width-requires
-    add-bytes
-    columns-width-requires
-    add-bytes-2
-    slice-aggregate-spread-width-2
-    spread-width-requires-2
-    add-bytes-3
+    overflow_mul-numbers
+    slice_bounds-spread_width-end
+    spread_width-requires
+    overflow_add-bytes
+    columns_width-requires
+    overflow_add-bytes-2
+    slice_bounds-spread_width-end-2
+    spread_width-requires-2
+    overflow_add-bytes-3
     refuse-requires
-    same_length
-    returns
-    refuse-requires-2
-    same_length_2
-    returns_2
-    put-proof-requires
+    shape_of-out-then-out-bytes
+    returns-then-out-bytes
+    refuse-requires-then-bytes-gt65536
+    shape_of-out-then-bytes-gt65536
+    returns-then-bytes-gt65536
+    put_proof-requires
     finish-requires
-    same_length_3
-    returns_3)
+    shape_of-out
+    returns)

@@ -4,28 +4,26 @@ use Rattle.digits.proofs.Overs.{padded_rest}
 use Rattle.writing.proofs.finish.Statement.{statement}
 use Rattle.writing.proofs.finish.Tie as tie
 
-sub-clear : tie.Need-overflow-sub-clear
-sub-clear c = search rules
+slice_bounds-clear-count : tie.Need-slice_bounds-clear-count
+slice_bounds-clear-count c = search rules
 
-part-clear-start : tie.Need-slice-bounds-clear-start
-part-clear-start c = search rules
+slice_bounds-clear-start : tie.Need-slice_bounds-clear-start
+slice_bounds-clear-start c = search rules
 
-part-clear-end : tie.Need-slice-bounds-clear-end
-part-clear-end c = search rules
+slice_bounds-clear-end : tie.Need-slice_bounds-clear-end
+slice_bounds-clear-end c = search rules
 
 clear-requires : tie.Need-clear-requires
 clear-requires c κs = search rules
 
-same_length : tie.Need-same-length
-same_length c = search rules
+shape_of-out : tie.Need-shape_of-out
+shape_of-out c = search rules
 
 returns : tie.Need-returns
 returns c =
-    let p = c.before.before in
-    let s = p.before.before.before in
-    (refl, padded_rest s.args.bytes s.args.out.now p.clear.new.0 s.requires p.clear.ensures)
+    (refl, padded_rest c.args.bytes c.args.out.now c.clear.new.out c.requires c.clear.ensures)
 
 pub finish_spec : {M : Type 1} → statement M
 finish_spec =
     tie.close
-    (tie.spec sub-clear part-clear-start part-clear-end clear-requires same_length returns)
+    (tie.spec slice_bounds-clear-count slice_bounds-clear-start slice_bounds-clear-end clear-requires shape_of-out returns)

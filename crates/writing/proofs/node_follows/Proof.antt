@@ -9,95 +9,88 @@ use Rattle.output.proofs.NodeRows.{start_other, under_none, under_some, negative
 use Rattle.writing.proofs.node_follows.Statement.{statement}
 use Rattle.writing.proofs.node_follows.Tie as tie
 
-mul-from : tie.Need-overflow-mul-from
-mul-from c = search rules
+overflow_mul-from : tie.Need-overflow_mul-from
+overflow_mul-from c = search rules
 
-add-to : tie.Need-overflow-add-to
-add-to c = search rules
+overflow_add-to : tie.Need-overflow_add-to
+overflow_add-to c = search rules
 
-under-at-requires : tie.Need-under-at-requires
-under-at-requires c κs = search rules
+under_at-requires : tie.Need-under_at-requires
+under_at-requires c κs = search rules
 
-returns : tie.Need-returns
-returns c =
-    let s = c.before.before in
+returns-then-under_at-ne0 : tie.Need-returns-then-under_at-ne0
+returns-then-under_at-ne0 c =
     sym
-    (start_fails s.args.nodes.now s.args.j s.args.start s.requires.1
-    (negative_not _ s.args.start (λ e. c.if1.true (c.before.Under-at.ensures ∙ e))))
+    (start_fails c.args.nodes.now c.args.j c.args.start c.requires.1
+    (negative_not _ c.args.start (λ e. c.if-under_at-ne0.true (c.under_at.ensures ∙ e))))
 
-natural_at_requires : tie.Need-natural-at-requires
-natural_at_requires c κs = search rules
+natural_at-requires : tie.Need-natural_at-requires
+natural_at-requires c κs = search rules
 
-returns_2 : tie.Need-returns-2
-returns_2 c =
-    let s = c.before.before.before.before in
+returns-then-natural_at-start : tie.Need-returns-then-natural_at-start
+returns-then-natural_at-start c =
     sym
-    (start_fails s.args.nodes.now s.args.j s.args.start s.requires.1
-    (start_other _ s.args.start (λ e. c.if2.true (c.before.natural-at.ensures.0 ∙ e))))
+    (start_fails c.args.nodes.now c.args.j c.args.start c.requires.1
+    (start_other _ c.args.start (λ e. c.if-natural_at-start.true (c.natural_at.ensures.0 ∙ e))))
 
 -- the set starts where it has to
-starts : (c : tie.Else2) →
-    let s = c.before.before.before.before in
-    eq_z (get_or s.args.nodes.now (9 * s.args.j + 7) (pos 0)) (pos s.args.start) ≡ true
+starts : (c : tie.Else-natural_at-start) →
+    eq_z (get_or c.args.nodes.now (9 * c.args.j + 7) (pos 0)) (pos c.args.start) ≡ true
 starts c =
-    let s = c.before.before.before.before in
-    start_same _ s.args.start
-    (sym c.before.before.before.Under-at.ensures ∙ c.before.before.if1.false)
-    (sym c.before.natural-at.ensures.0 ∙ c.if2.false)
+    start_same _ c.args.start
+    (sym c.under_at.ensures ∙ c.if-under_at-ne0.false)
+    (sym c.natural_at.ensures.0 ∙ c.if-natural_at-start.false)
 
-add-under-at : tie.Need-overflow-add-under-at
-add-under-at c = search rules
+overflow_add-to-2 : tie.Need-overflow_add-to-2
+overflow_add-to-2 c = search rules
 
-under-at-requires-2 : tie.Need-under-at-requires-2
-under-at-requires-2 c κs = search rules
+under_at-requires-2 : tie.Need-under_at-requires-2
+under_at-requires-2 c κs = search rules
 
-returns_3 : tie.Need-returns-3
-returns_3 c =
-    let s = c.before.before.before.before.before.before in
+returns-then-under_at-ne0-2 : tie.Need-returns-then-under_at-ne0-2
+returns-then-under_at-ne0-2 c =
     sym
-    (size_fails s.args.nodes.now s.args.j s.args.start s.requires.1
-    (under_some (get_or s.args.nodes.now (9 * s.args.j + 7 + 1) (pos 0)) (λ e. c.if3.true (c.before.under-at2.ensures ∙ e))))
+    (size_fails c.args.nodes.now c.args.j c.args.start c.requires.1
+    (under_some (get_or c.args.nodes.now (9 * c.args.j + 7 + 1) (pos 0)) (λ e. c.if-under_at-ne0-2.true (c.under_at-2.ensures ∙ e))))
 
-mul-writable : tie.Need-overflow-mul-writable
-mul-writable c = search rules
+offset_bounds-nodes-from : tie.Need-offset_bounds-nodes-from
+offset_bounds-nodes-from c = search rules
 
-sub-writable : tie.Need-overflow-sub-writable
-sub-writable c = search rules
+slice_bounds-writable-count : tie.Need-slice_bounds-writable-count
+slice_bounds-writable-count c = search rules
 
-part-writable-start : tie.Need-slice-bounds-writable-start
-part-writable-start c = search rules
+slice_bounds-writable-start : tie.Need-slice_bounds-writable-start
+slice_bounds-writable-start c = search rules
 
-part-writable-end : tie.Need-slice-bounds-writable-end
-part-writable-end c = search rules
+slice_bounds-writable-end : tie.Need-slice_bounds-writable-end
+slice_bounds-writable-end c = search rules
 
 writable-requires : tie.Need-writable-requires
 writable-requires c κs = search rules
 
-returns_4 : tie.Need-returns-4
-returns_4 c =
-    let e = c.before.before in
-    let s = e.before.before.before.before.before.before in
+returns : tie.Need-returns
+returns c =
     c.writable.ensures
-    ∙ node_is s.args.nodes.now s.args.j s.args.start s.requires.1
-    (starts e.before.before)
-    (under_none (get_or s.args.nodes.now (9 * s.args.j + 7 + 1) (pos 0)) (sym e.before.under-at2.ensures ∙ e.if3.false))
+    ∙ node_is c.args.nodes.now c.args.j c.args.start c.requires.1
+    (starts c.before.before.before.before)
+    (under_none (get_or c.args.nodes.now (9 * c.args.j + 7 + 1) (pos 0)) (sym c.under_at-2.ensures ∙ c.if-under_at-ne0-2.false))
 
 pub node_follows_spec : {M : Type 1} → statement M
 node_follows_spec =
     tie.close
     (tie.spec
-    mul-from
-    add-to
-    under-at-requires
-    returns
-    natural_at_requires
-    returns_2
-    add-under-at
-    under-at-requires-2
-    returns_3
-    mul-writable
-    sub-writable
-    part-writable-start
-    part-writable-end
+    overflow_mul-from
+    overflow_add-to
+    under_at-requires
+    returns-then-under_at-ne0
+    natural_at-requires
+    returns-then-natural_at-start
+    overflow_add-to-2
+    under_at-requires-2
+    returns-then-under_at-ne0-2
+    offset_bounds-nodes-from
+    slice_bounds-writable-count
+    slice_bounds-writable-start
+    slice_bounds-writable-end
     writable-requires
-    returns_4)
+    returns)

@@ -1,6 +1,6 @@
 use Prim.Native.Nat.{◌*◌}
-use mathlib.Core.Path.{◌≡◌, sym, ◌∙◌}
-use mathlib.Core.Bool.{Bool}
+use mathlib.Core.Path.{◌≡◌, sym, ◌∙◌, ap}
+use mathlib.Core.Bool.{Bool, not}
 use borrow.Author.Rules.{rules}
 use borrow.Author.Tests.{not-true, not-false}
 use lib.IntN.{pos}
@@ -30,58 +30,52 @@ tests : (s : tie.Start) → (rows_writable 4 s.args.rows s.args.t.now and sets_w
 unfolding rows_writable sets_writable
 tests s = and_grouped (Rows s) (nodes_writable s.args.nodes.now s.args.count) _ (Members s)
 
-mul-numbers : tie.Need-overflow-mul-numbers
-mul-numbers c = search rules
+overflow_mul-numbers : tie.Need-overflow_mul-numbers
+overflow_mul-numbers c = search rules
 
-slice-aggregate-writable : tie.Need-slice-aggregate-writable
-slice-aggregate-writable c = let s = c.before in sym (length-take-le (4 * s.args.rows) s.args.t.now s.requires.0)
+slice_bounds-writable-end : tie.Need-slice_bounds-writable-end
+slice_bounds-writable-end c = sym (length-take-le (4 * c.args.rows) c.args.t.now c.requires.0)
 
 writable-requires : tie.Need-writable-requires
 writable-requires c κs = search rules
 
-returns : tie.Need-returns
-returns c =
-    let s = c.before.before.before in
-    sym (tests s ∙ and_first_false _ _ (sym c.before.writable.ensures ∙ not-true _ c.if1.true))
+returns-then-not-writable : tie.Need-returns-then-not-writable
+returns-then-not-writable c =
+    sym (tests c.before.before ∙ and_first_false _ _ (sym c.writable.ensures ∙ not-true _ (ap not c.if-not-writable.true)))
 
-nodes-follow-requires : tie.Need-nodes-follow-requires
-nodes-follow-requires c κs = search rules
+nodes_follow-requires : tie.Need-nodes_follow-requires
+nodes_follow-requires c κs = search rules
 
-returns_2 : tie.Need-returns-2
-returns_2 c =
-    let s = c.before.before.before.before.before in
-    sym (tests s ∙ second_fails (Rows s) (Sets s) (Members s) (sym c.before.nodes-follow.ensures ∙ not-true _ c.if2.true))
+returns-then-not-nodes_follow : tie.Need-returns-then-not-nodes_follow
+returns-then-not-nodes_follow c =
+    sym (tests c.before.before.before.before ∙ second_fails (Rows c.before.before.before.before) (Sets c.before.before.before.before) (Members c.before.before.before.before) (sym c.nodes_follow.ensures ∙ not-true _ (ap not c.if-not-nodes_follow.true)))
 
-slice-aggregate-writable-2 : tie.Need-slice-aggregate-writable-2
-slice-aggregate-writable-2 c =
-    let s = c.before.before.before.before.before.before in
-    sym (length-take-le s.args.m s.args.members.now s.requires.3)
+slice_bounds-writable-end-2 : tie.Need-slice_bounds-writable-end-2
+slice_bounds-writable-end-2 c =
+    sym (length-take-le c.args.m c.args.members.now c.requires.3)
 
 writable-requires-2 : tie.Need-writable-requires-2
 writable-requires-2 c κs = search rules
 
-returns_3 : tie.Need-returns-3
-returns_3 c =
-    let b = c.before.before in
-    let e = b.before.before in
-    let s = e.before.before.before in
-    c.writable2.ensures
+returns : tie.Need-returns
+returns c =
+    c.writable-2.ensures
     ∙ sym
-    (tests s
-    ∙ both_held (Rows s) (Sets s) (Members s)
-    (sym e.before.writable.ensures ∙ not-false _ e.if1.false)
-    (sym b.before.nodes-follow.ensures ∙ not-false _ b.if2.false))
+    (tests c.before.before.before.before.before
+    ∙ both_held (Rows c.before.before.before.before.before) (Sets c.before.before.before.before.before) (Members c.before.before.before.before.before)
+    (sym c.writable.ensures ∙ not-false _ (ap not c.if-not-writable.false))
+    (sym c.nodes_follow.ensures ∙ not-false _ (ap not c.if-not-nodes_follow.false)))
 
 pub proof_writable_spec : {M : Type 1} → statement M
 proof_writable_spec =
     tie.close
     (tie.spec
-    mul-numbers
-    slice-aggregate-writable
+    overflow_mul-numbers
+    slice_bounds-writable-end
     writable-requires
-    returns
-    nodes-follow-requires
-    returns_2
-    slice-aggregate-writable-2
+    returns-then-not-writable
+    nodes_follow-requires
+    returns-then-not-nodes_follow
+    slice_bounds-writable-end-2
     writable-requires-2
-    returns_3)
+    returns)

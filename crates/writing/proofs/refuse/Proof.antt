@@ -8,12 +8,12 @@ use Rattle.writing.proofs.refuse.Tie as tie
 clear-requires : tie.Need-clear-requires
 clear-requires c κs = search rules
 
-same_length : tie.Need-same-length
-same_length c = search rules
+shape_of-out : tie.Need-shape_of-out
+shape_of-out c = search rules
 
 returns : tie.Need-returns
 unfolding written output
-returns c = (refl, c.before.before.clear.ensures ∙ padded_none _)
+returns c = (refl, c.clear.ensures ∙ padded_none _)
 
 pub refuse_spec : {M : Type 1} → statement M
-refuse_spec = tie.close (tie.spec clear-requires same_length returns)
+refuse_spec = tie.close (tie.spec clear-requires shape_of-out returns)

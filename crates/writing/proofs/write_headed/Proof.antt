@@ -1,7 +1,7 @@
 use Prim.Native.Nat.{ℕ, ◌*◌, ◌≤◌}
 use native.Mathlib.Omega.{arith}
-use mathlib.Core.Path.{◌≡◌, sym, ◌∙◌}
-use mathlib.Core.Bool.{Bool, true}
+use mathlib.Core.Path.{◌≡◌, sym, ◌∙◌, ap}
+use mathlib.Core.Bool.{Bool, true, not}
 use mathlib.Core.List.{List}
 use borrow.Author.Rules.{rules}
 use borrow.Author.Tests.{le-leb, lt-leb, leb-true, not-true, not-false}
@@ -35,21 +35,21 @@ abbrev Ok : tie.Start → Bool
 Ok s = all_of five_digits s.args.line.now and all_of five_digits (take (s.args.w * s.args.rows) s.args.t.now)
 
 -- and what is known where each has passed
-abbrev S₁ : tie.Else1 → tie.Start
+abbrev S₁ : tie.Else-not-holds → tie.Start
 S₁ c = c.before.before.before.before.before
 
-held : (c : tie.Else1) → Held (S₁ c) ≡ true
+held : (c : tie.Else-not-holds) → Held (S₁ c) ≡ true
 unfolding holds
-held c = asked_true c.before.holds.ensures c.if1.false
+held c = asked_true c.holds.ensures (ap not c.if-not-holds.false)
 
-within : (c : tie.Else1) → (S₁ c).args.w * (S₁ c).args.rows ≤ length (S₁ c).args.t.now
+within : (c : tie.Else-not-holds) → (S₁ c).args.w * (S₁ c).args.rows ≤ length (S₁ c).args.t.now
 within c = leb-true _ _ (held c)
 
-few : (c : tie.Else2) → Few (S₁ c.before) ≡ true
-few c = le-leb _ _ c.if2.false
+few : (c : tie.Else-most-rows) → Few (S₁ c.before) ≡ true
+few c = le-leb _ _ c.if-most-rows.false
 
-front : (c : tie.Else3) → all_of five_digits (S₁ c.before.before.before).args.line.now ≡ true
-front c = sym c.before.writable.ensures ∙ not-false _ c.if3.false
+front : (c : tie.Else-not-writable) → all_of five_digits (S₁ c.before.before.before).args.line.now ≡ true
+front c = sym c.writable.ensures ∙ not-false _ (ap not c.if-not-writable.false)
 
 holds-requires : tie.Need-holds-requires
 holds-requires c κs = search rules
@@ -57,108 +57,94 @@ holds-requires c κs = search rules
 refuse-requires : tie.Need-refuse-requires
 refuse-requires c κs = search rules
 
-same_length : tie.Need-same-length
-same_length c = search rules
+shape_of-out-then-not-holds : tie.Need-shape_of-out-then-not-holds
+shape_of-out-then-not-holds c = search rules
 
-returns : tie.Need-returns
+returns-then-not-holds : tie.Need-returns-then-not-holds
 unfolding write_headed holds rows_writable
-returns c =
-    let b = c.before.before.before.before in
-    let s = b.before.before.before.before.before in
-    answered (N s)
-    (too_short (Held s) (Few s) (Ok s) (N s) (Whole s) (asked_false b.before.holds.ensures b.if1.true))
-    c.before.before.refuse.ensures
+returns-then-not-holds c =
+    answered (N c.before.before.before.before.before.before.before.before.before)
+    (too_short (Held c.before.before.before.before.before.before.before.before.before) (Few c.before.before.before.before.before.before.before.before.before) (Ok c.before.before.before.before.before.before.before.before.before) (N c.before.before.before.before.before.before.before.before.before) (Whole c.before.before.before.before.before.before.before.before.before) (asked_false c.holds.ensures (ap not c.if-not-holds.true)))
+    c.refuse.ensures
 
-refuse-requires-2 : tie.Need-refuse-requires-2
-refuse-requires-2 c κs = search rules
+refuse-requires-then-most-rows : tie.Need-refuse-requires-then-most-rows
+refuse-requires-then-most-rows c κs = search rules
 
-same_length_2 : tie.Need-same-length-2
-same_length_2 c = search rules
+shape_of-out-then-most-rows : tie.Need-shape_of-out-then-most-rows
+shape_of-out-then-most-rows c = search rules
 
-returns_2 : tie.Need-returns-2
+returns-then-most-rows : tie.Need-returns-then-most-rows
 unfolding write_headed holds rows_writable
-returns_2 c =
-    let b = c.before.before.before.before in
-    let s = S₁ b.before in
-    answered (N s) (too_many (Held s) (Few s) (Ok s) (N s) (Whole s) (held b.before) (lt-leb _ _ b.if2.true)) c.before.before.refuse2.ensures
+returns-then-most-rows c =
+    let s = S₁ c.before.before.before.before.before in
+    answered (N s) (too_many (Held s) (Few s) (Ok s) (N s) (Whole s) (held c.before.before.before.before.before) (lt-leb _ _ c.if-most-rows.true)) c.refuse-then-most-rows.ensures
 
 writable-requires : tie.Need-writable-requires
 writable-requires c κs = search rules
 
-refuse-requires-3 : tie.Need-refuse-requires-3
-refuse-requires-3 c κs = search rules
+refuse-requires-then-not-writable : tie.Need-refuse-requires-then-not-writable
+refuse-requires-then-not-writable c κs = search rules
 
-same_length_3 : tie.Need-same-length-3
-same_length_3 c = search rules
+shape_of-out-then-not-writable : tie.Need-shape_of-out-then-not-writable
+shape_of-out-then-not-writable c = search rules
 
-returns_3 : tie.Need-returns-3
+returns-then-not-writable : tie.Need-returns-then-not-writable
 unfolding write_headed holds rows_writable
-returns_3 c =
-    let b = c.before.before.before.before in
-    let e = b.before.before in
-    let s = S₁ e.before in
+returns-then-not-writable c =
+    let s = S₁ c.before.before.before.before.before.before.before in
     answered (N s)
-    (no_number (Held s) (Few s) (Ok s) (N s) (Whole s) (held e.before) (few e)
-    (and_first_false _ _ (sym b.before.writable.ensures ∙ not-true _ b.if3.true)))
-    c.before.before.refuse3.ensures
+    (no_number (Held s) (Few s) (Ok s) (N s) (Whole s) (held c.before.before.before.before.before.before.before) (few c.before.before.before.before.before.before)
+    (and_first_false _ _ (sym c.writable.ensures ∙ not-true _ (ap not c.if-not-writable.true))))
+    c.refuse-then-not-writable.ensures
 
-mul-count : tie.Need-overflow-mul-count
-mul-count c =
-    let e = c.before.before.before in
-    record { fits = omega (arith, within e, (S₁ e).well-formed.1.1.1.1.1.0.0) }
+overflow_mul-count : tie.Need-overflow_mul-count
+overflow_mul-count c =
+    record { fits = omega (arith, within c.before.before.before, (S₁ c.before.before.before).well_formed.1.1.1.1.1.0.0) }
 
-slice-aggregate-writable : tie.Need-slice-aggregate-writable
-slice-aggregate-writable c =
-    let e = c.before.before.before.before in
-    sym (length-take-le ((S₁ e).args.w * (S₁ e).args.rows) (S₁ e).args.t.now (within e))
+slice_bounds-writable-end : tie.Need-slice_bounds-writable-end
+slice_bounds-writable-end c =
+    sym (length-take-le ((S₁ c.before.before.before).args.w * (S₁ c.before.before.before).args.rows) (S₁ c.before.before.before).args.t.now (within c.before.before.before))
 
 writable-requires-2 : tie.Need-writable-requires-2
 writable-requires-2 c κs = search rules
 
-refuse-requires-4 : tie.Need-refuse-requires-4
-refuse-requires-4 c κs = search rules
+refuse-requires-then-not-writable-2 : tie.Need-refuse-requires-then-not-writable-2
+refuse-requires-then-not-writable-2 c κs = search rules
 
-same-length-4 : tie.Need-same-length-4
-same-length-4 c = search rules
+shape_of-out-then-not-writable-2 : tie.Need-shape_of-out-then-not-writable-2
+shape_of-out-then-not-writable-2 c = search rules
 
-returns_4 : tie.Need-returns-4
+returns-then-not-writable-2 : tie.Need-returns-then-not-writable-2
 unfolding write_headed holds rows_writable
-returns_4 c =
-    let b = c.before.before.before.before in
-    let e = b.before.before.before.before.before in
-    let s = S₁ e.before in
+returns-then-not-writable-2 c =
+    let s = S₁ c.before.before.before.before.before.before.before.before.before in
     answered (N s)
-    (no_number (Held s) (Few s) (Ok s) (N s) (Whole s) (held e.before) (few e)
-    (and_second_false (all_of five_digits s.args.line.now) _ (sym b.before.writable2.ensures ∙ not-true _ b.if4.true)))
-    c.before.before.refuse4.ensures
+    (no_number (Held s) (Few s) (Ok s) (N s) (Whole s) (held c.before.before.before.before.before.before.before.before.before) (few c.before.before.before.before.before.before.before.before)
+    (and_second_false (all_of five_digits s.args.line.now) _ (sym c.writable-2.ensures ∙ not-true _ (ap not c.if-not-writable-2.true))))
+    c.refuse-then-not-writable-2.ensures
 
 -- the rows can be written
-rows : (c : tie.Else4) → all_of five_digits (take ((S₁ c.before.before.before.before.before.before).args.w * (S₁ c.before.before.before.before.before.before).args.rows) (S₁ c.before.before.before.before.before.before).args.t.now) ≡ true
-rows c = sym c.before.writable2.ensures ∙ not-false _ c.if4.false
+rows : (c : tie.Else-not-writable-2) → all_of five_digits (take ((S₁ c.before.before.before.before.before).args.w * (S₁ c.before.before.before.before.before).args.rows) (S₁ c.before.before.before.before.before).args.t.now) ≡ true
+rows c = sym c.writable-2.ensures ∙ not-false _ (ap not c.if-not-writable-2.false)
 
-fill-headed-requires : tie.Need-fill-headed-requires
-fill-headed-requires c κs =
-    let b = c.before in
-    let e = b.before.before.before in
-    let o = e.before.before.before in (
-      (S₁ o).requires.0,
-      record { some = (S₁ o).requires.0.some; digits = front e },
-      record { some = (S₁ o).requires.1; held = within o; digits = rows b },
+fill_headed-requires : tie.Need-fill_headed-requires
+fill_headed-requires c κs =
+    (
+      (S₁ c.before.before.before.before.before.before).requires.0,
+      record { some = (S₁ c.before.before.before.before.before.before).requires.0.some; digits = front c.before.before.before },
+      record { some = (S₁ c.before.before.before.before.before.before).requires.1; held = within c.before.before.before.before.before.before; digits = rows c.before },
     )
 
-same-length-5 : tie.Need-same-length-5
-same-length-5 c = search rules
+shape_of-out : tie.Need-shape_of-out
+shape_of-out c = search rules
 
-returns_5 : tie.Need-returns-5
+returns : tie.Need-returns
 unfolding write_headed holds rows_writable
-returns_5 c =
-    let b = c.before.before.before.before in
-    let e = b.before.before.before in
-    let o = e.before.before.before in
-    let s = S₁ o in
+returns c =
+    let s = S₁ c.before.before.before.before.before.before.before.before.before in
     answered (N s)
-    (left (Held s) (Few s) (Ok s) (N s) (Whole s) (held o) (few e.before.before) (and_both _ _ (front e) (rows b)))
-    c.before.before.fill-headed.ensures
+    (left (Held s) (Few s) (Ok s) (N s) (Whole s) (held c.before.before.before.before.before.before.before.before.before) (few c.before.before.before.before.before.before.before.before) (and_both _ _ (front c.before.before.before.before.before.before) (rows c.before.before.before.before)))
+    c.fill_headed.ensures
 
 pub write_headed_spec : {M : Type 1} → statement M
 write_headed_spec =
@@ -166,21 +152,21 @@ write_headed_spec =
     (tie.spec
     holds-requires
     refuse-requires
-    same_length
-    returns
-    refuse-requires-2
-    same_length_2
-    returns_2
+    shape_of-out-then-not-holds
+    returns-then-not-holds
+    refuse-requires-then-most-rows
+    shape_of-out-then-most-rows
+    returns-then-most-rows
     writable-requires
-    refuse-requires-3
-    same_length_3
-    returns_3
-    mul-count
-    slice-aggregate-writable
+    refuse-requires-then-not-writable
+    shape_of-out-then-not-writable
+    returns-then-not-writable
+    overflow_mul-count
+    slice_bounds-writable-end
     writable-requires-2
-    refuse-requires-4
-    same-length-4
-    returns_4
-    fill-headed-requires
-    same-length-5
-    returns_5)
+    refuse-requires-then-not-writable-2
+    shape_of-out-then-not-writable-2
+    returns-then-not-writable-2
+    fill_headed-requires
+    shape_of-out
+    returns)

@@ -10,36 +10,27 @@ use Rattle.writing.proofs.Writings.{answered}
 use Rattle.writing.proofs.write_model.Statement.{statement}
 use Rattle.writing.proofs.write_model.Tie as tie
 
-slice-aggregate-write-headed : tie.Need-slice-aggregate-write-headed
-slice-aggregate-write-headed c = search rules
+slice_bounds-write_headed-end-2 : tie.Need-slice_bounds-write_headed-end-2
+slice_bounds-write_headed-end-2 c = search rules
 
-slice-aggregate-write-headed-2 : tie.Need-slice-aggregate-write-headed-2
-slice-aggregate-write-headed-2 c = search rules
+write_headed-requires : tie.Need-write_headed-requires
+write_headed-requires c κs = search rules
 
-slice-aggregate-write-headed-3 : tie.Need-slice-aggregate-write-headed-3
-slice-aggregate-write-headed-3 c = search rules
-
-write-headed-requires : tie.Need-write-headed-requires
-write-headed-requires c κs = search rules
-
-same_length : tie.Need-same-length
-same_length c = search rules
+shape_of-out : tie.Need-shape_of-out
+shape_of-out c = search rules
 
 returns : tie.Need-returns
 unfolding bytes model_heading pair_heading
 returns c =
-    let s = c.before.before.before.before.before.before.before.before in
-    answered (length s.args.out.now)
-    (model_headed s.args.n s.args.pairs.now s.args.pair-rows (length s.args.out.now) _ (ap (λ (a : ℤ). a ∷ []) (to_z-of_z s.ranges.n)))
-    c.before.before.write-headed.ensures
+    answered (length c.args.out.now)
+    (model_headed c.args.n c.args.pairs.now c.args.pair_rows (length c.args.out.now) _ (ap (λ (a : ℤ). a ∷ []) (to_z-of_z c.ranges.n)))
+    c.write_headed.ensures
 
 pub write_model_spec : {M : Type 1} → statement M
 write_model_spec =
     tie.close
     (tie.spec
-    slice-aggregate-write-headed
-    slice-aggregate-write-headed-2
-    slice-aggregate-write-headed-3
-    write-headed-requires
-    same_length
+    slice_bounds-write_headed-end-2
+    write_headed-requires
+    shape_of-out
     returns)

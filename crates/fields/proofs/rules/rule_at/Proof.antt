@@ -20,92 +20,92 @@ later z a b c d = omega arith
 last : (z : ℕ) → 4 ≤ z → z < 9 → (z ≡ 4 → ⊥) → (z ≡ 5 → ⊥) → (z ≡ 6 → ⊥) → (z ≡ 7 → ⊥) → z ≡ 8
 last z l h a b c d = omega arith
 
-array-copy-out-result : tie.Need-array-copy-out-result
-array-copy-out-result c = search rules
+bounds-0 : tie.Need-bounds-0
+bounds-0 c = search rules
 
-array-copy-out-result-2 : tie.Need-array-copy-out-result-2
-array-copy-out-result-2 c = search rules
+bounds-1 : tie.Need-bounds-1
+bounds-1 c = search rules
 
-array-copy-out-result-3 : tie.Need-array-copy-out-result-3
-array-copy-out-result-3 c = search rules
+bounds-2 : tie.Need-bounds-2
+bounds-2 c = search rules
 
-array-copy-out-result-4 : tie.Need-array-copy-out-result-4
-array-copy-out-result-4 c = search rules
+bounds-3 : tie.Need-bounds-3
+bounds-3 c = search rules
 
-array-copy-out-result-5 : tie.Need-array-copy-out-result-5
-array-copy-out-result-5 c = search rules
+bounds-4 : tie.Need-bounds-4
+bounds-4 c = search rules
 
-array-copy-out-result-6 : tie.Need-array-copy-out-result-6
-array-copy-out-result-6 c = search rules
+bounds-5 : tie.Need-bounds-5
+bounds-5 c = search rules
 
-array-copy-out-result-7 : tie.Need-array-copy-out-result-7
-array-copy-out-result-7 c = search rules
+bounds-6 : tie.Need-bounds-6
+bounds-6 c = search rules
 
-array-copy-out-result-8 : tie.Need-array-copy-out-result-8
-array-copy-out-result-8 c = search rules
+bounds-7 : tie.Need-bounds-7
+bounds-7 c = search rules
 
-array-copy-out-result-9 : tie.Need-array-copy-out-result-9
-array-copy-out-result-9 c = search rules
+bounds-8 : tie.Need-bounds-8
+bounds-8 c = search rules
 
-returns : tie.Need-returns
+returns-in-0 : tie.Need-returns-in-0
 unfolding rule_of rule_table entry unused nat
-returns c = entry_of 0 _ c.before.match.keys1
+returns-in-0 c = entry_of 0 _ c.in-0.is
 
-returns_2 : tie.Need-returns-2
+returns-in-1 : tie.Need-returns-in-1
 unfolding rule_of rule_table entry unused nat
-returns_2 c = entry_of 1 _ c.before.match.keys2
+returns-in-1 c = entry_of 1 _ c.in-1.is
 
-returns_3 : tie.Need-returns-3
+returns-in-2 : tie.Need-returns-in-2
 unfolding rule_of rule_table entry unused nat
-returns_3 c = entry_of 2 _ c.before.match.keys3
+returns-in-2 c = entry_of 2 _ c.in-2.is
 
-returns_4 : tie.Need-returns-4
+returns-in-3 : tie.Need-returns-in-3
 unfolding rule_of rule_table entry unused nat
-returns_4 c = entry_of 3 _ c.before.match.keys4
+returns-in-3 c = entry_of 3 _ c.in-3.is
 
-returns_5 : tie.Need-returns-5
+returns-in-4 : tie.Need-returns-in-4
 unfolding rule_of rule_table entry unused nat
-returns_5 c = entry_of 4 _ c.before.match.keys5
+returns-in-4 c = entry_of 4 _ c.in-4.is
 
-returns_6 : tie.Need-returns-6
+returns-in-5 : tie.Need-returns-in-5
 unfolding rule_of rule_table entry unused nat
-returns_6 c = entry_of 5 _ c.before.match.keys6
+returns-in-5 c = entry_of 5 _ c.in-5.is
 
-returns_7 : tie.Need-returns-7
+returns-in-6 : tie.Need-returns-in-6
 unfolding rule_of rule_table entry unused nat
-returns_7 c = entry_of 6 _ c.before.match.keys7
+returns-in-6 c = entry_of 6 _ c.in-6.is
 
-returns-8 : tie.Need-returns-8
+returns-in-7 : tie.Need-returns-in-7
 unfolding rule_of rule_table entry unused nat
-returns-8 c = entry_of 7 _ c.before.match.keys8
+returns-in-7 c = entry_of 7 _ c.in-7.is
 
-returns-9 : tie.Need-returns-9
+returns-in_default : tie.Need-returns-in_default
 unfolding rule_of rule_table entry unused nat
-returns-9 c =
-    let r = c.before.match.rest in
+returns-in_default c =
+    let r = c.in_default.in_default-own.rest in
     entry_of 8 _
     (last _ (later _ r.0.0.0.0.0.0.0.1 r.0.0.0.0.0.0.1 r.0.0.0.0.0.1 r.0.0.0.0.1)
-    c.before.before.requires r.0.0.0.1 r.0.0.1 r.0.1 r.1)
+    c.requires r.0.0.0.1 r.0.0.1 r.0.1 r.1)
 
 pub rule_at_spec : {M : Type 1} → statement M
 rule_at_spec =
     tie.close
     (tie.spec
-    array-copy-out-result
-    array-copy-out-result-2
-    array-copy-out-result-3
-    array-copy-out-result-4
-    array-copy-out-result-5
-    array-copy-out-result-6
-    array-copy-out-result-7
-    array-copy-out-result-8
-    array-copy-out-result-9
-    returns
-    returns_2
-    returns_3
-    returns_4
-    returns_5
-    returns_6
-    returns_7
-    returns-8
-    returns-9)
+    bounds-0
+    bounds-1
+    bounds-2
+    bounds-3
+    bounds-4
+    bounds-5
+    bounds-6
+    bounds-7
+    bounds-8
+    returns-in-0
+    returns-in-1
+    returns-in-2
+    returns-in-3
+    returns-in-4
+    returns-in-5
+    returns-in-6
+    returns-in-7
+    returns-in_default)

@@ -10,15 +10,15 @@ use Rattle.folds.proofs.Earlier.{Walk, walk_start, walk_end, walk_found, walk_on
 use Rattle.folds.proofs.links.first.Statement.{statement}
 use Rattle.folds.proofs.links.first.Tie as tie
 
-abbrev invariant_loop : tie.invariant-loop
+abbrev invariant_loop : tie.invariant-loop-rest
 invariant_loop schema s table r h next heads best₀ rest₀ best rest = Walk (formula_rows schema s table) r best rest
 
-abbrev decreases_loop : tie.decreases-loop
+abbrev decreases_loop : tie.decreases-loop-rest
 decreases_loop schema s table r h next heads best₀ rest₀ best rest = rest
 
 -- in a turn of the loop
 abbrev Turn : Type 0
-Turn = tie.In-loop invariant_loop decreases_loop
+Turn = tie.In-loop-rest invariant_loop decreases_loop
 
 abbrev start : Turn → tie.Start invariant_loop decreases_loop
 start c = c.before.before.before.before.before
@@ -26,54 +26,49 @@ start c = c.before.before.before.before.before
 abbrev rows : tie.Start invariant_loop decreases_loop → ℕ → Row
 rows b = let a = b.args in formula_rows a.schema.now a.s a.table.now
 
-row_below : (c : Turn) → c.before.loop.rest - 1 < (start c).args.r
-row_below c = omega (arith, c.before.loop.invariant.within)
+row_below : (c : Turn) → c.loop-rest.rest - 1 < (start c).args.r
+row_below c = omega (arith, c.loop-rest.invariant.within)
 
-number-at-requires : tie.Need-number-at-requires invariant_loop decreases_loop
-number-at-requires c κs = search rules
+number_at-rest-requires : tie.Need-number_at-rest-requires invariant_loop decreases_loop
+number_at-rest-requires c κs = search rules
 
-loop_holds : tie.Need-loop-init invariant_loop decreases_loop
-loop_holds c =
-    let b = c.before.before.before in
-    walk_start (rows b) b.args.r _
-    (subst (Leads (rows b) (rows b b.args.r) b.args.r) (sym (c.number_at.ensures ∙ ap (λ (x : ℕ). get_or b.args.heads.now x 0) b.requires.1.1))
-    (b.requires.1.0.first _))
+loop-rest-init : tie.Need-loop-rest-init invariant_loop decreases_loop
+loop-rest-init c =
+    walk_start (rows c.before.before.before) c.args.r _
+    (subst (Leads (rows c.before.before.before) (rows c.before.before.before c.args.r) c.args.r) (sym (c.number_at-rest.ensures ∙ ap (λ (x : ℕ). get_or c.args.heads.now x 0) c.requires.1.1))
+    (c.requires.1.0.first _))
 
-sub-q : tie.Need-overflow-sub-q invariant_loop decreases_loop
-sub-q c = omega arith
+overflow_sub-q : tie.Need-overflow_sub-q invariant_loop decreases_loop
+overflow_sub-q c = omega arith
 
 same-requires : tie.Need-same-requires invariant_loop decreases_loop
 same-requires c κs = (omega (arith, row_below c, (start c).requires.0), omega (arith, (start c).requires.0))
 
-number-at-requires-2 : tie.Need-number-at-requires-2 invariant_loop decreases_loop
-number-at-requires-2 c κs = search rules
+number_at-rest-requires-in-loop-rest : tie.Need-number_at-rest-requires-in-loop-rest invariant_loop decreases_loop
+number_at-rest-requires-in-loop-rest c κs = search rules
 
 -- what is kept for the row that was looked at
-onward : (c : tie.After-number-at2 invariant_loop decreases_loop) →
-    let t = c.before.before.before in
-    Leads (rows (start t)) (rows (start t) (start t).args.r) (t.before.loop.rest - 1) c.number-at2.result
+onward : (c : tie.After-number_at-rest-in-loop-rest invariant_loop decreases_loop) →
+    Leads (rows (start c.before.before.before)) (rows (start c.before.before.before) (start c.before.before.before).args.r) (c.loop-rest.rest - 1) c.number_at-rest-in-loop-rest.result
 onward c =
-    let t = c.before.before.before in
-    let b = start t in
-    subst (Leads (rows b) (rows b b.args.r) (t.before.loop.rest - 1)) (sym c.number-at2.ensures)
-    (b.pre.1.0.onward _ (row_below t) _ (t.before.loop.invariant.of-place t.loop-test.true))
+    let b = start c.before.before.before in
+    subst (Leads (rows b) (rows b b.args.r) (c.loop-rest.rest - 1)) (sym c.number_at-rest-in-loop-rest.ensures)
+    (b.requires.1.0.onward _ (row_below c.before.before.before) _ (c.loop-rest.invariant.of_place c.loop-rest-test.true))
 
-loop_less : tie.Need-loop-smaller invariant_loop decreases_loop
-loop_less c = let t = c.before.before.before in omega (arith, (onward c).within, t.loop-test.true)
+loop-rest-smaller : tie.Need-loop-rest-smaller invariant_loop decreases_loop
+loop-rest-smaller c = omega (arith, (onward c).within, c.loop-rest-test.true)
 
-loop_again : tie.Need-loop-preserved invariant_loop decreases_loop
-loop_again c =
-    let s = c.before.before in
-    let t = s.before in
-    let b = start t in
-    let l = t.before.loop in
+loop-rest-preserved : tie.Need-loop-rest-preserved invariant_loop decreases_loop
+loop-rest-preserved c =
+    let b = start c.before.before.before in
+    let l = c.loop-rest in
     ⊎_elim
-    (λ w. subst (λ (n : ℕ). Walk (rows b) b.args.r n c.number-at2.result) (sym w.1) (walk_found (rows b) b.args.r _ _ t.loop-test.true l.invariant _ (onward c) (sym s.same.ensures ∙ w.0.taken)))
-    (λ w. subst (λ (n : ℕ). Walk (rows b) b.args.r n c.number-at2.result) (sym w.1) (walk_on (rows b) b.args.r _ _ t.loop-test.true l.invariant _ (onward c) (sym s.same.ensures ∙ w.0.left)))
-    c.before.if1.branch
+    (λ w. subst (λ (n : ℕ). Walk (rows b) b.args.r n c.number_at-rest-in-loop-rest.result) (sym w.best-is) (walk_found (rows b) b.args.r _ _ c.loop-rest-test.true l.invariant _ (onward c) (sym c.same.ensures ∙ w.if-same.true)))
+    (λ w. subst (λ (n : ℕ). Walk (rows b) b.args.r n c.number_at-rest-in-loop-rest.result) (sym w.best-is) (walk_on (rows b) b.args.r _ _ c.loop-rest-test.true l.invariant _ (onward c) (sym c.same.ensures ∙ w.if-same.false)))
+    c.if-same.branch-raw
 
 returns : tie.Need-returns invariant_loop decreases_loop
-returns c = let b = c.before.before.before.before.before in walk_end (rows b) b.args.r _ _ c.loop-test.false c.before.loop.invariant
+returns c = walk_end (rows c.before.before.before.before.before) c.args.r _ _ c.loop-rest-test.false c.loop-rest.invariant
 
 pub first_spec : {M : Type 1} → statement M
 first_spec =
@@ -81,11 +76,11 @@ first_spec =
     (tie.spec
     invariant_loop
     decreases_loop
-    number-at-requires
-    loop_holds
-    sub-q
+    number_at-rest-requires
+    loop-rest-init
+    overflow_sub-q
     same-requires
-    number-at-requires-2
-    loop_less
-    loop_again
+    number_at-rest-requires-in-loop-rest
+    loop-rest-smaller
+    loop-rest-preserved
     returns)

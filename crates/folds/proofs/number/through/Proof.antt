@@ -16,54 +16,48 @@ use Rattle.folds.proofs.number.through.Tie as tie
 less-requires : tie.Need-less-requires
 less-requires c κs = search rules
 
-returns : tie.Need-returns
-returns c =
-    let b = c.before.before.before in
-    let e = to_z-of_z b.ranges.z in
-    e ∙ names_none _ _ _ (sym (c.before.less.ensures ∙ ap (λ (z : ℤ). lt_z z (pos 0)) e) ∙ c.if1.true)
+returns-then-less : tie.Need-returns-then-less
+returns-then-less c =
+    let e = to_z-of_z c.ranges.z in
+    e ∙ names_none _ _ _ (sym (c.less.ensures ∙ ap (λ (z : ℤ). lt_z z (pos 0)) e) ∙ c.if-less.true)
 
-natural_requires : tie.Need-natural-requires
-natural_requires c κs = search rules
+natural-r-requires : tie.Need-natural-r-requires
+natural-r-requires c κs = search rules
 
 -- the number is no less than 0
-natural : (c : tie.After-natural) → lt_z c.before.before.before.before.args.z (pos 0) ≡ false
+natural : (c : tie.After-natural-r) → lt_z c.args.z (pos 0) ≡ false
 natural c =
-    let d = c.before in
-    sym (d.before.less.ensures ∙ ap (λ (z : ℤ). lt_z z (pos 0)) (to_z-of_z d.before.before.before.ranges.z)) ∙ d.if1.false
+    sym (c.less.ensures ∙ ap (λ (z : ℤ). lt_z z (pos 0)) (to_z-of_z c.ranges.z)) ∙ c.if-less.false
 
-named : (c : tie.After-natural) → c.natural.result ≡ nat c.before.before.before.before.args.z
-named c = c.natural.ensures ∙ ap nat (to_z-of_z c.before.before.before.before.ranges.z)
+named : (c : tie.After-natural-r) → c.natural-r.result ≡ nat c.args.z
+named c = c.natural-r.ensures ∙ ap nat (to_z-of_z c.ranges.z)
 
-returns_2 : tie.Need-returns-2
-returns_2 c =
-    let n = c.before in
-    to_z-of_z n.before.before.before.before.ranges.z ∙ names_schema _ _ _ (natural n) (omega (arith, named n, c.if2.true))
+returns-then-r-s : tie.Need-returns-then-r-s
+returns-then-r-s c =
+    to_z-of_z c.ranges.z ∙ names_schema _ _ _ (natural c.before) (omega (arith, named c.before, c.if-r-s.true))
 
-kept_at_requires : tie.Need-kept-at-requires
-kept_at_requires c κs = search rules
+kept_at-requires : tie.Need-kept_at-requires
+kept_at-requires c κs = search rules
 
 of-requires : tie.Need-of-requires
 of-requires c κs =
-    let n = c.before.before in
-    omega (arith, c.kept_at.ensures.0, n.before.before.before.before.requires (n.natural.result - n.before.before.before.before.args.s))
+    omega (arith, c.kept_at.ensures.0, c.requires (c.natural-r.result - c.args.s))
 
-returns_3 : tie.Need-returns-3
-returns_3 c =
-    let n = c.before.before.before in
-    let b = n.before.before.before.before in
-    read_back _ c.of.type-inv
+returns : tie.Need-returns
+returns c =
+    read_back _ c.of.type_inv
     ∙ c.of.ensures
-    ∙ ap pos (c.before.kept_at.ensures.0 ∙ ap (λ (r : ℕ). get_or b.args.numbers.now (r - b.args.s) 0) (named n))
-    ∙ names_proof _ _ _ (natural n) (omega (arith, named n, c.before.before.if2.false))
+    ∙ ap pos (c.kept_at.ensures.0 ∙ ap (λ (r : ℕ). get_or c.args.numbers.now (r - c.args.s) 0) (named c.before.before.before))
+    ∙ names_proof _ _ _ (natural c.before.before.before) (omega (arith, named c.before.before.before, c.if-r-s.false))
 
 pub through_spec : {M : Type 1} → statement M
 through_spec =
     tie.close
     (tie.spec
     less-requires
-    returns
-    natural_requires
-    returns_2
-    kept_at_requires
+    returns-then-less
+    natural-r-requires
+    returns-then-r-s
+    kept_at-requires
     of-requires
-    returns_3)
+    returns)

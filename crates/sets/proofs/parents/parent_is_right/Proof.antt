@@ -1,3 +1,4 @@
+use mathlib.Core.Bool.{not}
 use borrow.Author.Rules.{rules}
 use mathlib.Core.Path.{sym, ◌∙◌, ap}
 use borrow.Author.Tests.{not-true, not-false}
@@ -7,30 +8,29 @@ use Rattle.branch.proofs.ParentLaws.{wrong_up, right_first, right_later}
 use Rattle.sets.proofs.parents.parent_is_right.Statement.{statement}
 use Rattle.sets.proofs.parents.parent_is_right.Tie as tie
 
-up-fits-requires : tie.Need-up-fits-requires
-up-fits-requires c κs = search rules
+up_fits-requires : tie.Need-up_fits-requires
+up_fits-requires c κs = search rules
+
+returns-then-not-up_fits : tie.Need-returns-then-not-up_fits
+returns-then-not-up_fits c =
+    let a = c.args in
+    wrong_up a.nodes.now a.members.now a.root a.j (sym c.up_fits.ensures ∙ not-true c.up_fits.result (ap not c.if-not-up_fits.true))
+
+is_alone-requires : tie.Need-is_alone-requires
+is_alone-requires c κs = search rules
+
+returns-then-j-eq0 : tie.Need-returns-then-j-eq0
+returns-then-j-eq0 c =
+    let a = c.args in
+    c.is_alone.ensures
+    ∙ ap (is_alone a.nodes.now a.members.now a.j) (to_z-of_z c.ranges.root)
+    ∙ right_first a.nodes.now a.members.now a.root a.j (sym c.up_fits.ensures ∙ not-false c.up_fits.result (ap not c.if-not-up_fits.false)) c.if-j-eq0.true
 
 returns : tie.Need-returns
 returns c =
-    let a = c.before.before.args in
-    wrong_up a.nodes.now a.members.now a.root a.j (sym c.before.up-fits.ensures ∙ not-true c.before.up-fits.result c.if1.true)
-
-is-alone-requires : tie.Need-is-alone-requires
-is-alone-requires c κs = search rules
-
-returns_2 : tie.Need-returns-2
-returns_2 c =
-    let b = c.before.before.before.before in
-    let a = b.args in
-    c.is-alone.ensures
-    ∙ ap (is_alone a.nodes.now a.members.now a.j) (to_z-of_z b.ranges.root)
-    ∙ right_first a.nodes.now a.members.now a.root a.j (sym c.before.before.before.up-fits.ensures ∙ not-false c.before.before.before.up-fits.result c.before.before.if1.false) c.before.if2.true
-
-returns_3 : tie.Need-returns-3
-returns_3 c =
-    let a = c.before.before.before.args in
-    right_later a.nodes.now a.members.now a.root a.j (sym c.before.before.up-fits.ensures ∙ not-false c.before.before.up-fits.result c.before.if1.false) c.if2.false
+    let a = c.args in
+    right_later a.nodes.now a.members.now a.root a.j (sym c.up_fits.ensures ∙ not-false c.up_fits.result (ap not c.if-not-up_fits.false)) c.if-j-eq0.false
 
 pub parent_is_right_spec : {M : Type 1} → statement M
 parent_is_right_spec =
-    tie.close (tie.spec up-fits-requires returns is-alone-requires returns_2 returns_3)
+    tie.close (tie.spec up_fits-requires returns-then-not-up_fits is_alone-requires returns-then-j-eq0 returns)
