@@ -6,49 +6,47 @@ use Rattle.convert.proofs.AnswerLaws.{input_found, answer_some}
 use Rattle.convert.proofs.convert.Statement.{statement}
 use Rattle.convert.proofs.convert.Tie as tie
 
-wide-pass-requires : tie.Need-wide-pass-requires
-wide-pass-requires c κs = search rules
+wide_pass-found-requires : tie.Need-wide_pass-found-requires
+wide_pass-found-requires c κs = search rules
 
-enum-known-found : tie.Need-enum-known-found
-enum-known-found c = search rules
+enum_known-found : tie.Need-enum_known-found
+enum_known-found c = search rules
 
 refused-requires : tie.Need-refused-requires
 refused-requires c κs = search rules
 
-enum_told : tie.Need-enum-told
-enum_told c = search rules
+enum_told-1 : tie.Need-enum_told-1
+enum_told-1 c = search rules
 
-plain-rows-requires : tie.Need-plain-rows-requires
-plain-rows-requires c κs = sym c.before.before.before.wide-pass.ensures ∙ c.before.enum_told.given.1
+plain_rows-requires : tie.Need-plain_rows-requires
+plain_rows-requires c κs = sym c.wide_pass-found.ensures ∙ c.in-Nothing.is
 
-same_length : tie.Need-same-length
-same_length c = search rules
+shape_of-plain-in-Found : tie.Need-shape_of-plain-in-Found
+shape_of-plain-in-Found c = search rules
 
-returns : tie.Need-returns
-returns c =
-    let f = c.before.before.before.before in
-    let p = f.before.before in
-    let a = p.before.args in
+returns-in-Found : tie.Need-returns-in-Found
+returns-in-Found c =
+    let a = c.args in
     let w = lent_wide a.wide.now a.h (length a.plain.now) in
-    let h = answer_some w _ _ (input_found w (sym p.wide-pass.ensures ∙ f.found.given.1)) in
-    (c.before.refused.ensures.0 ∙ h.0, c.before.refused.ensures.1 ∙ h.1)
+    let h = answer_some w _ _ (input_found w (sym c.wide_pass-found.ensures ∙ c.in-Found.is)) in
+    (c.refused.ensures.0 ∙ h.0, c.refused.ensures.1 ∙ h.1)
 
-same_length_2 : tie.Need-same-length-2
-same_length_2 c = search rules
+shape_of-plain-in-Nothing : tie.Need-shape_of-plain-in-Nothing
+shape_of-plain-in-Nothing c = search rules
 
-returns_2 : tie.Need-returns-2
-returns_2 c = c.before.plain_rows.ensures
+returns-in-Nothing : tie.Need-returns-in-Nothing
+returns-in-Nothing c = c.plain_rows.ensures
 
 pub convert_spec : {M : Type 1} → statement M
 convert_spec =
     tie.close
     (tie.spec
-    wide-pass-requires
-    enum-known-found
+    wide_pass-found-requires
+    enum_known-found
     refused-requires
-    enum_told
-    plain-rows-requires
-    same_length
-    returns
-    same_length_2
-    returns_2)
+    enum_told-1
+    plain_rows-requires
+    shape_of-plain-in-Found
+    returns-in-Found
+    shape_of-plain-in-Nothing
+    returns-in-Nothing)

@@ -1,7 +1,7 @@
 use Prim.Native.Nat.{◌*◌}
 use native.Mathlib.Omega.{arith}
-use mathlib.Core.Bool.{true}
-use mathlib.Core.Path.{◌≡◌, sym, ◌∙◌}
+use mathlib.Core.Bool.{true, not}
+use mathlib.Core.Path.{◌≡◌, sym, ◌∙◌, ap}
 use lib.ListN.{length}
 use borrow.Author.Tests.{lt-leb, le-leb, leb-true}
 use borrow.Author.Rules.{rules}
@@ -12,61 +12,57 @@ use Rattle.convert.proofs.wide_pass.Statement.{statement}
 use Rattle.convert.proofs.wide_pass.Tie as tie
 
 -- the table holds the rows
-held : (c : tie.Else2) → let a = c.before.before.before.args in holds a.wide.now 4 a.h.rows ≡ true
-held c = asked_true c.before.holds.ensures c.if2.false
+held : (c : tie.Else-not-holds) → let a = c.args in holds a.wide.now 4 a.h.rows ≡ true
+held c = asked_true c.holds.ensures (ap not c.if-not-holds.false)
 
-returns : tie.Need-returns
+returns-then-room-lt4096 : tie.Need-returns-then-room-lt4096
 unfolding input_refusal at_unless
-returns c = sym (otherwise_found _ _ (found_unless _ _ _ (lt-leb 4096 _ c.if1.true)))
+returns-then-room-lt4096 c = sym (otherwise_found _ _ (found_unless _ _ _ (lt-leb 4096 _ c.if-room-lt4096.true)))
 
 holds-requires : tie.Need-holds-requires
 holds-requires c κs = search rules
 
-returns_2 : tie.Need-returns-2
+returns-then-not-holds : tie.Need-returns-then-not-holds
 unfolding input_refusal at_unless whole_unless
-returns_2 c =
+returns-then-not-holds c =
     sym
-    (otherwise_nothing _ _ (nothing_unless _ _ _ (le-leb 4096 _ c.before.before.if1.false))
-    ∙ otherwise_found _ _ (found_unless _ _ _ (asked_false c.before.holds.ensures c.if2.true)))
+    (otherwise_nothing _ _ (nothing_unless _ _ _ (le-leb 4096 _ c.if-room-lt4096.false))
+    ∙ otherwise_found _ _ (found_unless _ _ _ (asked_false c.holds.ensures (ap not c.if-not-holds.true))))
 
-returns_3 : tie.Need-returns-3
+returns-then-h-gt1024 : tie.Need-returns-then-h-gt1024
 unfolding input_refusal at_unless whole_unless
-returns_3 c =
-    let e = c.before.before in
+returns-then-h-gt1024 c =
     sym
-    (otherwise_nothing _ _ (nothing_unless _ _ _ (le-leb 4096 _ e.before.before.if1.false))
-    ∙ otherwise_nothing _ _ (nothing_unless _ _ _ (held e))
-    ∙ otherwise_found _ _ (found_unless _ _ _ (lt-leb _ 1024 c.if3.true)))
+    (otherwise_nothing _ _ (nothing_unless _ _ _ (le-leb 4096 _ c.if-room-lt4096.false))
+    ∙ otherwise_nothing _ _ (nothing_unless _ _ _ (held c.before.before))
+    ∙ otherwise_found _ _ (found_unless _ _ _ (lt-leb _ 1024 c.if-h-gt1024.true)))
 
-slice-aggregate-wide-rows : tie.Need-slice-aggregate-wide-rows
-slice-aggregate-wide-rows c = search rules
+slice_bounds-wide_rows-end : tie.Need-slice_bounds-wide_rows-end
+slice_bounds-wide_rows-end c = search rules
 
-wide-rows-requires : tie.Need-wide-rows-requires
+wide_rows-requires : tie.Need-wide_rows-requires
 unfolding holds
-wide-rows-requires c κs =
-    let e = c.before.before.before in
-    let a = e.before.before.before.args in
-    (c.before.if3.false, leb-true (4 * a.h.rows) (length a.wide.now) (held e), omega arith)
+wide_rows-requires c κs =
+    let a = c.args in
+    (c.if-h-gt1024.false, leb-true (4 * a.h.rows) (length a.wide.now) (held c.before.before.before), omega arith)
 
-returns_4 : tie.Need-returns-4
+returns : tie.Need-returns
 unfolding input_refusal at_unless whole_unless
-returns_4 c =
-    let g = c.before.before.before in
-    let e = g.before.before in
-    c.before.wide_rows.ensures.0
+returns c =
+    c.wide_rows.ensures.0
     ∙ sym
-    (otherwise_nothing _ _ (nothing_unless _ _ _ (le-leb 4096 _ e.before.before.if1.false))
-    ∙ otherwise_nothing _ _ (nothing_unless _ _ _ (held e))
-    ∙ otherwise_nothing _ _ (nothing_unless _ _ _ (le-leb _ 1024 g.if3.false)))
+    (otherwise_nothing _ _ (nothing_unless _ _ _ (le-leb 4096 _ c.if-room-lt4096.false))
+    ∙ otherwise_nothing _ _ (nothing_unless _ _ _ (held c.before.before.before.before.before))
+    ∙ otherwise_nothing _ _ (nothing_unless _ _ _ (le-leb _ 1024 c.if-h-gt1024.false)))
 
 pub wide_pass_spec : {M : Type 1} → statement M
 wide_pass_spec =
     tie.close
     (tie.spec
-    returns
+    returns-then-room-lt4096
     holds-requires
-    returns_2
-    returns_3
-    slice-aggregate-wide-rows
-    wide-rows-requires
-    returns_4)
+    returns-then-not-holds
+    returns-then-h-gt1024
+    slice_bounds-wide_rows-end
+    wide_rows-requires
+    returns)

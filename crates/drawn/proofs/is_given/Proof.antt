@@ -8,97 +8,97 @@ use Rattle.drawn.proofs.DrawnLaws.{read_as, given_parts, given_side, given_unfol
 use Rattle.drawn.proofs.is_given.Statement.{statement}
 use Rattle.drawn.proofs.is_given.Tie as tie
 
-natural-of-requires : tie.Need-natural-of-requires
-natural-of-requires c κs = search rules
+natural_of-on-requires : tie.Need-natural_of-on-requires
+natural_of-on-requires c κs = search rules
 
-is-of-requires : tie.Need-is-of-requires
-is-of-requires c κs = search rules
+is_of-requires : tie.Need-is_of-requires
+is_of-requires c κs = search rules
 
-is-part-requires : tie.Need-is-part-requires
-is-part-requires c κs = search rules
+is_part-requires : tie.Need-is_part-requires
+is_part-requires c κs = search rules
+
+returns-then-is_of : tie.Need-returns-then-is_of
+unfolding of_rule row rows
+returns-then-is_of c =
+    c.is_part.ensures
+    ∙ read_as _ (to_z-of_z c.ranges.z)
+    ∙ rw c.natural_of-on.ensures.0
+    (ap (has c.args.z) (given_parts _ _ _ (sym c.is_of.ensures ∙ c.if-is_of.true)))
+
+is_of-requires-2 : tie.Need-is_of-requires-2
+is_of-requires-2 c κs = search rules
+
+is_side-requires : tie.Need-is_side-requires
+is_side-requires c κs = search rules
+
+returns-then-is_of-2 : tie.Need-returns-then-is_of-2
+unfolding of_rule row rows
+returns-then-is_of-2 c =
+    c.is_side.ensures
+    ∙ read_as _ (to_z-of_z c.ranges.z)
+    ∙ rw c.natural_of-on.ensures.0
+    (ap (has c.args.z) (given_side _ _ _ (sym c.is_of.ensures ∙ c.if-is_of.false) (sym c.is_of-2.ensures ∙ c.if-is_of-2.true)))
+
+is_of-requires-3 : tie.Need-is_of-requires-3
+is_of-requires-3 c κs = search rules
+
+is_unfolded-requires : tie.Need-is_unfolded-requires
+is_unfolded-requires c κs = search rules
+
+returns-then-is_of-3 : tie.Need-returns-then-is_of-3
+unfolding of_rule
+returns-then-is_of-3 c =
+    c.is_unfolded.ensures
+    ∙ read_as _ (to_z-of_z c.ranges.z)
+    ∙ ap (has c.args.z)
+    (given_unfolded _ _ _
+    (sym c.is_of.ensures ∙ c.if-is_of.false)
+    (sym c.is_of-2.ensures ∙ c.if-is_of-2.false)
+    (sym c.is_of-3.ensures ∙ c.if-is_of-3.true))
+
+is_of-requires-4 : tie.Need-is_of-requires-4
+is_of-requires-4 c κs = search rules
+
+is_half-requires : tie.Need-is_half-requires
+is_half-requires c κs = search rules
+
+returns-then-is_of-4 : tie.Need-returns-then-is_of-4
+unfolding of_rule
+returns-then-is_of-4 c =
+    c.is_half.ensures
+    ∙ read_as _ (to_z-of_z c.ranges.z)
+    ∙ ap (has c.args.z)
+    (given_half _ _ _
+    (sym c.is_of.ensures ∙ c.if-is_of.false)
+    (sym c.is_of-2.ensures ∙ c.if-is_of-2.false)
+    (sym c.is_of-3.ensures ∙ c.if-is_of-3.false)
+    (sym c.is_of-4.ensures ∙ c.if-is_of-4.true))
 
 returns : tie.Need-returns
-unfolding of_rule row rows
-returns c =
-    c.is-part.ensures
-    ∙ read_as _ (to_z-of_z c.before.before.before.before.ranges.z)
-    ∙ rw c.before.before.before.natural-of.ensures.0
-    (ap (has c.before.before.before.before.args.z) (given_parts _ _ _ (sym c.before.before.is-of.ensures ∙ c.before.if1.true)))
-
-is-of-requires-2 : tie.Need-is-of-requires-2
-is-of-requires-2 c κs = search rules
-
-is-side-requires : tie.Need-is-side-requires
-is-side-requires c κs = search rules
-
-returns_2 : tie.Need-returns-2
-unfolding of_rule row rows
-returns_2 c =
-    c.is-side.ensures
-    ∙ read_as _ (to_z-of_z c.before.before.before.before.before.before.ranges.z)
-    ∙ rw c.before.before.before.before.before.natural-of.ensures.0
-    (ap (has c.before.before.before.before.before.before.args.z) (given_side _ _ _ (sym c.before.before.before.before.is-of.ensures ∙ c.before.before.before.if1.false) (sym c.before.before.is-of2.ensures ∙ c.before.if2.true)))
-
-is-of-requires-3 : tie.Need-is-of-requires-3
-is-of-requires-3 c κs = search rules
-
-is-unfolded-requires : tie.Need-is-unfolded-requires
-is-unfolded-requires c κs = search rules
-
-returns_3 : tie.Need-returns-3
-unfolding of_rule
-returns_3 c =
-    c.is-unfolded.ensures
-    ∙ read_as _ (to_z-of_z c.before.before.before.before.before.before.before.before.ranges.z)
-    ∙ ap (has c.before.before.before.before.before.before.before.before.args.z)
-    (given_unfolded _ _ _
-    (sym c.before.before.before.before.before.before.is-of.ensures ∙ c.before.before.before.before.before.if1.false)
-    (sym c.before.before.before.before.is-of2.ensures ∙ c.before.before.before.if2.false)
-    (sym c.before.before.is-of3.ensures ∙ c.before.if3.true))
-
-is-of-requires-4 : tie.Need-is-of-requires-4
-is-of-requires-4 c κs = search rules
-
-is-half-requires : tie.Need-is-half-requires
-is-half-requires c κs = search rules
-
-returns_4 : tie.Need-returns-4
-unfolding of_rule
-returns_4 c =
-    c.is-half.ensures
-    ∙ read_as _ (to_z-of_z c.before.before.before.before.before.before.before.before.before.before.ranges.z)
-    ∙ ap (has c.before.before.before.before.before.before.before.before.before.before.args.z)
-    (given_half _ _ _
-    (sym c.before.before.before.before.before.before.before.before.is-of.ensures ∙ c.before.before.before.before.before.before.before.if1.false)
-    (sym c.before.before.before.before.before.before.is-of2.ensures ∙ c.before.before.before.before.before.if2.false)
-    (sym c.before.before.before.before.is-of3.ensures ∙ c.before.before.before.if3.false)
-    (sym c.before.before.is-of4.ensures ∙ c.before.if4.true))
-
-returns_5 : tie.Need-returns-5
 unfolding of_rule has
-returns_5 c =
-    ap (has c.before.before.before.before.before.before.before.before.before.args.z)
+returns c =
+    ap (has c.args.z)
     (given_nothing _ _ _
-    (sym c.before.before.before.before.before.before.before.is-of.ensures ∙ c.before.before.before.before.before.before.if1.false)
-    (sym c.before.before.before.before.before.is-of2.ensures ∙ c.before.before.before.before.if2.false)
-    (sym c.before.before.before.is-of3.ensures ∙ c.before.before.if3.false)
-    (sym c.before.is-of4.ensures ∙ c.if4.false))
+    (sym c.is_of.ensures ∙ c.if-is_of.false)
+    (sym c.is_of-2.ensures ∙ c.if-is_of-2.false)
+    (sym c.is_of-3.ensures ∙ c.if-is_of-3.false)
+    (sym c.is_of-4.ensures ∙ c.if-is_of-4.false))
 
 pub is_given_spec : {M : Type 1} → statement M
 is_given_spec =
     tie.close
     (tie.spec
-    natural-of-requires
-    is-of-requires
-    is-part-requires
-    returns
-    is-of-requires-2
-    is-side-requires
-    returns_2
-    is-of-requires-3
-    is-unfolded-requires
-    returns_3
-    is-of-requires-4
-    is-half-requires
-    returns_4
-    returns_5)
+    natural_of-on-requires
+    is_of-requires
+    is_part-requires
+    returns-then-is_of
+    is_of-requires-2
+    is_side-requires
+    returns-then-is_of-2
+    is_of-requires-3
+    is_unfolded-requires
+    returns-then-is_of-3
+    is_of-requires-4
+    is_half-requires
+    returns-then-is_of-4
+    returns)

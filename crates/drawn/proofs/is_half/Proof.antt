@@ -6,19 +6,19 @@ use Rattle.drawn.proofs.DrawnLaws.{turned, only_first, only_second}
 use Rattle.drawn.proofs.is_half.Statement.{statement}
 use Rattle.drawn.proofs.is_half.Tie as tie
 
-is-of-requires : tie.Need-is-of-requires
-is-of-requires c κs = search rules
+is_of-requires : tie.Need-is_of-requires
+is_of-requires c κs = search rules
+
+returns-then-rank-eq0 : tie.Need-returns-then-rank-eq0
+unfolding column
+returns-then-rank-eq0 c = c.is_of.ensures ∙ turned _ (to_z-of_z c.ranges.z) ∙ only_first _ _ _ c.args.rank c.if-rank-eq0.true
+
+is_of-requires-2 : tie.Need-is_of-requires-2
+is_of-requires-2 c κs = search rules
 
 returns : tie.Need-returns
 unfolding column
-returns c = c.is-of.ensures ∙ turned _ (to_z-of_z c.before.before.ranges.z) ∙ only_first _ _ _ c.before.before.args.rank c.before.if1.true
-
-is-of-requires-2 : tie.Need-is-of-requires-2
-is-of-requires-2 c κs = search rules
-
-returns_2 : tie.Need-returns-2
-unfolding column
-returns_2 c = c.is-of2.ensures ∙ turned _ (to_z-of_z c.before.before.ranges.z) ∙ only_second _ _ _ c.before.before.args.rank c.before.if1.false
+returns c = c.is_of-2.ensures ∙ turned _ (to_z-of_z c.ranges.z) ∙ only_second _ _ _ c.args.rank c.if-rank-eq0.false
 
 pub is_half_spec : {M : Type 1} → statement M
-is_half_spec = tie.close (tie.spec is-of-requires returns is-of-requires-2 returns_2)
+is_half_spec = tie.close (tie.spec is_of-requires returns-then-rank-eq0 is_of-requires-2 returns)

@@ -6,19 +6,19 @@ use Rattle.drawn.proofs.DrawnLaws.{turned, only_first, only_second}
 use Rattle.drawn.proofs.is_side.Statement.{statement}
 use Rattle.drawn.proofs.is_side.Tie as tie
 
-is-in-requires : tie.Need-is-in-requires
-is-in-requires c κs = search rules
+is_in-requires : tie.Need-is_in-requires
+is_in-requires c κs = search rules
+
+returns-then-rank-eq0 : tie.Need-returns-then-rank-eq0
+unfolding column
+returns-then-rank-eq0 c = c.is_in.ensures ∙ turned _ (to_z-of_z c.ranges.z) ∙ only_first _ _ _ c.args.rank c.if-rank-eq0.true
+
+is_in-requires-2 : tie.Need-is_in-requires-2
+is_in-requires-2 c κs = search rules
 
 returns : tie.Need-returns
 unfolding column
-returns c = c.is-in.ensures ∙ turned _ (to_z-of_z c.before.before.ranges.z) ∙ only_first _ _ _ c.before.before.args.rank c.before.if1.true
-
-is-in-requires-2 : tie.Need-is-in-requires-2
-is-in-requires-2 c κs = search rules
-
-returns_2 : tie.Need-returns-2
-unfolding column
-returns_2 c = c.is-in2.ensures ∙ turned _ (to_z-of_z c.before.before.ranges.z) ∙ only_second _ _ _ c.before.before.args.rank c.before.if1.false
+returns c = c.is_in-2.ensures ∙ turned _ (to_z-of_z c.ranges.z) ∙ only_second _ _ _ c.args.rank c.if-rank-eq0.false
 
 pub is_side_spec : {M : Type 1} → statement M
-is_side_spec = tie.close (tie.spec is-in-requires returns is-in-requires-2 returns_2)
+is_side_spec = tie.close (tie.spec is_in-requires returns-then-rank-eq0 is_in-requires-2 returns)

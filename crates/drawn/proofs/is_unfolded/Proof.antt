@@ -6,21 +6,21 @@ use Rattle.drawn.proofs.DrawnLaws.{turned, first_is, second_is}
 use Rattle.drawn.proofs.is_unfolded.Statement.{statement}
 use Rattle.drawn.proofs.is_unfolded.Tie as tie
 
-is-of-requires : tie.Need-is-of-requires
-is-of-requires c κs = search rules
+is_of-requires : tie.Need-is_of-requires
+is_of-requires c κs = search rules
+
+returns-then-is_of : tie.Need-returns-then-is_of
+unfolding column
+returns-then-is_of c = first_is _ _ _ (sym (c.is_of.ensures ∙ turned _ (to_z-of_z c.ranges.z)) ∙ c.if-is_of.true)
+
+is_of-requires-2 : tie.Need-is_of-requires-2
+is_of-requires-2 c κs = search rules
 
 returns : tie.Need-returns
 unfolding column
-returns c = first_is _ _ _ (sym (c.before.is-of.ensures ∙ turned _ (to_z-of_z c.before.before.ranges.z)) ∙ c.if1.true)
-
-is-of-requires-2 : tie.Need-is-of-requires-2
-is-of-requires-2 c κs = search rules
-
-returns_2 : tie.Need-returns-2
-unfolding column
-returns_2 c =
-    let e = to_z-of_z c.before.before.before.ranges.z in
-    c.is-of2.ensures ∙ turned _ e ∙ second_is _ _ _ (sym (c.before.before.is-of.ensures ∙ turned _ e) ∙ c.before.if1.false)
+returns c =
+    let e = to_z-of_z c.ranges.z in
+    c.is_of-2.ensures ∙ turned _ e ∙ second_is _ _ _ (sym (c.is_of.ensures ∙ turned _ e) ∙ c.if-is_of.false)
 
 pub is_unfolded_spec : {M : Type 1} → statement M
-is_unfolded_spec = tie.close (tie.spec is-of-requires returns is-of-requires-2 returns_2)
+is_unfolded_spec = tie.close (tie.spec is_of-requires returns-then-is_of is_of-requires-2 returns)

@@ -9,53 +9,53 @@ use Rattle.limits.proofs.LimitLaws.{reach_test}
 use Rattle.limits.proofs.reaches.Statement.{statement}
 use Rattle.limits.proofs.reaches.Tie as tie
 
-natural-in-requires : tie.Need-natural-in-requires
-natural-in-requires c κs = search rules
+natural_in-requires : tie.Need-natural_in-requires
+natural_in-requires c κs = search rules
 
-natural-in-requires-2 : tie.Need-natural-in-requires-2
-natural-in-requires-2 c κs = search rules
+natural_in-requires-2 : tie.Need-natural_in-requires-2
+natural_in-requires-2 c κs = search rules
 
-add-over : tie.Need-overflow-add-over
+overflow_add-over : tie.Need-overflow_add-over
 unfolding column
-add-over c =
-    let p = c.before.before.requires.1 in
-    omega (arith, c.natural-in2.ensures, c.before.natural-in.ensures, offset_small _ p.0, offset_small _ p.1)
+overflow_add-over c =
+    let p = c.requires.1 in
+    omega (arith, c.natural_in-2.ensures, c.natural_in.ensures, offset_small _ p.0, offset_small _ p.1)
 
-under-in-requires : tie.Need-under-in-requires
-under-in-requires c κs = search rules
+under_in-requires : tie.Need-under_in-requires
+under_in-requires c κs = search rules
 
-under-in-requires-2 : tie.Need-under-in-requires-2
-under-in-requires-2 c κs = search rules
+under_in-requires-2 : tie.Need-under_in-requires-2
+under_in-requires-2 c κs = search rules
 
-add-under : tie.Need-overflow-add-under
+overflow_add-under : tie.Need-overflow_add-under
 unfolding column
-add-under c =
-    let p = c.before.before.before.before.requires.1 in
-    omega (arith, c.under-in2.ensures, c.before.under-in.ensures, offset_small _ p.0, offset_small _ p.1)
+overflow_add-under c =
+    let p = c.requires.1 in
+    omega (arith, c.under_in-2.ensures, c.under_in.ensures, offset_small _ p.0, offset_small _ p.1)
 
-add-result : tie.Need-overflow-add-result
+overflow_add-result : tie.Need-overflow_add-result
 unfolding column
-add-result c =
-    let p = c.before.before.before.before.requires.1 in
-    omega (arith, c.under-in2.ensures, c.before.under-in.ensures, offset_small _ p.0, offset_small _ p.1)
+overflow_add-result c =
+    let p = c.requires.1 in
+    omega (arith, c.under_in-2.ensures, c.under_in.ensures, offset_small _ p.0, offset_small _ p.1)
 
 returns : tie.Need-returns
 unfolding column
 returns c =
     ap₂ leb
-    (ap₂ ◌+◌ c.before.before.before.natural-in.ensures c.before.before.natural-in2.ensures)
-    (ap₂ (λ (m n : ℕ). c.before.before.before.before.args.l + (m + n)) c.before.under-in.ensures c.under-in2.ensures)
+    (ap₂ ◌+◌ c.natural_in.ensures c.natural_in-2.ensures)
+    (ap₂ (λ (m n : ℕ). c.args.l + (m + n)) c.under_in.ensures c.under_in-2.ensures)
     ∙ reach_test _ _ _
 
 pub reaches_spec : {M : Type 1} → statement M
 reaches_spec =
     tie.close
     (tie.spec
-    natural-in-requires
-    natural-in-requires-2
-    add-over
-    under-in-requires
-    under-in-requires-2
-    add-under
-    add-result
+    natural_in-requires
+    natural_in-requires-2
+    overflow_add-over
+    under_in-requires
+    under_in-requires-2
+    overflow_add-under
+    overflow_add-result
     returns)

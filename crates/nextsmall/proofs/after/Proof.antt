@@ -1,6 +1,7 @@
+use mathlib.Core.Bool.{not}
 use Prim.Native.Nat.{◌+◌, ◌<◌}
 use native.Mathlib.Omega.{arith}
-use mathlib.Core.Path.{◌≡◌, ◌∙◌}
+use mathlib.Core.Path.{◌≡◌, ◌∙◌, ap}
 use lib.ListN.{length}
 use borrow.Author.Rules.{rules}
 use Rattle.stab.specs.declared.Refusal.TheVariants.{NotListed}
@@ -15,22 +16,19 @@ use Rattle.nextsmall.proofs.after.Tie as tie
 held : (s : tie.Start) → Holds s.args.rows s.args.table.now (length s.args.next.now)
 held s = both_hold s.args.rows s.args.table.now (length s.args.next.now) s.requires.2 s.requires.3
 
-found : (c : tie.Else1) → c.before.before.place.result < length (tables c.before.before.before.args.rows)
-found c = omega (arith, c.if1.false, c.before.total.ensures.0)
+found : (c : tie.Else-total-i) → c.place-i.result < length (tables c.args.rows)
+found c = omega (arith, c.if-total-i.false, c.total.ensures.0)
 
-abbrev start : tie.Else2 → tie.Start
+abbrev start : tie.Else-not-on_list → tie.Start
 start c = c.before.before.before.before.before
 
 -- the table after the given one
-next_is : (c : tie.Else2) → let s = start c in next_table s.args.rows s.args.table.now ≡ first_from s.args.rows (c.before.before.before.before.place.result + 1)
+next_is : (c : tie.Else-not-on_list) → let s = start c in next_table s.args.rows s.args.table.now ≡ first_from s.args.rows (c.place-i.result + 1)
 next_is c =
-    let e = c.before.before in
-    let p = e.before.before in
-    let s = p.before in
-    next_from s.args.rows p.place.result (found e) s.args.table.now s.requires.1 (p.place.ensures.here (found e))
+    next_from c.args.rows c.place-i.result (found c.before.before) c.args.table.now c.requires.1 (c.place-i.ensures.here (found c.before.before))
 
-place-requires : tie.Need-place-requires
-place-requires c κs = search rules
+place-i-requires : tie.Need-place-i-requires
+place-i-requires c κs = search rules
 
 total-requires : tie.Need-total-requires
 total-requires c κs = search rules
@@ -38,101 +36,88 @@ total-requires c κs = search rules
 refuse-requires : tie.Need-refuse-requires
 refuse-requires c κs = search rules
 
-same_length : tie.Need-same-length
-same_length c = search rules
+shape_of-next-then-total-i : tie.Need-shape_of-next-then-total-i
+shape_of-next-then-total-i c = search rules
 
-returns : tie.Need-returns
-returns c =
-    let f = c.before in
-    let i = f.before.before in
-    let p = i.before.before in
-    let s = p.before in
-    let t = s.args.table.now in
-    let n = s.args.rows in
-    let room = length s.args.next.now in
+returns-then-total-i : tie.Need-returns-then-total-i
+returns-then-total-i c =
+    let t = c.args.table.now in
+    let n = c.args.rows in
+    let room = length c.args.next.now in
     refused_so n t room NotListed _ _
-    (not_listed n t room (held s) (no_fit n t (p.place.ensures.nowhere (omega (arith, i.if1.true, i.before.total.ensures.0)))))
-    f.refuse.ensures.0 f.refuse.ensures.1
+    (not_listed n t room (held c.before.before.before.before.before.before) (no_fit n t (c.place-i.ensures.nowhere (omega (arith, c.if-total-i.true, c.total.ensures.0)))))
+    c.refuse.ensures.0 c.refuse.ensures.1
 
-on-list-requires : tie.Need-on-list-requires
-on-list-requires c κs = let s = c.before.before.before in (s.requires.0, s.requires.1, s.requires.2, c.before.before.place.ensures.fits (found c))
+on_list-requires : tie.Need-on_list-requires
+on_list-requires c κs = (c.requires.0, c.requires.1, c.requires.2, c.place-i.ensures.fits (found c))
 
-refuse-requires-2 : tie.Need-refuse-requires-2
-refuse-requires-2 c κs = search rules
+refuse-requires-then-not-on_list : tie.Need-refuse-requires-then-not-on_list
+refuse-requires-then-not-on_list c κs = search rules
 
-same_length_2 : tie.Need-same-length-2
-same_length_2 c = search rules
+shape_of-next-then-not-on_list : tie.Need-shape_of-next-then-not-on_list
+shape_of-next-then-not-on_list c = search rules
 
-returns_2 : tie.Need-returns-2
-returns_2 c =
-    let f = c.before in
-    let i = f.before.before in
-    let s = i.before.before.before.before.before in
-    let t = s.args.table.now in
-    let n = s.args.rows in
-    let room = length s.args.next.now in
-    refused_so n t room NotListed _ _ (not_listed n t room (held s) (asked_false i.before.on_List.ensures i.if2.true)) f.refuse2.ensures.0 f.refuse2.ensures.1
+returns-then-not-on_list : tie.Need-returns-then-not-on_list
+returns-then-not-on_list c =
+    let t = c.args.table.now in
+    let n = c.args.rows in
+    let room = length c.args.next.now in
+    refused_so n t room NotListed _ _ (not_listed n t room (held c.before.before.before.before.before.before.before.before) (asked_false c.on_list.ensures (ap not c.if-not-on_list.true))) c.refuse-then-not-on_list.ensures.0 c.refuse-then-not-on_list.ensures.1
 
-add-first : tie.Need-overflow-add-first
-add-first c = search rules
+overflow_add-i : tie.Need-overflow_add-i
+overflow_add-i c = search rules
 
-first_requires : tie.Need-first-requires
-first_requires c κs = search rules
+first-requires : tie.Need-first-requires
+first-requires c κs = search rules
 
-mul-clear : tie.Need-overflow-mul-clear
-mul-clear c = search rules
+overflow_mul-rows : tie.Need-overflow_mul-rows
+overflow_mul-rows c = search rules
 
 clear-requires : tie.Need-clear-requires
 clear-requires c κs = search rules
 
-same_length_3 : tie.Need-same-length-3
-same_length_3 c = search rules
+shape_of-next-then-first : tie.Need-shape_of-next-then-first
+shape_of-next-then-first c = search rules
 
-returns_3 : tie.Need-returns-3
-returns_3 c =
-    let i = c.before.before.before in
-    let f = i.before.before in
-    let e = f.before.before in
-    let s = start e in
-    let v = f.first.new.1.1.0 in
-    table_so s.args.rows s.args.table.now _ (held s) (asked_true e.before.on_List.ensures e.if2.false) v _ f.first.auto.1.1.0
-    (next_is e ∙ f.first.ensures.0 i.if3.true) (omega (arith, s.pre.3, f.first.auto.1.1.0)) c.before.clear.ensures
+returns-then-first : tie.Need-returns-then-first
+returns-then-first c =
+    let s = start c.before.before.before.before.before.before.before in
+    let v = c.first.new.table in
+    table_so s.args.rows s.args.table.now _ (held s) (asked_true c.on_list.ensures (ap not c.if-not-on_list.false)) v _ c.first.auto.table
+    (next_is c.before.before.before.before.before.before.before ∙ c.first.ensures.0 c.if-first.true) (omega (arith, s.requires.3, c.first.auto.table)) c.clear.ensures
 
 clear-requires-2 : tie.Need-clear-requires-2
 clear-requires-2 c κs = search rules
 
-same-length-4 : tie.Need-same-length-4
-same-length-4 c = search rules
+shape_of-next : tie.Need-shape_of-next
+shape_of-next c = search rules
 
-returns_4 : tie.Need-returns-4
-returns_4 c =
-    let i = c.before.before.before in
-    let f = i.before.before in
-    let e = f.before.before in
-    let s = start e in
-    let v = f.first.new.1.1.0 in
-    last_so s.args.rows s.args.table.now _ (held s) (asked_true e.before.on_List.ensures e.if2.false) v _ f.first.auto.1.1.0
-    (next_is e ∙ f.first.ensures.1 i.if3.false) c.before.clear2.ensures
+returns : tie.Need-returns
+returns c =
+    let s = start c.before.before.before.before.before.before.before in
+    let v = c.first.new.table in
+    last_so s.args.rows s.args.table.now _ (held s) (asked_true c.on_list.ensures (ap not c.if-not-on_list.false)) v _ c.first.auto.table
+    (next_is c.before.before.before.before.before.before.before ∙ c.first.ensures.1 c.if-first.false) c.clear-2.ensures
 
 pub after_spec : {M : Type 1} → statement M
 after_spec =
     tie.close
     (tie.spec
-    place-requires
+    place-i-requires
     total-requires
     refuse-requires
-    same_length
-    returns
-    on-list-requires
-    refuse-requires-2
-    same_length_2
-    returns_2
-    add-first
-    first_requires
-    mul-clear
+    shape_of-next-then-total-i
+    returns-then-total-i
+    on_list-requires
+    refuse-requires-then-not-on_list
+    shape_of-next-then-not-on_list
+    returns-then-not-on_list
+    overflow_add-i
+    first-requires
+    overflow_mul-rows
     clear-requires
-    same_length_3
-    returns_3
+    shape_of-next-then-first
+    returns-then-first
     clear-requires-2
-    same-length-4
-    returns_4)
+    shape_of-next
+    returns)

@@ -1,3 +1,5 @@
+use mathlib.Core.Bool.{not}
+use mathlib.Core.Path.{ap}
 use Prim.Native.Nat.{◌*◌, ◌≤◌}
 use native.Mathlib.Omega.{arith}
 use lib.ListN.{length}
@@ -11,17 +13,17 @@ use Rattle.nextsmall.proofs.Answers.{no_rows, both_hold, too_short, not_listed, 
 use Rattle.nextsmall.proofs.next_small.Statement.{statement}
 use Rattle.nextsmall.proofs.next_small.Tie as tie
 
-abbrev start : tie.Else2 → tie.Start
-start c = c.before.before.before.before.before
+abbrev start : tie.Else-not-holds-2 → tie.Start
+start c = c.before.before.before.before
 
 -- either table holds the rows
-given : (c : tie.Else2) → 4 * (start c).args.rows ≤ length (start c).args.table.now
+given : (c : tie.Else-not-holds-2) → 4 * (start c).args.rows ≤ length (start c).args.table.now
 unfolding holds
-given c = let i = c.before.before.before in leb-true _ _ (asked_true i.before.holds.ensures i.if1.false)
+given c = leb-true _ _ (asked_true c.holds.ensures (ap not c.if-not-holds.false))
 
-lent : (c : tie.Else2) → 4 * (start c).args.rows ≤ length (start c).args.next.now
+lent : (c : tie.Else-not-holds-2) → 4 * (start c).args.rows ≤ length (start c).args.next.now
 unfolding holds
-lent c = leb-true _ _ (asked_true c.before.holds2.ensures c.if2.false)
+lent c = leb-true _ _ (asked_true c.holds-2.ensures (ap not c.if-not-holds-2.false))
 
 holds-requires : tie.Need-holds-requires
 holds-requires c κs = search rules
@@ -29,85 +31,72 @@ holds-requires c κs = search rules
 refuse-requires : tie.Need-refuse-requires
 refuse-requires c κs = search rules
 
-same_length : tie.Need-same-length
-same_length c = search rules
+shape_of-next-then-not-holds : tie.Need-shape_of-next-then-not-holds
+shape_of-next-then-not-holds c = search rules
 
-returns : tie.Need-returns
-returns c =
-    let f = c.before in
-    let i = f.before.before in
-    let s = i.before.before in
-    let t = s.args.table.now in
-    let n = s.args.rows in
-    let room = length s.args.next.now in
-    refused_so n t room TableTooShort _ _ (too_short n t room (and_first_false _ _ (asked_false i.before.holds.ensures i.if1.true))) f.refuse.ensures.0 f.refuse.ensures.1
+returns-then-not-holds : tie.Need-returns-then-not-holds
+returns-then-not-holds c =
+    let t = c.args.table.now in
+    let n = c.args.rows in
+    let room = length c.args.next.now in
+    refused_so n t room TableTooShort _ _ (too_short n t room (and_first_false _ _ (asked_false c.holds.ensures (ap not c.if-not-holds.true)))) c.refuse.ensures.0 c.refuse.ensures.1
 
 holds-requires-2 : tie.Need-holds-requires-2
 holds-requires-2 c κs = search rules
 
-refuse-requires-2 : tie.Need-refuse-requires-2
-refuse-requires-2 c κs = search rules
+refuse-requires-then-not-holds-2 : tie.Need-refuse-requires-then-not-holds-2
+refuse-requires-then-not-holds-2 c κs = search rules
 
-same_length_2 : tie.Need-same-length-2
-same_length_2 c = search rules
+shape_of-next-then-not-holds-2 : tie.Need-shape_of-next-then-not-holds-2
+shape_of-next-then-not-holds-2 c = search rules
 
-returns_2 : tie.Need-returns-2
+returns-then-not-holds-2 : tie.Need-returns-then-not-holds-2
 unfolding holds
-returns_2 c =
-    let f = c.before in
-    let i = f.before.before in
-    let s = i.before.before.before.before.before in
+returns-then-not-holds-2 c =
+    let t = c.args.table.now in
+    let n = c.args.rows in
+    let room = length c.args.next.now in
+    refused_so n t room TableTooShort _ _ (too_short n t room (and_second_false (holds t 4 n) _ (asked_false c.holds-2.ensures (ap not c.if-not-holds-2.true)))) c.refuse-then-not-holds-2.ensures.0
+    c.refuse-then-not-holds-2.ensures.1
+
+refuse-requires-then-rows-eq0 : tie.Need-refuse-requires-then-rows-eq0
+refuse-requires-then-rows-eq0 c κs = search rules
+
+shape_of-next-then-rows-eq0 : tie.Need-shape_of-next-then-rows-eq0
+shape_of-next-then-rows-eq0 c = search rules
+
+returns-then-rows-eq0 : tie.Need-returns-then-rows-eq0
+returns-then-rows-eq0 c =
+    let s = start c.before.before.before.before in
     let t = s.args.table.now in
     let n = s.args.rows in
     let room = length s.args.next.now in
-    refused_so n t room TableTooShort _ _ (too_short n t room (and_second_false (holds t 4 n) _ (asked_false i.before.holds2.ensures i.if2.true))) f.refuse2.ensures.0
-    f.refuse2.ensures.1
+    refused_so n t room NotListed _ _ (not_listed n t room (both_hold n t room (given c.before.before.before.before) (lent c.before.before.before.before)) (no_rows n t c.if-rows-eq0.true)) c.refuse-then-rows-eq0.ensures.0
+    c.refuse-then-rows-eq0.ensures.1
 
-refuse-requires-3 : tie.Need-refuse-requires-3
-refuse-requires-3 c κs = search rules
+refuse-requires-then-rows-gt3 : tie.Need-refuse-requires-then-rows-gt3
+refuse-requires-then-rows-gt3 c κs = search rules
 
-same_length_3 : tie.Need-same-length-3
-same_length_3 c = search rules
+shape_of-next-then-rows-gt3 : tie.Need-shape_of-next-then-rows-gt3
+shape_of-next-then-rows-gt3 c = search rules
 
-returns_3 : tie.Need-returns-3
-returns_3 c =
-    let f = c.before in
-    let i = f.before.before in
-    let s = start i.before in
+returns-then-rows-gt3 : tie.Need-returns-then-rows-gt3
+returns-then-rows-gt3 c =
+    let s = start c.before.before.before.before.before in
     let t = s.args.table.now in
     let n = s.args.rows in
     let room = length s.args.next.now in
-    refused_so n t room NotListed _ _ (not_listed n t room (both_hold n t room (given i.before) (lent i.before)) (no_rows n t i.if3.true)) f.refuse3.ensures.0
-    f.refuse3.ensures.1
-
-refuse-requires-4 : tie.Need-refuse-requires-4
-refuse-requires-4 c κs = search rules
-
-same-length-4 : tie.Need-same-length-4
-same-length-4 c = search rules
-
-returns_4 : tie.Need-returns-4
-returns_4 c =
-    let f = c.before in
-    let i = f.before.before in
-    let e = i.before.before in
-    let s = start e in
-    let t = s.args.table.now in
-    let n = s.args.rows in
-    let room = length s.args.next.now in
-    refused_so n t room NotListed _ _ (not_listed n t room (both_hold n t room (given e) (lent e)) (too_many n t i.if4.true)) f.refuse4.ensures.0 f.refuse4.ensures.1
+    refused_so n t room NotListed _ _ (not_listed n t room (both_hold n t room (given c.before.before.before.before.before) (lent c.before.before.before.before.before)) (too_many n t c.if-rows-gt3.true)) c.refuse-then-rows-gt3.ensures.0 c.refuse-then-rows-gt3.ensures.1
 
 after-requires : tie.Need-after-requires
 after-requires c κs =
-    let i = c.before in
-    let e = i.before.before in
-    (omega (arith, i.before.if3.false), omega (arith, i.if4.false), given e, lent e)
+    (omega (arith, c.if-rows-eq0.false), omega (arith, c.if-rows-gt3.false), given c.before.before.before, lent c.before.before.before)
 
-same-length-5 : tie.Need-same-length-5
-same-length-5 c = search rules
+shape_of-next : tie.Need-shape_of-next
+shape_of-next c = search rules
 
-returns_5 : tie.Need-returns-5
-returns_5 c = search rules
+returns : tie.Need-returns
+returns c = search rules
 
 pub next_small_spec : {M : Type 1} → statement M
 next_small_spec =
@@ -115,18 +104,18 @@ next_small_spec =
     (tie.spec
     holds-requires
     refuse-requires
-    same_length
-    returns
+    shape_of-next-then-not-holds
+    returns-then-not-holds
     holds-requires-2
-    refuse-requires-2
-    same_length_2
-    returns_2
-    refuse-requires-3
-    same_length_3
-    returns_3
-    refuse-requires-4
-    same-length-4
-    returns_4
+    refuse-requires-then-not-holds-2
+    shape_of-next-then-not-holds-2
+    returns-then-not-holds-2
+    refuse-requires-then-rows-eq0
+    shape_of-next-then-rows-eq0
+    returns-then-rows-eq0
+    refuse-requires-then-rows-gt3
+    shape_of-next-then-rows-gt3
+    returns-then-rows-gt3
     after-requires
-    same-length-5
-    returns_5)
+    shape_of-next
+    returns)

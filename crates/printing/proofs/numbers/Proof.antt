@@ -20,61 +20,58 @@ code_small : (why : Refusal) (p : Place) → Packs (Refused why p) → place_cod
 code_small why Whole h = omega arith
 code_small why (At k) h = omega arith
 
-enum-known-v : tie.Need-enum-known-v
-enum-known-v c = search rules
+enum_known-v : tie.Need-enum_known-v
+enum_known-v c = search rules
 
 -- the counts of an acceptance
-small : (c : tie.After-known-told) → Packs (Accepted c.before.v.given.0.0 c.before.v.given.0.1.0)
-small c = subst Packs c.before.v.given.1 c.before.before.before.requires
+small : (c : tie.In-Accepted) → Packs (Accepted c.in-Accepted.nodes c.in-Accepted.links)
+small c = subst Packs c.in-Accepted.is c.requires
 
 of-requires : tie.Need-of-requires
 of-requires c κs = omega (arith, (small c).0)
 
-of-requires-2 : tie.Need-of-requires-2
-of-requires-2 c κs = omega (arith, (small c.before).1)
+of-requires-in-Accepted : tie.Need-of-requires-in-Accepted
+of-requires-in-Accepted c κs = omega (arith, (small c.before).1)
 
-enum-known-v-2 : tie.Need-enum-known-v-2
-enum-known-v-2 c = search rules
+enum_known-v-in-Refused-1 : tie.Need-enum_known-v-in-Refused-1
+enum_known-v-in-Refused-1 c = search rules
 
 number-requires : tie.Need-number-requires
 number-requires c κs = search rules
 
-of-requires-3 : tie.Need-of-requires-3
-of-requires-3 c κs = omega (arith, c.number.ensures, (number_range c.before.before.v2.given.0.0).1)
+of-requires-in-Refused : tie.Need-of-requires-in-Refused
+of-requires-in-Refused c κs = omega (arith, c.number.ensures, (number_range c.in-Refused.why).1)
 
-place-number-requires : tie.Need-place-number-requires
-place-number-requires c κs =
-    let g = c.before.before.before.v2.given in
-    code_small g.0.0 g.0.1.0 (subst Packs g.1 c.before.before.before.before.before.requires)
+place_number-requires : tie.Need-place_number-requires
+place_number-requires c κs =
+    code_small c.in-Refused.why c.in-Refused.place (subst Packs c.in-Refused.is c.requires)
 
-returns : tie.Need-returns
+returns-in-Accepted : tie.Need-returns-in-Accepted
 unfolding number_row verdict_numbers
-returns c =
-    let g = c.before.before.before.v.given in
+returns-in-Accepted c =
     ap₂ (λ (a b : ℤ). pos 0 ∷ pos 0 ∷ a ∷ b ∷ [])
-    (read_back _ c.before.of.type-inv ∙ c.before.of.ensures)
-    (read_back _ c.of2.type-inv ∙ c.of2.ensures)
-    ∙ ap (λ (v : Verdict). number_row (verdict_numbers v)) (sym g.1)
+    (read_back _ c.of.type_inv ∙ c.of.ensures)
+    (read_back _ c.of-in-Accepted.type_inv ∙ c.of-in-Accepted.ensures)
+    ∙ ap (λ (v : Verdict). number_row (verdict_numbers v)) (sym c.in-Accepted.is)
 
-returns_2 : tie.Need-returns-2
+returns-in-Refused : tie.Need-returns-in-Refused
 unfolding number_row verdict_numbers refused_numbers
-returns_2 c =
-    let g = c.before.before.before.before.v2.given in
+returns-in-Refused c =
     ap₂ (λ (a b : ℤ). a ∷ b ∷ pos 0 ∷ pos 0 ∷ [])
-    (read_back _ c.before.of3.type-inv ∙ c.before.of3.ensures ∙ ap pos c.before.before.number.ensures)
-    (read_back _ c.place-number.type-inv ∙ c.place-number.ensures)
-    ∙ ap (λ (v : Verdict). number_row (verdict_numbers v)) (sym g.1)
+    (read_back _ c.of-in-Refused.type_inv ∙ c.of-in-Refused.ensures ∙ ap pos c.number.ensures)
+    (read_back _ c.place_number.type_inv ∙ c.place_number.ensures)
+    ∙ ap (λ (v : Verdict). number_row (verdict_numbers v)) (sym c.in-Refused.is)
 
 pub numbers_spec : {M : Type 1} → statement M
 numbers_spec =
     tie.close
     (tie.spec
-    enum-known-v
+    enum_known-v
     of-requires
-    of-requires-2
-    enum-known-v-2
+    of-requires-in-Accepted
+    enum_known-v-in-Refused-1
     number-requires
-    of-requires-3
-    place-number-requires
-    returns
-    returns_2)
+    of-requires-in-Refused
+    place_number-requires
+    returns-in-Accepted
+    returns-in-Refused)

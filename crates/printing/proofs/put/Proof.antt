@@ -22,67 +22,58 @@ Row s = row_line s.args.row.now
 clear-requires : tie.Need-clear-requires
 clear-requires c κs = search rules
 
-slice-aggregate-put-heading : tie.Need-slice-aggregate-put-heading
-slice-aggregate-put-heading c = search rules
-
 -- both lines fit into the cleared output
 abbrev Z : tie.After-clear → List ℕ
-Z c = c.clear.new.0
+Z c = c.clear.new.out
 
-cleared : (c : tie.After-clear) → length (Z c) ≡ length c.before.before.before.args.out.now
+cleared : (c : tie.After-clear) → length (Z c) ≡ length c.args.out.now
 cleared c = ap length c.clear.ensures ∙ length-replicate _ 0
 
 fits : (c : tie.After-clear) → length (Heading ++ Row c.before.before.before) ≤ length (Z c)
 unfolding printed_row
-fits c = omega (arith, cleared c, c.before.before.before.requires.2)
+fits c = omega (arith, cleared c, c.requires.2)
 
-put-heading-requires : tie.Need-put-heading-requires
+put_heading-at-requires : tie.Need-put_heading-at-requires
 unfolding bytes
-put-heading-requires c κs =
-    let k = c.before.before.before.before in
-    omega (arith, fits k, length-append Heading (Row k.before.before.before))
+put_heading-at-requires c κs =
+    omega (arith, fits c.before.before.before.before.before, length-append Heading (Row c.before.before.before.before.before.before.before.before))
 
 -- after the heading
-room : (c : tie.After-slice-known3) →
-    let k = c.before.before.before.before.before.before.before in
-    Room Heading (Row k.before.before.before) (Z k) c.before.before.put-heading.new.0 c.before.before.put-heading.result
+room : (c : tie.After-slice_known-3-1) →
+    Room Heading (Row c.before.before.before.before.before.before.before.before.before.before.before) (Z c.before.before.before.before.before.before.before.before) c.put_heading-at.new.out c.put_heading-at.result
 unfolding bytes
 room c =
-    let k = c.before.before.before.before.before.before.before in
-    record { is = c.before.before.put-heading.ensures.1; ends = c.before.before.put-heading.ensures.0; fits = fits k }
+    record { is = c.put_heading-at.ensures.1; ends = c.put_heading-at.ensures.0; fits = fits c.before.before.before.before.before.before.before.before }
 
-sub-put-row : tie.Need-overflow-sub-put-row
-sub-put-row c = lent_start (room c)
+slice_bounds-put_row-count : tie.Need-slice_bounds-put_row-count
+slice_bounds-put_row-count c = lent_start (room c)
 
-part-put-row-start : tie.Need-slice-bounds-put-row-start
-part-put-row-start c = lent_start (room c)
+slice_bounds-put_row-start : tie.Need-slice_bounds-put_row-start
+slice_bounds-put_row-start c = lent_start (room c)
 
-part-put-row-end : tie.Need-slice-bounds-put-row-end
-part-put-row-end c = search rules
+slice_bounds-put_row-end : tie.Need-slice_bounds-put_row-end
+slice_bounds-put_row-end c = search rules
 
-put-row-requires : tie.Need-put-row-requires
-put-row-requires c κs =
-    let p = c.before.before.before.before.before.before.before.before.before.before.before.requires in
+put_row-requires : tie.Need-put_row-requires
+put_row-requires c κs =
+    let p = c.requires in
     (p.0, p.1, lent_room (room c.before))
 
-add-result : tie.Need-overflow-add-result
-add-result c =
-    let b = c.before.before.before.before in
-    count_fits (room b) c.before.before.put-row.ensures.0 (omega (arith, cleared b.before.before.before.before.before.before.before, b.before.before.before.before.before.before.before.before.before.before.well-formed.1.0.0))
+overflow_add-result : tie.Need-overflow_add-result
+overflow_add-result c =
+    count_fits (room c.before.before.before.before) c.put_row.ensures.0 (omega (arith, cleared c.before.before.before.before.before.before.before.before.before.before.before.before, c.well_formed.1.0.0))
 
-same_length : tie.Need-same-length
-same_length c = search rules
+shape_of-out : tie.Need-shape_of-out
+shape_of-out c = search rules
 
 returns : tie.Need-returns
 unfolding printed_row
 returns c =
-    let b = c.before.before.before.before in
-    let k = b.before.before.before.before.before.before.before in
-    let s = k.before.before.before in (
-      lent_count (room b) c.before.before.put-row.ensures.0,
-      lent_over (room b) c.before.before.put-row.ensures.1
-          ∙ ap (over (Heading ++ Row s)) k.clear.ensures
-          ∙ over_zeros (Heading ++ Row s) (length s.args.out.now),
+    (
+      lent_count (room c.before.before.before.before) c.put_row.ensures.0,
+      lent_over (room c.before.before.before.before) c.put_row.ensures.1
+          ∙ ap (over (Heading ++ Row c.before.before.before.before.before.before.before.before.before.before.before.before.before.before.before)) c.clear.ensures
+          ∙ over_zeros (Heading ++ Row c.before.before.before.before.before.before.before.before.before.before.before.before.before.before.before) (length c.args.out.now),
     )
 
 pub put_spec : {M : Type 1} → statement M
@@ -90,12 +81,11 @@ put_spec =
     tie.close
     (tie.spec
     clear-requires
-    slice-aggregate-put-heading
-    put-heading-requires
-    sub-put-row
-    part-put-row-start
-    part-put-row-end
-    put-row-requires
-    add-result
-    same_length
+    put_heading-at-requires
+    slice_bounds-put_row-count
+    slice_bounds-put_row-start
+    slice_bounds-put_row-end
+    put_row-requires
+    overflow_add-result
+    shape_of-out
     returns)

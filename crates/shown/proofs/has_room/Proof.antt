@@ -7,21 +7,21 @@ use Rattle.shown.proofs.Tellings.{room_left}
 use Rattle.shown.proofs.has_room.Statement.{statement}
 use Rattle.shown.proofs.has_room.Tie as tie
 
+returns-then-n-a : tie.Need-returns-then-n-a
+returns-then-n-a c =
+    let s = c.args in
+    sym (lt-leb (s.a + s.b + s.c) s.n (omega arith))
+
+returns-then-n-a-2 : tie.Need-returns-then-n-a-2
+returns-then-n-a-2 c =
+    let s = c.args in
+    sym (lt-leb (s.a + s.b + s.c) s.n (omega arith))
+
+overflow_sub-result-2 : tie.Need-overflow_sub-result-2
+overflow_sub-result-2 c = search rules
+
 returns : tie.Need-returns
-returns c =
-    let s = c.before.args in
-    sym (lt-leb (s.a + s.b + s.c) s.n (omega arith))
-
-returns_2 : tie.Need-returns-2
-returns_2 c =
-    let s = c.before.before.args in
-    sym (lt-leb (s.a + s.b + s.c) s.n (omega arith))
-
-sub-result : tie.Need-overflow-sub-result
-sub-result c = search rules
-
-returns_3 : tie.Need-returns-3
-returns_3 c = room_left _ _ _ _ c.before.if1.false c.if2.false
+returns c = room_left _ _ _ _ c.if-n-a.false c.if-n-a-2.false
 
 pub has_room_spec : {M : Type 1} → statement M
-has_room_spec = tie.close (tie.spec returns returns_2 sub-result returns_3)
+has_room_spec = tie.close (tie.spec returns-then-n-a returns-then-n-a-2 overflow_sub-result-2 returns)

@@ -9,43 +9,36 @@ use Rattle.shown.proofs.Tellings.{name_length, name_end}
 use Rattle.shown.proofs.put_name.Statement.{statement}
 use Rattle.shown.proofs.put_name.Tie as tie
 
-put-heading-requires : tie.Need-put-heading-requires
-put-heading-requires c κs =
-    let s = c.before.before.before in
-    omega (arith, heading_length s.args.name.now, name_length s.args.name.now, s.requires)
+put_heading-n-requires : tie.Need-put_heading-n-requires
+put_heading-n-requires c κs =
+    omega (arith, heading_length c.args.name.now, name_length c.args.name.now, c.requires)
 
-sub_out : tie.Need-overflow-sub-out
-sub_out c =
-    let p = c.before.before in
-    let s = p.before.before.before.before in
-    omega (arith, p.put-heading.ensures.0, heading_length s.args.name.now)
+overflow_sub-out : tie.Need-overflow_sub-out
+overflow_sub-out c =
+    omega (arith, c.put_heading-n.ensures.0, heading_length c.args.name.now)
 
-slice-write-out : tie.Need-slice-write-out
-slice-write-out c =
-    let p = c.before.before in
-    let s = p.before.before.before.before in
+bounds-out-n : tie.Need-bounds-out-n
+bounds-out-n c =
     omega (
       arith,
-      sub_out c,
-      p.put-heading.ensures.0,
-      p.put-heading.auto.0,
-      heading_length s.args.name.now,
-      name_length s.args.name.now,
-      s.requires,
+      overflow_sub-out c,
+      c.put_heading-n.ensures.0,
+      c.put_heading-n.auto.out,
+      heading_length c.args.name.now,
+      name_length c.args.name.now,
+      c.requires,
     )
 
-same_length : tie.Need-same-length
-same_length c = search rules
+shape_of-out : tie.Need-shape_of-out
+shape_of-out c = search rules
 
 returns : tie.Need-returns
 returns c =
-    let p = c.before.before in
-    let s = p.before.before.before.before in
-    let n = p.put-heading.result in (
-      omega (arith, p.put-heading.ensures.0, heading_length s.args.name.now, name_length s.args.name.now),
-      ap (λ (o : List ℕ). set o (n - 1) 58) p.put-heading.ensures.1 ∙ name_end s.args.name.now s.args.out.now n p.put-heading.ensures.0,
+    let n = c.put_heading-n.result in (
+      omega (arith, c.put_heading-n.ensures.0, heading_length c.args.name.now, name_length c.args.name.now),
+      ap (λ (o : List ℕ). set o (n - 1) 58) c.put_heading-n.ensures.1 ∙ name_end c.args.name.now c.args.out.now n c.put_heading-n.ensures.0,
     )
 
 pub put_name_spec : {M : Type 1} → statement M
 put_name_spec =
-    tie.close (tie.spec put-heading-requires sub_out slice-write-out same_length returns)
+    tie.close (tie.spec put_heading-n-requires overflow_sub-out bounds-out-n shape_of-out returns)

@@ -16,51 +16,45 @@ use Rattle.shown.proofs.put_place.Tie as tie
 of-requires : tie.Need-of-requires
 of-requires c κs = search rules
 
-put-number-requires : tie.Need-put-number-requires
+put_number-n-requires : tie.Need-put_number-n-requires
 unfolding five_digits
-put-number-requires c κs =
-    let s = c.before.before.before in
-    subst (λ (z : ℤ). (five_digits z ≡ true) × (length (decimal z) ≤ length s.args.out.now)) (sym (read_back _ c.of.type-inv ∙ c.of.ensures))
-    (le-leb s.args.k 99999 s.requires.0, omega (arith, place_length (decimal (pos s.args.k)), s.requires.1))
+put_number-n-requires c κs =
+    subst (λ (z : ℤ). (five_digits z ≡ true) × (length (decimal z) ≤ length c.args.out.now)) (sym (read_back _ c.of.type_inv ∙ c.of.ensures))
+    (le-leb c.args.k 99999 c.requires.0, omega (arith, place_length (decimal (pos c.args.k)), c.requires.1))
 
 -- what the number's writer says
-wrote : (c : tie.After-put-number) →
-    let s = c.before.before.before.before in
-    (c.put-number.result ≡ length (decimal (pos s.args.k))) × (c.put-number.new.0 ≡ over (decimal (pos s.args.k)) s.args.out.now)
+wrote : (c : tie.After-put_number-n) →
+    (c.put_number-n.result ≡ length (decimal (pos c.args.k))) × (c.put_number-n.new.out ≡ over (decimal (pos c.args.k)) c.args.out.now)
 wrote c =
-    let s = c.before.before.before.before in
-    subst (λ (z : ℤ). (c.put-number.result ≡ length (decimal z)) × (c.put-number.new.0 ≡ over (decimal z) s.args.out.now))
-    (read_back _ c.before.of.type-inv ∙ c.before.of.ensures)
-    c.put-number.ensures
+    subst (λ (z : ℤ). (c.put_number-n.result ≡ length (decimal z)) × (c.put_number-n.new.out ≡ over (decimal z) c.args.out.now))
+    (read_back _ c.of.type_inv ∙ c.of.ensures)
+    c.put_number-n.ensures
 
 -- there is room for two bytes after it
-room : (c : tie.After-put-number) → c.put-number.result + 2 ≤ length c.before.before.before.before.args.out.now
+room : (c : tie.After-put_number-n) → c.put_number-n.result + 2 ≤ length c.args.out.now
 room c =
-    let s = c.before.before.before.before in
-    omega (arith, (wrote c).0, place_length (decimal (pos s.args.k)), s.requires.1)
+    omega (arith, (wrote c).0, place_length (decimal (pos c.args.k)), c.requires.1)
 
-slice-write-out : tie.Need-slice-write-out
-slice-write-out c = let p = c.before.before in omega (arith, room p, p.put-number.auto.0)
+bounds-out-n : tie.Need-bounds-out-n
+bounds-out-n c = omega (arith, room c.before.before, c.put_number-n.auto.out)
 
-add-out : tie.Need-overflow-add-out
-add-out c = let p = c.before.before in omega (arith, room p, p.before.before.before.before.well-formed.0.0)
+overflow_add-out : tie.Need-overflow_add-out
+overflow_add-out c = omega (arith, room c.before.before, c.well_formed.0.0)
 
-slice-write-out-2 : tie.Need-slice-write-out-2
-slice-write-out-2 c = let p = c.before.before in rw length-set (omega (arith, room p, p.put-number.auto.0))
+bounds-out-n-2 : tie.Need-bounds-out-n-2
+bounds-out-n-2 c = rw length-set (omega (arith, room c.before.before, c.put_number-n.auto.out))
 
-add-result : tie.Need-overflow-add-result
-add-result c = let p = c.before.before in omega (arith, room p, p.before.before.before.before.well-formed.0.0)
+overflow_add-result : tie.Need-overflow_add-result
+overflow_add-result c = omega (arith, room c.before.before, c.well_formed.0.0)
 
-same_length : tie.Need-same-length
-same_length c = search rules
+shape_of-out : tie.Need-shape_of-out
+shape_of-out c = search rules
 
 returns : tie.Need-returns
 returns c =
-    let p = c.before.before in
-    let s = p.before.before.before.before in
-    let d = decimal (pos s.args.k) in (
-      omega (arith, (wrote p).0, place_length d),
-      place_end d s.args.out.now p.put-number.new.0 p.put-number.result (wrote p).1 (wrote p).0 (omega (arith, (wrote p).0, room p)),
+    let d = decimal (pos c.args.k) in (
+      omega (arith, (wrote c.before.before).0, place_length d),
+      place_end d c.args.out.now c.put_number-n.new.out c.put_number-n.result (wrote c.before.before).1 (wrote c.before.before).0 (omega (arith, (wrote c.before.before).0, room c.before.before)),
     )
 
 pub put_place_spec : {M : Type 1} → statement M
@@ -68,10 +62,10 @@ put_place_spec =
     tie.close
     (tie.spec
     of-requires
-    put-number-requires
-    slice-write-out
-    add-out
-    slice-write-out-2
-    add-result
-    same_length
+    put_number-n-requires
+    bounds-out-n
+    overflow_add-out
+    bounds-out-n-2
+    overflow_add-result
+    shape_of-out
     returns)

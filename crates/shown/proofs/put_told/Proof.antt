@@ -37,91 +37,89 @@ fits s = omega (arith, ap length (text s), s.requires.1)
 fits₂ : (s : tie.Start) → length (A s ++ B s) ≤ length (L s)
 fits₂ s = omega (arith, fits s, length-append (A s ++ B s) (C s))
 
-put-name-requires : tie.Need-put-name-requires
-put-name-requires c κs =
-    let s = c.before.before.before.before in
-    omega (arith, fits₂ s, length-append (A s) (B s))
+put_name-at-requires : tie.Need-put_name-at-requires
+put_name-at-requires c κs =
+    omega (arith, fits₂ c.before.before.before.before, length-append (A c.before.before.before.before) (B c.before.before.before.before))
 
 -- after the name
-abbrev S₁ : tie.After-slice-known2 → tie.Start
+abbrev S₁ : tie.After-slice_known-2-1 → tie.Start
 S₁ c = c.before.before.before.before.before.before.before
 
-room₁ : (c : tie.After-slice-known2) → Room (A (S₁ c)) (B (S₁ c)) (L (S₁ c)) c.before.before.put-name.new.0 c.before.before.put-name.result
-room₁ c = record { is = c.before.before.put-name.ensures.1; ends = c.before.before.put-name.ensures.0; fits = fits₂ (S₁ c) }
+room₁ : (c : tie.After-slice_known-2-1) → Room (A (S₁ c)) (B (S₁ c)) (L (S₁ c)) c.put_name-at.new.out c.put_name-at.result
+room₁ c = record { is = c.put_name-at.ensures.1; ends = c.put_name-at.ensures.0; fits = fits₂ (S₁ c) }
 
-sub-put-place : tie.Need-overflow-sub-put-place
-sub-put-place c = lent_start (room₁ c)
+slice_bounds-put_place-count : tie.Need-slice_bounds-put_place-count
+slice_bounds-put_place-count c = lent_start (room₁ c)
 
-part-put-place-start : tie.Need-slice-bounds-put-place-start
-part-put-place-start c = lent_start (room₁ c)
+slice_bounds-put_place-start : tie.Need-slice_bounds-put_place-start
+slice_bounds-put_place-start c = lent_start (room₁ c)
 
-part-put-place-end : tie.Need-slice-bounds-put-place-end
-part-put-place-end c = search rules
+slice_bounds-put_place-end : tie.Need-slice_bounds-put_place-end
+slice_bounds-put_place-end c = search rules
 
-put-place-requires : tie.Need-put-place-requires
-put-place-requires c κs = ((S₁ c.before).requires.0, lent_room (room₁ c.before))
+put_place-at-requires : tie.Need-put_place-at-requires
+put_place-at-requires c κs = ((S₁ c.before).requires.0, lent_room (room₁ c.before))
 
 -- after the number
-abbrev S₂ : tie.After-slice-known3 → tie.Start
+abbrev S₂ : tie.After-slice_known-3-1 → tie.Start
 S₂ c = S₁ c.before.before.before.before
 
-abbrev at₂ : tie.After-slice-known3 → ℕ
-at₂ c = c.before.before.before.before.before.before.put-name.result + c.before.before.put-place.result
+abbrev at₂ : tie.After-slice_known-3-1 → ℕ
+at₂ c = c.put_name-at.result + c.put_place-at.result
 
-abbrev out₂ : tie.After-slice-known3 → List ℕ
+abbrev out₂ : tie.After-slice_known-3-1 → List ℕ
 out₂ c =
-    let h = c.before.before.before.before.before.before.put-name in
-    put_mid h.result (length h.new.0 - h.result) h.new.0 c.before.before.put-place.new.0
+    let h = c.put_name-at in
+    put_mid h.result (length h.new.out - h.result) h.new.out c.put_place-at.new.out
 
-room₂ : (c : tie.After-slice-known3) → Room (A (S₂ c) ++ B (S₂ c)) (C (S₂ c)) (L (S₂ c)) (out₂ c) (at₂ c)
+room₂ : (c : tie.After-slice_known-3-1) → Room (A (S₂ c) ++ B (S₂ c)) (C (S₂ c)) (L (S₂ c)) (out₂ c) (at₂ c)
 room₂ c =
     let r = room₁ c.before.before.before.before in
-    record { is = lent_over r c.before.before.put-place.ensures.1; ends = lent_count r c.before.before.put-place.ensures.0; fits = fits (S₂ c) }
+    record { is = lent_over r c.put_place-at.ensures.1; ends = lent_count r c.put_place-at.ensures.0; fits = fits (S₂ c) }
 
-add_at : tie.Need-overflow-add-at
-add_at c = count_fits (room₁ c.before.before.before.before) c.before.before.put-place.ensures.0 (S₂ c).well-formed.0.0
+overflow_add-at : tie.Need-overflow_add-at
+overflow_add-at c = count_fits (room₁ c.before.before.before.before) c.put_place-at.ensures.0 (S₂ c).well_formed.0.0
 
-sub-put-heading : tie.Need-overflow-sub-put-heading
-sub-put-heading c = lent_start (room₂ c)
+slice_bounds-put_heading-count : tie.Need-slice_bounds-put_heading-count
+slice_bounds-put_heading-count c = lent_start (room₂ c)
 
-part-put-heading-start : tie.Need-slice-bounds-put-heading-start
-part-put-heading-start c = lent_start (room₂ c)
+slice_bounds-put_heading-start : tie.Need-slice_bounds-put_heading-start
+slice_bounds-put_heading-start c = lent_start (room₂ c)
 
-part-put-heading-end : tie.Need-slice-bounds-put-heading-end
-part-put-heading-end c = search rules
+slice_bounds-put_heading-end : tie.Need-slice_bounds-put_heading-end
+slice_bounds-put_heading-end c = search rules
 
-put-heading-requires : tie.Need-put-heading-requires
-put-heading-requires c κs = lent_room (room₂ c.before)
+put_heading-requires : tie.Need-put_heading-requires
+put_heading-requires c κs = lent_room (room₂ c.before)
 
-add-result : tie.Need-overflow-add-result
-add-result c =
-    let b = c.before.before.before.before in
-    count_fits (room₂ b) c.before.before.put-heading.ensures.0 (S₂ b).well-formed.0.0
+overflow_add-result : tie.Need-overflow_add-result
+overflow_add-result c =
+    count_fits (room₂ c.before.before.before.before) c.put_heading.ensures.0 (S₂ c.before.before.before.before).well_formed.0.0
 
-same_length : tie.Need-same-length
-same_length c = search rules
+shape_of-out : tie.Need-shape_of-out
+shape_of-out c = search rules
 
 returns : tie.Need-returns
 returns c =
-    let b = c.before.before.before.before in (
-      lent_count (room₂ b) c.before.before.put-heading.ensures.0 ∙ ap length (sym (text (S₂ b))),
-      lent_over (room₂ b) c.before.before.put-heading.ensures.1 ∙ ap (λ (x : List ℕ). over x (L (S₂ b))) (sym (text (S₂ b))),
+    (
+      lent_count (room₂ c.before.before.before.before) c.put_heading.ensures.0 ∙ ap length (sym (text (S₂ c.before.before.before.before))),
+      lent_over (room₂ c.before.before.before.before) c.put_heading.ensures.1 ∙ ap (λ (x : List ℕ). over x (L (S₂ c.before.before.before.before))) (sym (text (S₂ c.before.before.before.before))),
     )
 
 pub put_told_spec : {M : Type 1} → statement M
 put_told_spec =
     tie.close
     (tie.spec
-    put-name-requires
-    sub-put-place
-    part-put-place-start
-    part-put-place-end
-    put-place-requires
-    add_at
-    sub-put-heading
-    part-put-heading-start
-    part-put-heading-end
-    put-heading-requires
-    add-result
-    same_length
+    put_name-at-requires
+    slice_bounds-put_place-count
+    slice_bounds-put_place-start
+    slice_bounds-put_place-end
+    put_place-at-requires
+    overflow_add-at
+    slice_bounds-put_heading-count
+    slice_bounds-put_heading-start
+    slice_bounds-put_heading-end
+    put_heading-requires
+    overflow_add-result
+    shape_of-out
     returns)

@@ -12,52 +12,51 @@ use Rattle.convert.proofs.ImageLaws.{kind_number, given_most}
 use Rattle.convert.proofs.rows.count.Statement.{statement}
 use Rattle.convert.proofs.rows.count.Tie as tie
 
-abbrev invariant_loop : tie.invariant-loop
+abbrev invariant_loop : tie.invariant-loop-r
 invariant_loop wide n s₀ r₀ s r = (r ≤ n) × (s ≡ start_of (row_at wide) r) × (s ≤ 6 * r)
 
-abbrev decreases_loop : tie.decreases-loop
+abbrev decreases_loop : tie.decreases-loop-r
 decreases_loop wide n s₀ r₀ s r = n - r
 
-loop_holds : tie.Need-loop-init invariant_loop decreases_loop
+loop-r-init : tie.Need-loop-r-init invariant_loop decreases_loop
 unfolding start_of
-loop_holds c = (omega arith, refl, omega arith)
+loop-r-init c = (omega arith, refl, omega arith)
 
-mul_natural_at : tie.Need-overflow-mul-natural-at invariant_loop decreases_loop
-mul_natural_at c = omega arith
+overflow_mul-r : tie.Need-overflow_mul-r invariant_loop decreases_loop
+overflow_mul-r c = omega arith
 
-natural_at_requires : tie.Need-natural-at-requires invariant_loop decreases_loop
-natural_at_requires c κs = search rules
+natural_at-requires : tie.Need-natural_at-requires invariant_loop decreases_loop
+natural_at-requires c κs = search rules
 
-rows-given-requires : tie.Need-rows-given-requires invariant_loop decreases_loop
-rows-given-requires c κs = search rules
+rows_given-s-requires : tie.Need-rows_given-s-requires invariant_loop decreases_loop
+rows_given-s-requires c κs = search rules
 
-add-s : tie.Need-overflow-add-s invariant_loop decreases_loop
-add-s c = omega (arith, c.rows-given.ensures, given_most (wide_kind_of (pos c.before.natural-at.result)))
+overflow_add-s : tie.Need-overflow_add-s invariant_loop decreases_loop
+overflow_add-s c = omega (arith, c.rows_given-s.ensures, given_most (wide_kind_of (pos c.natural_at.result)))
 
-add_r : tie.Need-overflow-add-r invariant_loop decreases_loop
-add_r c = omega arith
+overflow_add-r : tie.Need-overflow_add-r invariant_loop decreases_loop
+overflow_add-r c = omega arith
 
-loop_less : tie.Need-loop-smaller invariant_loop decreases_loop
-loop_less c = omega arith
+loop-r-smaller : tie.Need-loop-r-smaller invariant_loop decreases_loop
+loop-r-smaller c = omega arith
 
-loop_again : tie.Need-loop-preserved invariant_loop decreases_loop
+loop-r-preserved : tie.Need-loop-r-preserved invariant_loop decreases_loop
 unfolding row_at
-loop_again c =
-    let l = c.before.before.before.loop in
-    let s = c.before.before.before.before in
-    let rows = row_at s.args.wide.now in
-    let k = c.before.natural-at in
+loop-r-preserved c =
+    let l = c.loop-r in
+    let rows = row_at c.args.wide.now in
+    let k = c.natural_at in
     let most = given_most (wide_kind_of (pos k.result)) in
-    let given = c.rows-given.ensures ∙ ap (λ (z : ℤ). rows_given (wide_kind_of z)) (ap pos k.ensures.0 ∙ sym (kind_number rows l.r (s.requires.1 l.r c.before.before.loop-test.true))) in (
+    let given = c.rows_given-s.ensures ∙ ap (λ (z : ℤ). rows_given (wide_kind_of z)) (ap pos k.ensures.0 ∙ sym (kind_number rows l.r (c.requires.1 l.r c.loop-r-test.true))) in (
       omega arith,
-      ap (λ (m : ℕ). m + c.rows-given.result) l.invariant.1 ∙ ap (λ (m : ℕ). start_of rows l.r + m) given ∙ sym (start_next rows l.r) ∙ ap (start_of rows) (sym (add-one l.r)),
-      omega (arith, c.rows-given.ensures),
+      ap (λ (m : ℕ). m + c.rows_given-s.result) l.invariant.1 ∙ ap (λ (m : ℕ). start_of rows l.r + m) given ∙ sym (start_next rows l.r) ∙ ap (start_of rows) (sym (add-one l.r)),
+      omega (arith, c.rows_given-s.ensures),
     )
 
 returns : tie.Need-returns invariant_loop decreases_loop
 returns c =
-    let l = c.before.loop in
-    let a = c.before.before.args in
+    let l = c.loop-r in
+    let a = c.args in
     let e : l.r ≡ a.n = omega arith in
     l.invariant.1 ∙ ap (start_of (row_at a.wide.now)) e
 
@@ -67,12 +66,12 @@ count_spec =
     (tie.spec
     invariant_loop
     decreases_loop
-    loop_holds
-    mul_natural_at
-    natural_at_requires
-    rows-given-requires
-    add-s
-    add_r
-    loop_less
-    loop_again
+    loop-r-init
+    overflow_mul-r
+    natural_at-requires
+    rows_given-s-requires
+    overflow_add-s
+    overflow_add-r
+    loop-r-smaller
+    loop-r-preserved
     returns)

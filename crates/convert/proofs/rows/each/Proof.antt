@@ -12,7 +12,7 @@ use Rattle.convert.proofs.WriteLaws.{then_written}
 use Rattle.convert.proofs.rows.each.Statement.{statement}
 use Rattle.convert.proofs.rows.each.Tie as tie
 
-abbrev invariant_loop : tie.invariant-loop
+abbrev invariant_loop : tie.invariant-loop-r
 invariant_loop wide n images₀ plain₀ s₀ r₀ images plain s r =
     (r ≤ n)
     × (length images ≡ length images₀)
@@ -21,63 +21,59 @@ invariant_loop wide n images₀ plain₀ s₀ r₀ images plain s r =
     × Imaged (row_at wide) images r
     × (plain ≡ written plain₀ 0 (plain_rows (row_at wide) r))
 
-abbrev decreases_loop : tie.decreases-loop
+abbrev decreases_loop : tie.decreases-loop-r
 decreases_loop wide n images₀ plain₀ s₀ r₀ images plain s r = n - r
 
-loop_holds : tie.Need-loop-init invariant_loop decreases_loop
+loop-r-init : tie.Need-loop-r-init invariant_loop decreases_loop
 unfolding start_of plain_rows written columns
-loop_holds c = (omega arith, refl, refl, refl, imaged_none _ _, refl)
+loop-r-init c = (omega arith, refl, refl, refl, imaged_none _ _, refl)
 
-step-requires : tie.Need-step-requires invariant_loop decreases_loop
-step-requires c κs =
-    let t = c.before.before in
-    let l = t.before.loop in
-    let s = t.before.before.before in
-    let rows = row_at s.args.wide.now in
-    let p = s.requires.0 in (
+step-s-requires : tie.Need-step-s-requires invariant_loop decreases_loop
+step-s-requires c κs =
+    let l = c.loop-r in
+    let rows = row_at c.args.wide.now in
+    let p = c.requires.0 in (
       record {
         few = omega arith;
         formed = λ a h. p.formed a (omega arith);
-        limit = omega (arith, start_rises rows (suc l.r) s.args.n (omega arith), p.limit);
+        limit = omega (arith, start_rises rows (suc l.r) c.args.n (omega arith), p.limit);
         room = omega (arith, l.invariant.2, p.room);
       },
       l.invariant.3,
       l.invariant.4,
-      omega (arith, l.invariant.1, s.requires.1),
+      omega (arith, l.invariant.1, c.requires.1),
     )
 
-add_r : tie.Need-overflow-add-r invariant_loop decreases_loop
-add_r c = omega arith
+overflow_add-r : tie.Need-overflow_add-r invariant_loop decreases_loop
+overflow_add-r c = omega arith
 
-loop_less : tie.Need-loop-smaller invariant_loop decreases_loop
-loop_less c = omega arith
+loop-r-smaller : tie.Need-loop-r-smaller invariant_loop decreases_loop
+loop-r-smaller c = omega arith
 
-loop_again : tie.Need-loop-preserved invariant_loop decreases_loop
+loop-r-preserved : tie.Need-loop-r-preserved invariant_loop decreases_loop
 unfolding plain_rows
-loop_again c =
-    let w = c.before.before.before in
-    let l = w.before.before.before.before.loop in
-    let s = w.before.before.before.before.before.before in
-    let rows = row_at s.args.wide.now in
+loop-r-preserved c =
+    let l = c.loop-r in
+    let rows = row_at c.args.wide.now in
     let e = sym (add-one l.r) in (
       omega arith,
-      w.step.auto.1.1.1.0 ∙ l.invariant.1,
-      w.step.auto.1.1.1.1.0 ∙ l.invariant.2,
-      w.step.ensures.0 ∙ ap (start_of rows) e,
-      subst (λ (m : ℕ). Imaged rows w.step.new.1.1.1.0 m) e w.step.ensures.1.0,
-      then_written s.args.plain.now 0 l.s (plain_rows rows l.r) (given rows l.r) l.invariant.5 w.step.ensures.1.1 (omega (arith, l.invariant.3, plain_length rows l.r)) (ap (plain_rows rows) e),
+      c.step-s.auto.images ∙ l.invariant.1,
+      c.step-s.auto.plain ∙ l.invariant.2,
+      c.step-s.ensures.0 ∙ ap (start_of rows) e,
+      subst (λ (m : ℕ). Imaged rows c.step-s.new.images m) e c.step-s.ensures.1.0,
+      then_written c.args.plain.now 0 l.s (plain_rows rows l.r) (given rows l.r) l.invariant.5 c.step-s.ensures.1.1 (omega (arith, l.invariant.3, plain_length rows l.r)) (ap (plain_rows rows) e),
     )
 
-same_length : tie.Need-same-length invariant_loop decreases_loop
-same_length c = c.before.loop.invariant.1
+shape_of-images : tie.Need-shape_of-images invariant_loop decreases_loop
+shape_of-images c = c.loop-r.invariant.1
 
-same_length_2 : tie.Need-same-length-2 invariant_loop decreases_loop
-same_length_2 c = c.before.loop.invariant.2
+shape_of-plain : tie.Need-shape_of-plain invariant_loop decreases_loop
+shape_of-plain c = c.loop-r.invariant.2
 
 returns : tie.Need-returns invariant_loop decreases_loop
 returns c =
-    let l = c.before.loop in
-    let a = c.before.before.before.args in
+    let l = c.loop-r in
+    let a = c.args in
     let rows = row_at a.wide.now in
     let e : l.r ≡ a.n = omega arith in (
       subst (λ (m : ℕ). Imaged rows l.images m) e l.invariant.4,
@@ -90,11 +86,11 @@ each_spec =
     (tie.spec
     invariant_loop
     decreases_loop
-    loop_holds
-    step-requires
-    add_r
-    loop_less
-    loop_again
-    same_length
-    same_length_2
+    loop-r-init
+    step-s-requires
+    overflow_add-r
+    loop-r-smaller
+    loop-r-preserved
+    shape_of-images
+    shape_of-plain
     returns)

@@ -23,81 +23,68 @@ smaller s =
     parts_below (row_at s.args.wide.now) s.args.r s.requires.0.formed (two_kind s.args.k (omega (arith, s.requires.1)) s.requires.2) (ap wide_kind_of s.requires.0.kind)
 
 -- what stands for the sides
-left : (c : tie.After-image-of) → Plains c.image-of.result
+left : (c : tie.After-image_of-f) → Plains c.image_of-f.result
 unfolding column
-left c = subst Plains (sym c.image-of.ensures) (image_plain c.before.before.requires.3 _ (smaller c.before.before).0)
+left c = subst Plains (sym c.image_of-f.ensures) (image_plain c.requires.3 _ (smaller c.before.before).0)
 
-right : (c : tie.After-image-of2) → Plains c.image-of2.result
+right : (c : tie.After-image_of-g) → Plains c.image_of-g.result
 unfolding column
-right c = let s = c.before.before.before in subst Plains (sym c.image-of2.ensures) (image_plain s.requires.3 _ (smaller s).1)
+right c = subst Plains (sym c.image_of-g.ensures) (image_plain c.requires.3 _ (smaller c.before.before.before).1)
 
-image-of-requires : tie.Need-image-of-requires
-image-of-requires c κs = search rules
+image_of-f-requires : tie.Need-image_of-f-requires
+image_of-f-requires c κs = search rules
 
-image-of-requires-2 : tie.Need-image-of-requires-2
-image-of-requires-2 c κs = search rules
+image_of-g-requires : tie.Need-image_of-g-requires
+image_of-g-requires c κs = search rules
 
-put-six-requires : tie.Need-put-six-requires
-put-six-requires c κs =
-    let g = c.before.before in
-    let f = g.before in
-    let s = f.before.before in
-    ((omega (arith, six s, s.requires.0.limit), s.requires.0.room), ((left f).own, (left f).negated, (right g).own, (right g).negated))
+put_six-requires : tie.Need-put_six-requires
+put_six-requires c κs =
+    ((omega (arith, six c.before.before.before.before.before, c.requires.0.limit), c.requires.0.room), ((left c.before.before.before).own, (left c.before.before.before).negated, (right c.before.before).own, (right c.before.before).negated))
 
-same_length : tie.Need-same-length
-same_length c = search rules
+shape_of-plain-then-k-eq10 : tie.Need-shape_of-plain-then-k-eq10
+shape_of-plain-then-k-eq10 c = search rules
+
+returns-then-k-eq10 : tie.Need-returns-then-k-eq10
+unfolding column
+returns-then-k-eq10 c =
+    let x = c.args in
+    let e = c.requires.0.kind ∙ ap pos c.if-k-eq10.true in
+    c.put_six.ensures
+    ∙ ap (written x.plain.now x.s)
+    ((λ i. six_rows (c.requires.0.start i) (c.image_of-f.ensures i) (c.image_of-g.ensures i))
+    ∙ equivalent_given (row_at x.wide.now) x.r c.requires.0.formed x.images.now c.requires.3 e)
+
+swapped-h-requires : tie.Need-swapped-h-requires
+swapped-h-requires c κs = search rules
+
+put_six-requires-2 : tie.Need-put_six-requires-2
+put_six-requires-2 c κs =
+    let h = subst Plains (sym c.swapped-h.ensures) (swapped_plain (right c.before.before.before)) in
+    ((omega (arith, six c.before.before.before.before.before.before, c.requires.0.limit), c.requires.0.room), ((left c.before.before.before.before).own, (left c.before.before.before.before).negated, h.own, h.negated))
+
+shape_of-plain : tie.Need-shape_of-plain
+shape_of-plain c = search rules
 
 returns : tie.Need-returns
 unfolding column
 returns c =
-    let g = c.before.before.before.before in
-    let f = g.before in
-    let s = f.before.before in
-    let x = s.args in
-    let e = s.requires.0.kind ∙ ap pos c.before.before.before.if1.true in
-    c.before.put_six.ensures
+    let x = c.args in
+    let eleven : x.k ≡ 11 = omega (arith, c.if-k-eq10.false, c.requires.1, c.requires.2) in
+    c.put_six-2.ensures
     ∙ ap (written x.plain.now x.s)
-    ((λ i. six_rows (s.requires.0.start i) (f.image-of.ensures i) (g.image-of2.ensures i))
-    ∙ equivalent_given (row_at x.wide.now) x.r s.requires.0.formed x.images.now s.requires.3 e)
-
-swapped-requires : tie.Need-swapped-requires
-swapped-requires c κs = search rules
-
-put-six-requires-2 : tie.Need-put-six-requires-2
-put-six-requires-2 c κs =
-    let g = c.before.before.before in
-    let f = g.before in
-    let s = f.before.before in
-    let h = subst Plains (sym c.before.swapped.ensures) (swapped_plain (right g)) in
-    ((omega (arith, six s, s.requires.0.limit), s.requires.0.room), ((left f).own, (left f).negated, h.own, h.negated))
-
-same_length_2 : tie.Need-same-length-2
-same_length_2 c = search rules
-
-returns_2 : tie.Need-returns-2
-unfolding column
-returns_2 c =
-    let w = c.before.before.before in
-    let g = w.before.before in
-    let f = g.before in
-    let s = f.before.before in
-    let x = s.args in
-    let eleven : x.k ≡ 11 = omega (arith, w.before.if1.false, s.requires.1, s.requires.2) in
-    c.before.put-six2.ensures
-    ∙ ap (written x.plain.now x.s)
-    ((λ i. six_rows (s.requires.0.start i) (f.image-of.ensures i) ((w.swapped.ensures ∙ ap swapped g.image-of2.ensures) i))
-    ∙ exclusive_given (row_at x.wide.now) x.r s.requires.0.formed x.images.now s.requires.3 (s.requires.0.kind ∙ ap pos eleven))
+    ((λ i. six_rows (c.requires.0.start i) (c.image_of-f.ensures i) ((c.swapped-h.ensures ∙ ap swapped c.image_of-g.ensures) i))
+    ∙ exclusive_given (row_at x.wide.now) x.r c.requires.0.formed x.images.now c.requires.3 (c.requires.0.kind ∙ ap pos eleven))
 
 pub equivalence_spec : {M : Type 1} → statement M
 equivalence_spec =
     tie.close
     (tie.spec
-    image-of-requires
-    image-of-requires-2
-    put-six-requires
-    same_length
-    returns
-    swapped-requires
-    put-six-requires-2
-    same_length_2
-    returns_2)
+    image_of-f-requires
+    image_of-g-requires
+    put_six-requires
+    shape_of-plain-then-k-eq10
+    returns-then-k-eq10
+    swapped-h-requires
+    put_six-requires-2
+    shape_of-plain
+    returns)

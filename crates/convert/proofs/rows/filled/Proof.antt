@@ -12,68 +12,67 @@ use Rattle.convert.proofs.WriteLaws.{filled_is}
 use Rattle.convert.proofs.rows.filled.Statement.{statement}
 use Rattle.convert.proofs.rows.filled.Tie as tie
 
-abbrev emitted : tie.After-kept-at → tie.After-each
+abbrev emitted : tie.After-kept_at → tie.After-each
 emitted c = c.before.before.before.before.before.before.before
 
-abbrev start : tie.After-kept-at → tie.Start
+abbrev start : tie.After-kept_at → tie.Start
 start c = (emitted c).before.before.before
 
-root_is : (c : tie.After-kept-at) → let a = (start c).args in c.kept_at.result ≡ (image (row_at a.wide.now) a.root).own
+root_is : (c : tie.After-kept_at) → let a = (start c).args in c.kept_at.result ≡ (image (row_at a.wide.now) a.root).own
 unfolding stands_of image_at
 root_is c =
     let s = start c in
-    c.kept_at.ensures.0 ∙ ap (λ (m : Stands). m.own) ((emitted c).each.ensures.0.known s.args.root s.pre.1)
+    c.kept_at.ensures.0 ∙ ap (λ (m : Stands). m.own) ((emitted c).each.ensures.0.known s.args.root s.requires.1)
 
-slice-aggregate-each : tie.Need-slice-aggregate-each
-slice-aggregate-each c = search rules
+slice_bounds-each-end : tie.Need-slice_bounds-each-end
+slice_bounds-each-end c = search rules
 
 each-requires : tie.Need-each-requires
 each-requires c κs = search rules
 
-mul-clear : tie.Need-overflow-mul-clear
-mul-clear c = search rules
+overflow_mul-m : tie.Need-overflow_mul-m
+overflow_mul-m c = search rules
 
 clear-requires : tie.Need-clear-requires
 clear-requires c κs = search rules
 
-slice-aggregate-kept-at : tie.Need-slice-aggregate-kept-at
-slice-aggregate-kept-at c = search rules
+slice_bounds-kept_at-end : tie.Need-slice_bounds-kept_at-end
+slice_bounds-kept_at-end c = search rules
 
-mul_kept_at : tie.Need-overflow-mul-kept-at
-mul_kept_at c = search rules
+overflow_mul-root : tie.Need-overflow_mul-root
+overflow_mul-root c = search rules
 
-kept_at_requires : tie.Need-kept-at-requires
-kept_at_requires c κs = search rules
+kept_at-requires : tie.Need-kept_at-requires
+kept_at-requires c κs = search rules
 
 of-requires : tie.Need-of-requires
-of-requires c κs = let s = start c in omega (arith, root_is c, (emitted c).each.ensures.0.own s.args.root s.pre.1)
+of-requires c κs = let s = start c in omega (arith, root_is c, (emitted c).each.ensures.0.own s.args.root s.requires.1)
 
-same_length : tie.Need-same-length
-same_length c = search rules
+shape_of-plain : tie.Need-shape_of-plain
+shape_of-plain c = search rules
 
 returns : tie.Need-returns
 returns c =
-    let k = c.before in
-    let e = emitted k in
-    let s = start k in
+    let e = emitted c.before in
+    let s = start c.before in
     let a = s.args in
     let ws = plain_rows (row_at a.wide.now) a.n in (
-      read_back _ c.of.type-inv ∙ c.of.ensures ∙ ap pos (root_is k),
-      k.before.before.before.clear.ensures
-          ∙ filled_is a.plain.now a.m ws e.each.ensures.1 (s.pre.2 ∙ sym (plain_length (row_at a.wide.now) a.n)) (omega (arith, s.pre.2, s.pre.0.limit, s.pre.0.room)),
+      read_back _ c.of.type_inv ∙ c.of.ensures ∙ ap pos (root_is c.before),
+      c.clear.ensures
+          ∙ filled_is a.plain.now a.m ws e.each.ensures.1 (s.requires.2 ∙ sym (plain_length (row_at a.wide.now) a.n)) (omega (arith, s.requires.2, s.requires.0.limit, s.requires.0.room)),
     )
 
 pub filled_spec : {M : Type 1} → statement M
 filled_spec =
     tie.close
     (tie.spec
-    slice-aggregate-each
+    slice_bounds-each-end
     each-requires
-    mul-clear
+    overflow_mul-m
     clear-requires
-    slice-aggregate-kept-at
-    mul_kept_at
-    kept_at_requires
+    slice_bounds-kept_at-end
+    overflow_mul-root
+    kept_at-requires
     of-requires
-    same_length
+    shape_of-plain
     returns)

@@ -8,47 +8,45 @@ use Rattle.convert.specs.Emission.{image_at}
 use Rattle.convert.proofs.rows.image_of.Statement.{statement}
 use Rattle.convert.proofs.rows.image_of.Tie as tie
 
-mul_natural_at : tie.Need-overflow-mul-natural-at
-mul_natural_at c = search rules
+overflow_mul-r : tie.Need-overflow_mul-r
+overflow_mul-r c = search rules
 
-add_natural_at : tie.Need-overflow-add-natural-at
-add_natural_at c = search rules
+overflow_add-r : tie.Need-overflow_add-r
+overflow_add-r c = search rules
 
-natural_at_requires : tie.Need-natural-at-requires
-natural_at_requires c κs = search rules
+natural_at-at-requires : tie.Need-natural_at-at-requires
+natural_at-at-requires c κs = search rules
 
-mul_at : tie.Need-overflow-mul-at
-mul_at c = search rules
+overflow_mul-at : tie.Need-overflow_mul-at
+overflow_mul-at c = search rules
 
-kept_at_requires : tie.Need-kept-at-requires
-kept_at_requires c κs = search rules
+kept_at-requires : tie.Need-kept_at-requires
+kept_at-requires c κs = search rules
 
-add_kept_at : tie.Need-overflow-add-kept-at
-add_kept_at c = search rules
+overflow_add-at : tie.Need-overflow_add-at
+overflow_add-at c = search rules
 
-kept_at_requires_2 : tie.Need-kept-at-requires-2
-kept_at_requires_2 c κs = search rules
+kept_at-requires-2 : tie.Need-kept_at-requires-2
+kept_at-requires-2 c κs = search rules
 
 returns : tie.Need-returns
 unfolding image_at
 returns c =
-    let n = c.before.before in
-    let start = n.before.before in
-    let a = start.args in
-    let e = n.natural-at.ensures.0 ∙ ap nat (column_at a.wide.now a.r a.k start.requires.1) in
-    let own = c.before.kept_at.ensures.0 ∙ ap (λ (m : ℕ). get_or a.images.now (2 * m) 0) e in
-    let negated = c.kept-at2.ensures.0 ∙ ap (λ (m : ℕ). get_or a.images.now (2 * m + 1) 0) e in
+    let a = c.args in
+    let e = c.natural_at-at.ensures.0 ∙ ap nat (column_at a.wide.now a.r a.k c.requires.1) in
+    let own = c.kept_at.ensures.0 ∙ ap (λ (m : ℕ). get_or a.images.now (2 * m) 0) e in
+    let negated = c.kept_at-2.ensures.0 ∙ ap (λ (m : ℕ). get_or a.images.now (2 * m + 1) 0) e in
     λ i. record { own = own i; negated = negated i }
 
 pub image_of_spec : {M : Type 1} → statement M
 image_of_spec =
     tie.close
     (tie.spec
-    mul_natural_at
-    add_natural_at
-    natural_at_requires
-    mul_at
-    kept_at_requires
-    add_kept_at
-    kept_at_requires_2
+    overflow_mul-r
+    overflow_add-r
+    natural_at-at-requires
+    overflow_mul-at
+    kept_at-requires
+    overflow_add-at
+    kept_at-requires-2
     returns)

@@ -35,88 +35,76 @@ smaller : (s : tie.Start) → let w = row_at s.args.wide.now s.args.r in (below 
 smaller s = parts_below (row_at s.args.wide.now) s.args.r s.requires.0.formed (parts s) (ap wide_kind_of s.requires.0.kind)
 
 -- what stands for the parts
-left : (c : tie.After-image-of) → Plains c.image-of.result
+left : (c : tie.After-image_of-f) → Plains c.image_of-f.result
 unfolding column
-left c = subst Plains (sym c.image-of.ensures) (image_plain c.before.before.requires.4 _ (smaller c.before.before).0)
+left c = subst Plains (sym c.image_of-f.ensures) (image_plain c.requires.4 _ (smaller c.before.before).0)
 
-right : (c : tie.After-image-of2) → Plains c.image-of2.result
+right : (c : tie.After-image_of-g) → Plains c.image_of-g.result
 unfolding column
-right c = let s = c.before.before.before in subst Plains (sym c.image-of2.ensures) (image_plain s.requires.4 _ (smaller s).1)
+right c = subst Plains (sym c.image_of-g.ensures) (image_plain c.requires.4 _ (smaller c.before.before.before).1)
 
-image-of-requires : tie.Need-image-of-requires
-image-of-requires c κs = search rules
+image_of-f-requires : tie.Need-image_of-f-requires
+image_of-f-requires c κs = search rules
 
-image-of-requires-2 : tie.Need-image-of-requires-2
-image-of-requires-2 c κs = search rules
+image_of-g-requires : tie.Need-image_of-g-requires
+image_of-g-requires c κs = search rules
 
 paired-requires : tie.Need-paired-requires
 paired-requires c κs = search rules
 
-put-both-requires : tie.Need-put-both-requires
-put-both-requires c κs =
-    let g = c.before.before.before in
-    let f = g.before in
-    let s = f.before.before in (
-      (omega arith, c.paired.ensures.1, omega (arith, two s, s.requires.0.limit, s.requires.0.room)),
-      ((left f).own, (left f).negated, (right g).own, (right g).negated),
+put_both-requires : tie.Need-put_both-requires
+put_both-requires c κs =
+    (
+      (omega arith, c.paired.ensures.1, omega (arith, two c.before.before.before.before.before.before, c.requires.0.limit, c.requires.0.room)),
+      ((left c.before.before.before.before).own, (left c.before.before.before.before).negated, (right c.before.before.before).own, (right c.before.before.before).negated),
     )
 
-same_length : tie.Need-same-length
-same_length c = search rules
+shape_of-plain-then-k-lt6 : tie.Need-shape_of-plain-then-k-lt6
+shape_of-plain-then-k-lt6 c = search rules
+
+returns-then-k-lt6 : tie.Need-returns-then-k-lt6
+unfolding column
+returns-then-k-lt6 c =
+    let x = c.args in
+    c.put_both.ensures
+    ∙ ap (written x.plain.now x.s)
+    ((λ i. both_rows x.k (c.paired.ensures.0 i) (c.image_of-f.ensures i) (c.image_of-g.ensures i))
+    ∙ junction_given (row_at x.wide.now) x.r c.requires.0.formed x.images.now c.requires.4 x.k c.requires.1 c.if-k-lt6.true c.requires.0.kind)
+
+swapped-h-requires : tie.Need-swapped-h-requires
+swapped-h-requires c κs = search rules
+
+put_both-requires-2 : tie.Need-put_both-requires-2
+put_both-requires-2 c κs =
+    let h = subst Plains (sym c.swapped-h.ensures) (swapped_plain (left c.before.before.before.before)) in (
+      (omega arith, omega arith, omega (arith, two c.before.before.before.before.before.before, c.requires.0.limit, c.requires.0.room)),
+      (h.own, h.negated, (right c.before.before.before).own, (right c.before.before.before).negated),
+    )
+
+shape_of-plain : tie.Need-shape_of-plain
+shape_of-plain c = search rules
 
 returns : tie.Need-returns
 unfolding column
 returns c =
-    let g = c.before.before.before.before.before in
-    let f = g.before in
-    let s = f.before.before in
-    let x = s.args in
-    c.before.put_both.ensures
+    let x = c.args in
+    let nine : x.k ≡ 9 = omega (arith, c.requires.3 c.if-k-lt6.false, c.requires.2) in
+    c.put_both-2.ensures
     ∙ ap (written x.plain.now x.s)
-    ((λ i. both_rows x.k (c.before.before.paired.ensures.0 i) (f.image-of.ensures i) (g.image-of2.ensures i))
-    ∙ junction_given (row_at x.wide.now) x.r s.requires.0.formed x.images.now s.requires.4 x.k s.requires.1 c.before.before.before.before.if1.true s.requires.0.kind)
-
-swapped-requires : tie.Need-swapped-requires
-swapped-requires c κs = search rules
-
-put-both-requires-2 : tie.Need-put-both-requires-2
-put-both-requires-2 c κs =
-    let g = c.before.before.before in
-    let f = g.before in
-    let s = f.before.before in
-    let h = subst Plains (sym c.before.swapped.ensures) (swapped_plain (left f)) in (
-      (omega arith, omega arith, omega (arith, two s, s.requires.0.limit, s.requires.0.room)),
-      (h.own, h.negated, (right g).own, (right g).negated),
-    )
-
-same_length_2 : tie.Need-same-length-2
-same_length_2 c = search rules
-
-returns_2 : tie.Need-returns-2
-unfolding column
-returns_2 c =
-    let w = c.before.before.before in
-    let g = w.before.before in
-    let f = g.before in
-    let s = f.before.before in
-    let x = s.args in
-    let nine : x.k ≡ 9 = omega (arith, s.requires.3 w.before.if1.false, s.requires.2) in
-    c.before.put-both2.ensures
-    ∙ ap (written x.plain.now x.s)
-    (ap₂ (both_rows 5 4) (w.swapped.ensures ∙ ap swapped f.image-of.ensures) g.image-of2.ensures
-    ∙ implication_given (row_at x.wide.now) x.r s.requires.0.formed x.images.now s.requires.4 (s.requires.0.kind ∙ ap pos nine))
+    (ap₂ (both_rows 5 4) (c.swapped-h.ensures ∙ ap swapped c.image_of-f.ensures) c.image_of-g.ensures
+    ∙ implication_given (row_at x.wide.now) x.r c.requires.0.formed x.images.now c.requires.4 (c.requires.0.kind ∙ ap pos nine))
 
 pub junction_spec : {M : Type 1} → statement M
 junction_spec =
     tie.close
     (tie.spec
-    image-of-requires
-    image-of-requires-2
+    image_of-f-requires
+    image_of-g-requires
     paired-requires
-    put-both-requires
-    same_length
-    returns
-    swapped-requires
-    put-both-requires-2
-    same_length_2
-    returns_2)
+    put_both-requires
+    shape_of-plain-then-k-lt6
+    returns-then-k-lt6
+    swapped-h-requires
+    put_both-requires-2
+    shape_of-plain
+    returns)

@@ -4,32 +4,32 @@ use Rattle.convert.specs.Emission.{image_kept}
 use Rattle.convert.proofs.rows.keep.Statement.{statement}
 use Rattle.convert.proofs.rows.keep.Tie as tie
 
-mul_at : tie.Need-overflow-mul-at
-mul_at c = search rules
+overflow_mul-at : tie.Need-overflow_mul-at
+overflow_mul-at c = search rules
 
-cast-images : tie.Need-overflow-cast-images
-cast-images c = search rules
+overflow_cast-images : tie.Need-overflow_cast-images
+overflow_cast-images c = search rules
 
-mul-images : tie.Need-overflow-mul-images
-mul-images c = search rules
+offset_bounds-images-at : tie.Need-offset_bounds-images-at
+offset_bounds-images-at c = search rules
 
-slice-write-images : tie.Need-slice-write-images
-slice-write-images c = search rules
+bounds-images-at : tie.Need-bounds-images-at
+bounds-images-at c = search rules
 
-cast-images-2 : tie.Need-overflow-cast-images-2
-cast-images-2 c = search rules
+overflow_cast-images-2 : tie.Need-overflow_cast-images-2
+overflow_cast-images-2 c = search rules
 
-add-images : tie.Need-overflow-add-images
-add-images c = search rules
+overflow_add-images : tie.Need-overflow_add-images
+overflow_add-images c = search rules
 
-mul-images-2 : tie.Need-overflow-mul-images-2
-mul-images-2 c = search rules
+offset_bounds-images-at-2 : tie.Need-offset_bounds-images-at-2
+offset_bounds-images-at-2 c = search rules
 
-slice-write-images-2 : tie.Need-slice-write-images-2
-slice-write-images-2 c = search rules
+bounds-images-at-2 : tie.Need-bounds-images-at-2
+bounds-images-at-2 c = search rules
 
-same_length : tie.Need-same-length
-same_length c = search rules
+shape_of-images : tie.Need-shape_of-images
+shape_of-images c = search rules
 
 returns : tie.Need-returns
 unfolding image_kept
@@ -39,13 +39,13 @@ pub keep_spec : {M : Type 1} → statement M
 keep_spec =
     tie.close
     (tie.spec
-    mul_at
-    cast-images
-    mul-images
-    slice-write-images
-    cast-images-2
-    add-images
-    mul-images-2
-    slice-write-images-2
-    same_length
+    overflow_mul-at
+    overflow_cast-images
+    offset_bounds-images-at
+    bounds-images-at
+    overflow_cast-images-2
+    overflow_add-images
+    offset_bounds-images-at-2
+    bounds-images-at-2
+    shape_of-images
     returns)

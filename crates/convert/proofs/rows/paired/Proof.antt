@@ -6,19 +6,19 @@ use Rattle.convert.specs.Emission.{paired}
 use Rattle.convert.proofs.rows.paired.Statement.{statement}
 use Rattle.convert.proofs.rows.paired.Tie as tie
 
-add-result : tie.Need-overflow-add-result
-add-result c = search rules
+overflow_add-result : tie.Need-overflow_add-result
+overflow_add-result c = search rules
 
-sub-result : tie.Need-overflow-sub-result
-sub-result c = search rules
+overflow_sub-result : tie.Need-overflow_sub-result
+overflow_sub-result c = search rules
 
-returns : tie.Need-returns
+returns-then-k-eq0 : tie.Need-returns-then-k-eq0
 unfolding paired
-returns c = (sym (if_true _ _ _ (eq-eqb _ 0 c.if1.true)), search rules)
+returns-then-k-eq0 c = (sym (if_true _ _ _ (eq-eqb _ 0 c.if-k-eq0.true)), search rules)
 
-returns_2 : tie.Need-returns-2
+returns-else-k-eq0 : tie.Need-returns-else-k-eq0
 unfolding paired
-returns_2 c = (sym (if_false _ _ _ (ne_eqb _ 0 c.if1.false)), search rules)
+returns-else-k-eq0 c = (sym (if_false _ _ _ (ne_eqb _ 0 c.if-k-eq0.false)), search rules)
 
 pub paired_spec : {M : Type 1} → statement M
-paired_spec = tie.close (tie.spec add-result sub-result returns returns_2)
+paired_spec = tie.close (tie.spec overflow_add-result overflow_sub-result returns-then-k-eq0 returns-else-k-eq0)

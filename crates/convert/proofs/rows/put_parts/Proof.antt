@@ -17,18 +17,16 @@ of-requires-2 c κs = search rules
 put-requires : tie.Need-put-requires
 put-requires c κs = search rules
 
-same_length : tie.Need-same-length
-same_length c = search rules
+shape_of-t : tie.Need-shape_of-t
+shape_of-t c = search rules
 
 returns : tie.Need-returns
 unfolding parts_row
 returns c =
-    let o2 = c.before.before in
-    let o1 = o2.before in
-    let a = o1.before.before.args in
-    let f = read_back _ o1.of.type-inv ∙ o1.of.ensures in
-    let g = read_back _ o2.of2.type-inv ∙ o2.of2.ensures in
-    c.before.put.ensures ∙ (λ i. written a.t.now a.s (row a.kind (f i) (g i) (pos 0) ∷ []))
+    let a = c.args in
+    let f = read_back _ c.of.type_inv ∙ c.of.ensures in
+    let g = read_back _ c.of-2.type_inv ∙ c.of-2.ensures in
+    c.put.ensures ∙ (λ i. written a.t.now a.s (row a.kind (f i) (g i) (pos 0) ∷ []))
 
 pub put_parts_spec : {M : Type 1} → statement M
-put_parts_spec = tie.close (tie.spec of-requires of-requires-2 put-requires same_length returns)
+put_parts_spec = tie.close (tie.spec of-requires of-requires-2 put-requires shape_of-t returns)

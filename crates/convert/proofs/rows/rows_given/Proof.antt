@@ -8,20 +8,20 @@ use Rattle.convert.proofs.GivenLaws.{two_given}
 use Rattle.convert.proofs.rows.rows_given.Statement.{statement}
 use Rattle.convert.proofs.rows.rows_given.Tie as tie
 
+returns-then-k-eq8 : tie.Need-returns-then-k-eq8
+unfolding rows_given wide_kind_of eq_z if◌then◌else◌
+returns-then-k-eq8 c = sym (ap (λ (n : ℕ). rows_given (wide_kind_of (pos n))) c.if-k-eq8.true)
+
+returns-then-k-eq10 : tie.Need-returns-then-k-eq10
+unfolding rows_given wide_kind_of eq_z if◌then◌else◌
+returns-then-k-eq10 c = sym (ap (λ (n : ℕ). rows_given (wide_kind_of (pos n))) c.if-k-eq10.true)
+
+returns-then-k-eq11 : tie.Need-returns-then-k-eq11
+unfolding rows_given wide_kind_of eq_z if◌then◌else◌
+returns-then-k-eq11 c = sym (ap (λ (n : ℕ). rows_given (wide_kind_of (pos n))) c.if-k-eq11.true)
+
 returns : tie.Need-returns
-unfolding rows_given wide_kind_of eq_z if◌then◌else◌
-returns c = sym (ap (λ (n : ℕ). rows_given (wide_kind_of (pos n))) c.if1.true)
-
-returns_2 : tie.Need-returns-2
-unfolding rows_given wide_kind_of eq_z if◌then◌else◌
-returns_2 c = sym (ap (λ (n : ℕ). rows_given (wide_kind_of (pos n))) c.if2.true)
-
-returns_3 : tie.Need-returns-3
-unfolding rows_given wide_kind_of eq_z if◌then◌else◌
-returns_3 c = sym (ap (λ (n : ℕ). rows_given (wide_kind_of (pos n))) c.if3.true)
-
-returns_4 : tie.Need-returns-4
-returns_4 c = sym (two_given _ c.before.before.if1.false c.before.if2.false c.if3.false)
+returns c = sym (two_given _ c.if-k-eq8.false c.if-k-eq10.false c.if-k-eq11.false)
 
 pub rows_given_spec : {M : Type 1} → statement M
-rows_given_spec = tie.close (tie.spec returns returns_2 returns_3 returns_4)
+rows_given_spec = tie.close (tie.spec returns-then-k-eq8 returns-then-k-eq10 returns-then-k-eq11 returns)

@@ -13,99 +13,92 @@ use Rattle.nextsmall.proofs.TablePlaces.{front_is, front_fits, from_found, from_
 use Rattle.nextsmall.proofs.list.first.Statement.{statement}
 use Rattle.nextsmall.proofs.list.first.Tie as tie
 
-abbrev invariant_loop : tie.invariant-loop
+abbrev invariant_loop : tie.invariant-loop-i
 invariant_loop n from table₀ m end i₀ table i = (length table ≡ length table₀) × (first_from n from ≡ first_from n i)
 
-abbrev decreases_loop : tie.decreases-loop
+abbrev decreases_loop : tie.decreases-loop-i
 decreases_loop n from table₀ m end i₀ table i = m - i
 
 abbrev start : tie.After-put invariant_loop decreases_loop → tie.Start invariant_loop decreases_loop
 start c = c.before.before.before.before.before
 
 abbrev place : tie.After-put invariant_loop decreases_loop → ℕ
-place c = c.before.before.before.loop.i
+place c = c.loop-i.i
 
 abbrev now_there : tie.After-put invariant_loop decreases_loop → List ℤ
-now_there c = c.put.new.1.1.0
+now_there c = c.put.new.table
 
-here : (c : tie.In-loop invariant_loop decreases_loop) → c.before.loop.i < length (tables c.before.before.before.args.n)
-here c = omega (arith, c.loop-test.true, c.before.before.total.ensures.0)
+here : (c : tie.In-loop-i invariant_loop decreases_loop) → c.loop-i.i < length (tables c.args.n)
+here c = omega (arith, c.loop-i-test.true, c.total-m.ensures.0)
 
 room : (c : tie.After-put invariant_loop decreases_loop) → 4 * (start c).args.n ≤ length (now_there c)
-room c = omega (arith, (start c).requires.2, c.before.before.before.loop.invariant.0, c.put.auto.1.1.0)
+room c = omega (arith, (start c).requires.2, c.loop-i.invariant.0, c.put.auto.table)
 
 -- the table at the place is in front
 front : (c : tie.After-put invariant_loop decreases_loop) → take (4 * (start c).args.n) (now_there c) ≡ get_or (tables (start c).args.n) (place c) []
 front c = front_is (start c).args.n (place c) (start c).requires.1 (here c.before.before) _ _ c.put.ensures
 
-listed : (c : tie.After-on-list invariant_loop decreases_loop) →
-    let p = c.before.before.before in
-    c.on_List.result ≡ on_list (start p).args.n (get_or (tables (start p).args.n) (place p) [])
-listed c = let p = c.before.before.before in c.on_List.ensures ∙ ap (on_list (start p).args.n) (front p)
+listed : (c : tie.After-on_list invariant_loop decreases_loop) →
+    c.on_list.result ≡ on_list (start c.before.before).args.n (get_or (tables (start c.before.before).args.n) (place c.before.before) [])
+listed c = c.on_list.ensures ∙ ap (on_list (start c.before.before).args.n) (front c.before.before)
 
-total-requires : tie.Need-total-requires invariant_loop decreases_loop
-total-requires c κs = (c.requires.0, c.requires.1)
+total-m-requires : tie.Need-total-m-requires invariant_loop decreases_loop
+total-m-requires c κs = (c.requires.0, c.requires.1)
 
-mul-end : tie.Need-overflow-mul-end invariant_loop decreases_loop
-mul-end c = omega (arith, c.before.requires.1)
+overflow_mul-end : tie.Need-overflow_mul-end invariant_loop decreases_loop
+overflow_mul-end c = omega (arith, c.requires.1)
 
-loop_holds : tie.Need-loop-init invariant_loop decreases_loop
-loop_holds c = (refl, refl)
+loop-i-init : tie.Need-loop-i-init invariant_loop decreases_loop
+loop-i-init c = (refl, refl)
 
 put-requires : tie.Need-put-requires invariant_loop decreases_loop
 put-requires c κs =
-    let t = c.before in
-    let s = t.before.before.before in
-    (s.requires.1, here t, omega (arith, s.requires.2, t.before.loop.invariant.0))
+    (c.requires.1, here c.before, omega (arith, c.requires.2, c.loop-i.invariant.0))
 
-slice-reshare-prefix-on-list : tie.Need-slice-reshare-prefix-on-list invariant_loop decreases_loop
-slice-reshare-prefix-on-list c = room c.before
+slice_bounds-on_list-end : tie.Need-slice_bounds-on_list-end invariant_loop decreases_loop
+slice_bounds-on_list-end c = room c.before
 
-slice-aggregate-on-list : tie.Need-slice-aggregate-on-list invariant_loop decreases_loop
-slice-aggregate-on-list c = sym (length-take-le _ _ (room c.before.before))
+slice_bounds-on_list-end-in-loop-i : tie.Need-slice_bounds-on_list-end-in-loop-i invariant_loop decreases_loop
+slice_bounds-on_list-end-in-loop-i c = sym (length-take-le _ _ (room c.before))
 
-on-list-requires : tie.Need-on-list-requires invariant_loop decreases_loop
-on-list-requires c κs =
-    let p = c.before.before in
-    let s = start p in
-    (s.pre.0, s.pre.1, omega (arith, length-take-le (4 * s.args.n) (now_there p) (room p)), front_fits s.args.n (place p) s.pre.1 (here p.before.before) _ _ p.put.ensures)
+on_list-requires : tie.Need-on_list-requires invariant_loop decreases_loop
+on_list-requires c κs =
+    let s = start c.before in
+    (s.requires.0, s.requires.1, omega (arith, length-take-le (4 * s.args.n) (now_there c.before) (room c.before)), front_fits s.args.n (place c.before) s.requires.1 (here c.before.before.before) _ _ c.put.ensures)
 
-same_length : tie.Need-same-length invariant_loop decreases_loop
-same_length c = let p = c.before.before.before.before in p.put.auto.1.1.0 ∙ p.before.before.before.loop.invariant.0
+shape_of-table-then-on_list : tie.Need-shape_of-table-then-on_list invariant_loop decreases_loop
+shape_of-table-then-on_list c = c.put.auto.table ∙ c.loop-i.invariant.0
 
-returns : tie.Need-returns invariant_loop decreases_loop
-returns c =
-    let p = c.before.before.before.before in
-    let s = start p in
-    let l = p.before.before.before.loop in (
+returns-then-on_list : tie.Need-returns-then-on_list invariant_loop decreases_loop
+returns-then-on_list c =
+    let s = start c.before.before.before in
+    let l = c.loop-i in (
       λ _.
           l.invariant.1
-          ∙ from_found s.args.n l.i (here p.before.before) (sym (listed c.before) ∙ c.if1.true)
-          ∙ ap some (sym (front p)),
+          ∙ from_found s.args.n l.i (here c.before.before.before.before.before) (sym (listed c.before) ∙ c.if-on_list.true)
+          ∙ ap some (sym (front c.before.before.before)),
       λ e. absurd (true≢false e),
     )
 
-add-i : tie.Need-overflow-add-i invariant_loop decreases_loop
-add-i c = let t = c.before.before.before.before.before.before in omega (arith, t.loop-test.true, t.before.before.total.ensures.1)
+overflow_add-i : tie.Need-overflow_add-i invariant_loop decreases_loop
+overflow_add-i c = omega (arith, c.loop-i-test.true, c.total-m.ensures.1)
 
-loop_less : tie.Need-loop-smaller invariant_loop decreases_loop
-loop_less c = omega (arith, c.before.before.before.before.before.before.loop-test.true)
+loop-i-smaller : tie.Need-loop-i-smaller invariant_loop decreases_loop
+loop-i-smaller c = omega (arith, c.loop-i-test.true)
 
-loop_again : tie.Need-loop-preserved invariant_loop decreases_loop
-loop_again c =
-    let p = c.before.before.before.before in
-    let s = start p in
-    let l = p.before.before.before.loop in
-    (p.put.auto.1.1.0 ∙ l.invariant.0, l.invariant.1 ∙ from_on s.args.n l.i (here p.before.before) (sym (listed c.before) ∙ c.if1.false))
+loop-i-preserved : tie.Need-loop-i-preserved invariant_loop decreases_loop
+loop-i-preserved c =
+    let s = start c.before.before.before in
+    let l = c.loop-i in
+    (c.put.auto.table ∙ l.invariant.0, l.invariant.1 ∙ from_on s.args.n l.i (here c.before.before.before.before.before) (sym (listed c.before) ∙ c.if-on_list.false))
 
-same_length_2 : tie.Need-same-length-2 invariant_loop decreases_loop
-same_length_2 c = c.before.loop.invariant.0
+shape_of-table : tie.Need-shape_of-table invariant_loop decreases_loop
+shape_of-table c = c.loop-i.invariant.0
 
-returns_2 : tie.Need-returns-2 invariant_loop decreases_loop
-returns_2 c =
-    let l = c.before.loop in
-    let b = c.before.before in
-    (λ e. absurd (false≢true e), λ _. l.invariant.1 ∙ from_end b.before.args.n l.i (omega (arith, c.loop-test.false, b.total.ensures.0)))
+returns : tie.Need-returns invariant_loop decreases_loop
+returns c =
+    let l = c.loop-i in
+    (λ e. absurd (false≢true e), λ _. l.invariant.1 ∙ from_end c.args.n l.i (omega (arith, c.loop-i-test.false, c.total-m.ensures.0)))
 
 pub first_spec : {M : Type 1} → statement M
 first_spec =
@@ -113,17 +106,17 @@ first_spec =
     (tie.spec
     invariant_loop
     decreases_loop
-    total-requires
-    mul-end
-    loop_holds
+    total-m-requires
+    overflow_mul-end
+    loop-i-init
     put-requires
-    slice-reshare-prefix-on-list
-    slice-aggregate-on-list
-    on-list-requires
-    same_length
-    returns
-    add-i
-    loop_less
-    loop_again
-    same_length_2
-    returns_2)
+    slice_bounds-on_list-end
+    slice_bounds-on_list-end-in-loop-i
+    on_list-requires
+    shape_of-table-then-on_list
+    returns-then-on_list
+    overflow_add-i
+    loop-i-smaller
+    loop-i-preserved
+    shape_of-table
+    returns)

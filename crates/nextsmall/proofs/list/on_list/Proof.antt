@@ -9,55 +9,52 @@ use Rattle.nextsmall.proofs.Judging.{passes, passes_listed, fails_unlisted}
 use Rattle.nextsmall.proofs.list.on_list.Statement.{statement}
 use Rattle.nextsmall.proofs.list.on_list.Tie as tie
 
-abbrev start : tie.After-schema-formulas → tie.Start
+abbrev start : tie.After-schema_formulas → tie.Start
 start c = c.before.before.before
 
-formulas_are : (c : tie.After-schema-formulas) → let s = start c in c.schema-formulas.result ≡ passes s.args.n s.args.table.now s.pre.0 s.pre.1
+formulas_are : (c : tie.After-schema_formulas) → let s = start c in c.schema_formulas.result ≡ passes s.args.n s.args.table.now s.requires.0 s.requires.1
 formulas_are c =
     let s = start c in
-    let o = c.before.before in
-    c.schema-formulas.ensures.0
-    ∙ ap (λ (z : ℤ). schema_refusal (lent_schema s.args.table.now (schema_header s.args.n z (pos 0)))) (read_back _ o.of.type-inv ∙ o.of.ensures)
+    c.schema_formulas.ensures.0
+    ∙ ap (λ (z : ℤ). schema_refusal (lent_schema s.args.table.now (schema_header s.args.n z (pos 0)))) (read_back _ c.of-root.type_inv ∙ c.of-root.ensures)
 
-sub_of : tie.Need-overflow-sub-of
-sub_of c = search rules
+overflow_sub-n : tie.Need-overflow_sub-n
+overflow_sub-n c = search rules
 
-of-requires : tie.Need-of-requires
-of-requires c κs = search rules
+of-root-requires : tie.Need-of-root-requires
+of-root-requires c κs = search rules
 
-slice-aggregate-schema-formulas : tie.Need-slice-aggregate-schema-formulas
-slice-aggregate-schema-formulas c = search rules
+slice_bounds-schema_formulas-end : tie.Need-slice_bounds-schema_formulas-end
+slice_bounds-schema_formulas-end c = search rules
 
-schema-formulas-requires : tie.Need-schema-formulas-requires
-schema-formulas-requires c κs = search rules
+schema_formulas-requires : tie.Need-schema_formulas-requires
+schema_formulas-requires c κs = search rules
 
-enum_told : tie.Need-enum-told
-enum_told c = search rules
+enum_told-1 : tie.Need-enum_told-1
+enum_told-1 c = search rules
 
-enum-told-2 : tie.Need-enum-told-2
-enum-told-2 c = search rules
+enum_told-in-Found : tie.Need-enum_told-in-Found
+enum_told-in-Found c = search rules
 
-returns : tie.Need-returns
-returns c =
-    let f = c.before.before.before in
-    let s = start f in
-    sym (passes_listed s.args.n s.args.table.now s.pre.0 s.pre.1 s.pre.3 (nothing_found _ _ (formulas_are f) c.enum_told.given.1))
+returns-in-Nothing : tie.Need-returns-in-Nothing
+returns-in-Nothing c =
+    let s = start c.before.before in
+    sym (passes_listed s.args.n s.args.table.now s.requires.0 s.requires.1 s.requires.3 (nothing_found _ _ (formulas_are c.before.before) c.in-Nothing.is))
 
-returns_2 : tie.Need-returns-2
-returns_2 c =
-    let f = c.before.before.before in
-    let s = start f in
-    sym (fails_unlisted s.args.n s.args.table.now s.pre.0 s.pre.1 _ _ (sym (formulas_are f) ∙ c.enum-told2.given.1))
+returns-in-Found : tie.Need-returns-in-Found
+returns-in-Found c =
+    let s = start c.before.before in
+    sym (fails_unlisted s.args.n s.args.table.now s.requires.0 s.requires.1 _ _ (sym (formulas_are c.before.before) ∙ c.in-Found.is))
 
 pub on_list_spec : {M : Type 1} → statement M
 on_list_spec =
     tie.close
     (tie.spec
-    sub_of
-    of-requires
-    slice-aggregate-schema-formulas
-    schema-formulas-requires
-    enum_told
-    enum-told-2
-    returns
-    returns_2)
+    overflow_sub-n
+    of-root-requires
+    slice_bounds-schema_formulas-end
+    schema_formulas-requires
+    enum_told-1
+    enum_told-in-Found
+    returns-in-Nothing
+    returns-in-Found)

@@ -5,75 +5,65 @@ use Rattle.nextsmall.proofs.TablePlaces.{Placed, placed_none, placed_more, table
 use Rattle.nextsmall.proofs.list.place.Statement.{statement}
 use Rattle.nextsmall.proofs.list.place.Tie as tie
 
-abbrev invariant_loop : tie.invariant-loop
+abbrev invariant_loop : tie.invariant-loop-r
 invariant_loop table n i₀ r₀ i r = (r ≤ n) × Placed table r i
 
-abbrev decreases_loop : tie.decreases-loop
+abbrev decreases_loop : tie.decreases-loop-r
 decreases_loop table n i₀ r₀ i r = n - r
 
-loop_holds : tie.Need-loop-init invariant_loop decreases_loop
-loop_holds c = (omega arith, placed_none c.args.table.now)
+loop-r-init : tie.Need-loop-r-init invariant_loop decreases_loop
+loop-r-init c = (omega arith, placed_none c.args.table.now)
 
-count-requires : tie.Need-count-requires invariant_loop decreases_loop
-count-requires c κs = omega (arith, c.before.before.requires.1, c.loop-test.true)
+count-k-requires : tie.Need-count-k-requires invariant_loop decreases_loop
+count-k-requires c κs = omega (arith, c.requires.1, c.loop-r-test.true)
 
-place-requires : tie.Need-place-requires invariant_loop decreases_loop
-place-requires c κs = let t = c.before in omega (arith, t.before.before.requires.1, t.loop-test.true)
+place-d-requires : tie.Need-place-d-requires invariant_loop decreases_loop
+place-d-requires c κs = omega (arith, c.requires.1, c.loop-r-test.true)
 
 total-requires : tie.Need-total-requires invariant_loop decreases_loop
-total-requires c κs = let s = c.before.before.before.before.before in (s.requires.0, s.requires.1)
+total-requires c κs = (c.requires.0, c.requires.1)
+
+returns-then-k-d : tie.Need-returns-then-k-d invariant_loop decreases_loop
+returns-then-k-d c =
+    table_nowhere c.args.table.now c.args.n c.loop-r.r c.place-d.result c.total.result c.loop-r-test.true
+    (omega (arith, c.if-k-d.true, c.count-k.ensures.0)) c.place-d.ensures c.total.ensures.0
+
+-- a row more
+more : (c : tie.Else-k-d invariant_loop decreases_loop) →
+    let l = c.loop-r in
+    Placed c.args.table.now (l.r + 1) (l.i * c.count-k.result + c.place-d.result)
+more c =
+    let l = c.loop-r in
+    placed_more c.args.table.now l.r l.i c.count-k.result c.place-d.result (omega (arith, c.requires.2, c.loop-r-test.true)) c.count-k.ensures.0
+    c.if-k-d.false c.place-d.ensures l.invariant.1
+
+small : (c : tie.Else-k-d invariant_loop decreases_loop) →
+    let l = c.loop-r in
+    l.i * c.count-k.result + c.place-d.result < 18720
+small c =
+    let l = c.loop-r in
+    omega (arith, (more c).0, total_most (l.r + 1) (omega (arith, c.loop-r-test.true, c.requires.1)))
+
+overflow_mul-i : tie.Need-overflow_mul-i invariant_loop decreases_loop
+overflow_mul-i c = omega (arith, small c)
+
+overflow_add-i : tie.Need-overflow_add-i invariant_loop decreases_loop
+overflow_add-i c = omega (arith, small c)
+
+overflow_add-r : tie.Need-overflow_add-r invariant_loop decreases_loop
+overflow_add-r c = omega (arith, c.loop-r-test.true, c.requires.1)
+
+loop-r-smaller : tie.Need-loop-r-smaller invariant_loop decreases_loop
+loop-r-smaller c = omega (arith, c.loop-r-test.true)
+
+loop-r-preserved : tie.Need-loop-r-preserved invariant_loop decreases_loop
+loop-r-preserved c = (omega (arith, c.loop-r-test.true), more c)
 
 returns : tie.Need-returns invariant_loop decreases_loop
 returns c =
-    let b = c.before.before in
-    let t = b.before.before in
-    let s = t.before.before in
-    table_nowhere s.args.table.now s.args.n t.before.loop.r b.place.result c.total.result t.loop-test.true
-    (omega (arith, c.before.if1.true, b.before.count.ensures.0)) b.place.ensures c.total.ensures.0
-
--- a row more
-more : (c : tie.Else1 invariant_loop decreases_loop) →
-    let b = c.before in
-    let l = b.before.before.before.loop in
-    Placed b.before.before.before.before.args.table.now (l.r + 1) (l.i * b.before.count.result + b.place.result)
-more c =
-    let b = c.before in
-    let t = b.before.before in
-    let s = t.before.before in
-    let l = t.before.loop in
-    placed_more s.args.table.now l.r l.i b.before.count.result b.place.result (omega (arith, s.requires.2, t.loop-test.true)) b.before.count.ensures.0
-    c.if1.false b.place.ensures l.invariant.1
-
-small : (c : tie.Else1 invariant_loop decreases_loop) →
-    let b = c.before in
-    let l = b.before.before.before.loop in
-    l.i * b.before.count.result + b.place.result < 18720
-small c =
-    let t = c.before.before.before in
-    let l = t.before.loop in
-    omega (arith, (more c).0, total_most (l.r + 1) (omega (arith, t.loop-test.true, t.before.before.requires.1)))
-
-mul-i : tie.Need-overflow-mul-i invariant_loop decreases_loop
-mul-i c = omega (arith, small c)
-
-add-i : tie.Need-overflow-add-i invariant_loop decreases_loop
-add-i c = omega (arith, small c)
-
-add_r : tie.Need-overflow-add-r invariant_loop decreases_loop
-add_r c = omega (arith, c.before.before.before.loop-test.true, c.before.before.before.before.before.requires.1)
-
-loop_less : tie.Need-loop-smaller invariant_loop decreases_loop
-loop_less c = omega (arith, c.before.before.before.loop-test.true)
-
-loop_again : tie.Need-loop-preserved invariant_loop decreases_loop
-loop_again c = (omega (arith, c.before.before.before.loop-test.true), more c)
-
-returns_2 : tie.Need-returns-2 invariant_loop decreases_loop
-returns_2 c =
-    let s = c.before.before in
-    let l = c.before.loop in
-    let e : l.r ≡ s.args.n = omega (arith, l.invariant.0, c.loop-test.false) in
-    table_here s.args.table.now s.args.n l.i (subst (λ (x : ℕ). Placed s.args.table.now x l.i) e l.invariant.1)
+    let l = c.loop-r in
+    let e : l.r ≡ c.args.n = omega (arith, l.invariant.0, c.loop-r-test.false) in
+    table_here c.args.table.now c.args.n l.i (subst (λ (x : ℕ). Placed c.args.table.now x l.i) e l.invariant.1)
 
 pub place_spec : {M : Type 1} → statement M
 place_spec =
@@ -81,14 +71,14 @@ place_spec =
     (tie.spec
     invariant_loop
     decreases_loop
-    loop_holds
-    count-requires
-    place-requires
+    loop-r-init
+    count-k-requires
+    place-d-requires
     total-requires
-    returns
-    mul-i
-    add-i
-    add_r
-    loop_less
-    loop_again
-    returns_2)
+    returns-then-k-d
+    overflow_mul-i
+    overflow_add-i
+    overflow_add-r
+    loop-r-smaller
+    loop-r-preserved
+    returns)

@@ -9,72 +9,68 @@ use Rattle.nextsmall.proofs.TablePlaces.{row_put}
 use Rattle.nextsmall.proofs.list.put_row.Statement.{statement}
 use Rattle.nextsmall.proofs.list.put_row.Tie as tie
 
-mul_at : tie.Need-overflow-mul-at
-mul_at c = search rules
+overflow_mul-at : tie.Need-overflow_mul-at
+overflow_mul-at c = search rules
 
-mul-kind : tie.Need-overflow-mul-kind
-mul-kind c = search rules
+offset_bounds-table-at : tie.Need-offset_bounds-table-at
+offset_bounds-table-at c = search rules
 
-slice-set-from-kind : tie.Need-slice-set-from-kind
-slice-set-from-kind c = search rules
+bounds-table-at : tie.Need-bounds-table-at
+bounds-table-at c = search rules
 
-add_a : tie.Need-overflow-add-a
-add_a c = search rules
+overflow_add-a : tie.Need-overflow_add-a
+overflow_add-a c = search rules
 
-mul-a : tie.Need-overflow-mul-a
-mul-a c = search rules
+offset_bounds-table-at-2 : tie.Need-offset_bounds-table-at-2
+offset_bounds-table-at-2 c = search rules
 
-slice-set-from-a : tie.Need-slice-set-from-a
-slice-set-from-a c = simp length-set (omega (arith, c.before.before.before.before.requires.1))
+bounds-table-at-2 : tie.Need-bounds-table-at-2
+bounds-table-at-2 c = simp length-set (omega (arith, c.requires.1))
 
-add-b : tie.Need-overflow-add-b
-add-b c = search rules
+overflow_add-b : tie.Need-overflow_add-b
+overflow_add-b c = search rules
 
-mul-b : tie.Need-overflow-mul-b
-mul-b c = search rules
+offset_bounds-table-at-3 : tie.Need-offset_bounds-table-at-3
+offset_bounds-table-at-3 c = search rules
 
-slice-set-from-b : tie.Need-slice-set-from-b
-slice-set-from-b c = simp length-set (omega (arith, c.before.before.before.before.requires.1))
+bounds-table-at-3 : tie.Need-bounds-table-at-3
+bounds-table-at-3 c = simp length-set (omega (arith, c.requires.1))
 
-add-c : tie.Need-overflow-add-c
-add-c c = search rules
+overflow_add-c : tie.Need-overflow_add-c
+overflow_add-c c = search rules
 
-mul-c : tie.Need-overflow-mul-c
-mul-c c = search rules
+offset_bounds-table-at-4 : tie.Need-offset_bounds-table-at-4
+offset_bounds-table-at-4 c = search rules
 
-slice-set-from-c : tie.Need-slice-set-from-c
-slice-set-from-c c = simp length-set (omega (arith, c.before.before.before.before.requires.1))
+bounds-table-at-4 : tie.Need-bounds-table-at-4
+bounds-table-at-4 c = simp length-set (omega (arith, c.requires.1))
 
-same_length : tie.Need-same-length
-same_length c = search rules
+shape_of-table : tie.Need-shape_of-table
+shape_of-table c = search rules
 
 returns : tie.Need-returns
 returns c =
-    let d = c.before in
-    let b = d.before in
-    let a = b.before in
-    let s = a.before in
-    let t = s.args.table.now in
-    let w = s.args.w in
-    let at = 4 * s.args.r in
-    row_put t at _ _ _ _ s.requires.1
-    ∙ (λ i. take at t ++ (read_back w.kind a.struct_told.given.0.1 i ∷ read_back w.a b.struct-told2.given.1.0.1 i ∷ read_back w.b d.struct-told3.given.1.1.0.1 i ∷ read_back w.c c.struct-told4.given.1.1.1.0.1 i ∷ []) ++ drop (at + 4) t)
+    let t = c.args.table.now in
+    let w = c.args.w in
+    let at = 4 * c.args.r in
+    row_put t at _ _ _ _ c.requires.1
+    ∙ (λ i. take at t ++ (read_back w.kind c.struct_told-1.given.0.1 i ∷ read_back w.a c.struct_told-2-1.given.1.0.1 i ∷ read_back w.b c.struct_told-3-1.given.1.1.0.1 i ∷ read_back w.c c.struct_told-4-1.given.1.1.1.0.1 i ∷ []) ++ drop (at + 4) t)
 
 pub put_row_spec : {M : Type 1} → statement M
 put_row_spec =
     tie.close
     (tie.spec
-    mul_at
-    mul-kind
-    slice-set-from-kind
-    add_a
-    mul-a
-    slice-set-from-a
-    add-b
-    mul-b
-    slice-set-from-b
-    add-c
-    mul-c
-    slice-set-from-c
-    same_length
+    overflow_mul-at
+    offset_bounds-table-at
+    bounds-table-at
+    overflow_add-a
+    offset_bounds-table-at-2
+    bounds-table-at-2
+    overflow_add-b
+    offset_bounds-table-at-3
+    bounds-table-at-3
+    overflow_add-c
+    offset_bounds-table-at-4
+    bounds-table-at-4
+    shape_of-table
     returns)

@@ -8,21 +8,21 @@ use Rattle.nextsmall.proofs.RowPlaces.{one_less}
 use Rattle.nextsmall.proofs.rows.less_one.Statement.{statement}
 use Rattle.nextsmall.proofs.rows.less_one.Tie as tie
 
-with-sign-requires : tie.Need-with-sign-requires
-with-sign-requires c κs = search rules
+with_sign-requires : tie.Need-with_sign-requires
+with_sign-requires c κs = search rules
 
-returns : tie.Need-returns
+returns-then-v-eq0 : tie.Need-returns-then-v-eq0
 unfolding signed_of
-returns c = read_back _ c.with-sign.type-inv ∙ c.with-sign.ensures ∙ ap (λ (n : ℕ). pos n -ℤ pos 1) (sym c.before.if1.true)
+returns-then-v-eq0 c = read_back _ c.with_sign.type_inv ∙ c.with_sign.ensures ∙ ap (λ (n : ℕ). pos n -ℤ pos 1) (sym c.if-v-eq0.true)
 
-sub_of : tie.Need-overflow-sub-of
-sub_of c = search rules
+overflow_sub-v : tie.Need-overflow_sub-v
+overflow_sub-v c = search rules
 
 of-requires : tie.Need-of-requires
 of-requires c κs = search rules
 
-returns_2 : tie.Need-returns-2
-returns_2 c = let s = c.before.before in read_back _ c.of.type-inv ∙ c.of.ensures ∙ one_less s.args.v s.requires c.before.if1.false
+returns : tie.Need-returns
+returns c = read_back _ c.of.type_inv ∙ c.of.ensures ∙ one_less c.args.v c.requires c.if-v-eq0.false
 
 pub less_one_spec : {M : Type 1} → statement M
-less_one_spec = tie.close (tie.spec with-sign-requires returns sub_of of-requires returns_2)
+less_one_spec = tie.close (tie.spec with_sign-requires returns-then-v-eq0 overflow_sub-v of-requires returns)

@@ -4,27 +4,27 @@ use Rattle.nextsmall.proofs.RowPlaces.{junction_1, iteration_1}
 use Rattle.nextsmall.proofs.rows.over_one.Statement.{statement}
 use Rattle.nextsmall.proofs.rows.over_one.Tie as tie
 
-add_row : tie.Need-overflow-add-row
-add_row c = search rules
+overflow_add-e : tie.Need-overflow_add-e
+overflow_add-e c = search rules
 
 row-requires : tie.Need-row-requires
 row-requires c κs = search rules
 
-returns : tie.Need-returns
-returns c = let b = c.before in c.row.ensures ∙ junction_1 b.before.args.e b.if1.true
+returns-then-e-lt2 : tie.Need-returns-then-e-lt2
+returns-then-e-lt2 c = c.row.ensures ∙ junction_1 c.args.e c.if-e-lt2.true
 
-add-row-2 : tie.Need-overflow-add-row-2
-add-row-2 c = search rules
+overflow_add-f : tie.Need-overflow_add-f
+overflow_add-f c = search rules
 
-add-row-3 : tie.Need-overflow-add-row-3
-add-row-3 c = search rules
+overflow_add-f-2 : tie.Need-overflow_add-f-2
+overflow_add-f-2 c = search rules
 
 row-requires-2 : tie.Need-row-requires-2
 row-requires-2 c κs = search rules
 
-returns_2 : tie.Need-returns-2
-returns_2 c = let b = c.before in c.row2.ensures ∙ iteration_1 b.before.args.e b.if1.false b.before.requires
+returns : tie.Need-returns
+returns c = c.row-2.ensures ∙ iteration_1 c.args.e c.if-e-lt2.false c.requires
 
 pub over_one_spec : {M : Type 1} → statement M
 over_one_spec =
-    tie.close (tie.spec add_row row-requires returns add-row-2 add-row-3 row-requires-2 returns_2)
+    tie.close (tie.spec overflow_add-e row-requires returns-then-e-lt2 overflow_add-f overflow_add-f-2 row-requires-2 returns)

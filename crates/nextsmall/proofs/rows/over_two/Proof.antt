@@ -4,27 +4,27 @@ use Rattle.nextsmall.proofs.RowPlaces.{junction_2, iteration_2}
 use Rattle.nextsmall.proofs.rows.over_two.Statement.{statement}
 use Rattle.nextsmall.proofs.rows.over_two.Tie as tie
 
-add_row : tie.Need-overflow-add-row
-add_row c = search rules
+overflow_add-e : tie.Need-overflow_add-e
+overflow_add-e c = search rules
 
 row-requires : tie.Need-row-requires
 row-requires c κs = search rules
 
-returns : tie.Need-returns
-returns c = let b = c.before in c.row.ensures ∙ junction_2 b.before.args.e b.if1.true
+returns-then-e-lt8 : tie.Need-returns-then-e-lt8
+returns-then-e-lt8 c = c.row.ensures ∙ junction_2 c.args.e c.if-e-lt8.true
 
-add-row-2 : tie.Need-overflow-add-row-2
-add-row-2 c = search rules
+overflow_add-f : tie.Need-overflow_add-f
+overflow_add-f c = search rules
 
-add-row-3 : tie.Need-overflow-add-row-3
-add-row-3 c = search rules
+overflow_add-f-2 : tie.Need-overflow_add-f-2
+overflow_add-f-2 c = search rules
 
 row-requires-2 : tie.Need-row-requires-2
 row-requires-2 c κs = search rules
 
-returns_2 : tie.Need-returns-2
-returns_2 c = let b = c.before in c.row2.ensures ∙ iteration_2 b.before.args.e b.if1.false b.before.requires
+returns : tie.Need-returns
+returns c = c.row-2.ensures ∙ iteration_2 c.args.e c.if-e-lt8.false c.requires
 
 pub over_two_spec : {M : Type 1} → statement M
 over_two_spec =
-    tie.close (tie.spec add_row row-requires returns add-row-2 add-row-3 row-requires-2 returns_2)
+    tie.close (tie.spec overflow_add-e row-requires returns-then-e-lt8 overflow_add-f overflow_add-f-2 row-requires-2 returns)

@@ -6,52 +6,46 @@ use Rattle.nextsmall.proofs.RowPlaces.{Later, later_more, row_here, row_nowhere}
 use Rattle.nextsmall.proofs.rows.place.Statement.{statement}
 use Rattle.nextsmall.proofs.rows.place.Tie as tie
 
-abbrev invariant_loop : tie.invariant-loop
+abbrev invariant_loop : tie.invariant-loop-d
 invariant_loop table r n d₀ d = (d ≤ n) × Later table r d
 
-abbrev decreases_loop : tie.decreases-loop
+abbrev decreases_loop : tie.decreases-loop-d
 decreases_loop table r n d₀ d = n - d
 
-count-requires : tie.Need-count-requires invariant_loop decreases_loop
-count-requires c κs = c.requires
+count-n-requires : tie.Need-count-n-requires invariant_loop decreases_loop
+count-n-requires c κs = c.requires
 
-loop_holds : tie.Need-loop-init invariant_loop decreases_loop
-loop_holds c = (omega arith, λ m. m)
+loop-d-init : tie.Need-loop-d-init invariant_loop decreases_loop
+loop-d-init c = (omega arith, λ m. m)
 
 candidate-requires : tie.Need-candidate-requires invariant_loop decreases_loop
-candidate-requires c κs = let b = c.before.before in (b.before.requires, omega (arith, b.count.ensures.0, c.loop-test.true))
+candidate-requires c κs = (c.requires, omega (arith, c.count-n.ensures.0, c.loop-d-test.true))
 
 same-requires : tie.Need-same-requires invariant_loop decreases_loop
-same-requires c κs = c.before.before.before.before.requires
+same-requires c κs = c.requires
+
+returns-then-same : tie.Need-returns-then-same invariant_loop decreases_loop
+returns-then-same c =
+    row_here c.args.table.now c.args.r c.loop-d.d c.count-n.result (as_row c.candidate.result) c.count-n.ensures.0
+    c.loop-d-test.true c.candidate.ensures (sym c.same.ensures ∙ c.if-same.true)
+
+overflow_add-d : tie.Need-overflow_add-d invariant_loop decreases_loop
+overflow_add-d c = omega (arith, c.count-n.ensures.2, c.loop-d-test.true)
+
+loop-d-smaller : tie.Need-loop-d-smaller invariant_loop decreases_loop
+loop-d-smaller c = omega (arith, c.loop-d-test.true)
+
+loop-d-preserved : tie.Need-loop-d-preserved invariant_loop decreases_loop
+loop-d-preserved c =
+    (
+      omega (arith, c.loop-d-test.true),
+      later_more c.args.table.now c.args.r c.loop-d.d (as_row c.candidate.result) (omega (arith, c.count-n.ensures.0, c.loop-d-test.true))
+          c.candidate.ensures (sym c.same.ensures ∙ c.if-same.false) c.loop-d.invariant.1,
+    )
 
 returns : tie.Need-returns invariant_loop decreases_loop
 returns c =
-    let k = c.before.before in
-    let t = k.before in
-    let b = t.before.before in
-    row_here b.before.args.table.now b.before.args.r t.before.loop.d b.count.result (as_row k.candidate.result) b.count.ensures.0
-    t.loop-test.true k.candidate.ensures (sym c.before.same.ensures ∙ c.if1.true)
-
-add-d : tie.Need-overflow-add-d invariant_loop decreases_loop
-add-d c = omega (arith, c.before.before.before.before.before.count.ensures.2, c.before.before.before.loop-test.true)
-
-loop_less : tie.Need-loop-smaller invariant_loop decreases_loop
-loop_less c = omega (arith, c.before.before.before.loop-test.true)
-
-loop_again : tie.Need-loop-preserved invariant_loop decreases_loop
-loop_again c =
-    let k = c.before.before in
-    let t = k.before in
-    let b = t.before.before in (
-      omega (arith, t.loop-test.true),
-      later_more b.before.args.table.now b.before.args.r t.before.loop.d (as_row k.candidate.result) (omega (arith, b.count.ensures.0, t.loop-test.true))
-          k.candidate.ensures (sym c.before.same.ensures ∙ c.if1.false) t.before.loop.invariant.1,
-    )
-
-returns_2 : tie.Need-returns-2 invariant_loop decreases_loop
-returns_2 c =
-    let b = c.before.before in
-    row_nowhere b.before.args.table.now b.before.args.r c.before.loop.d b.count.result b.count.ensures.0 c.loop-test.false c.before.loop.invariant.1
+    row_nowhere c.args.table.now c.args.r c.loop-d.d c.count-n.result c.count-n.ensures.0 c.loop-d-test.false c.loop-d.invariant.1
 
 pub place_spec : {M : Type 1} → statement M
 place_spec =
@@ -59,12 +53,12 @@ place_spec =
     (tie.spec
     invariant_loop
     decreases_loop
-    count-requires
-    loop_holds
+    count-n-requires
+    loop-d-init
     candidate-requires
     same-requires
-    returns
-    add-d
-    loop_less
-    loop_again
-    returns_2)
+    returns-then-same
+    overflow_add-d
+    loop-d-smaller
+    loop-d-preserved
+    returns)

@@ -7,17 +7,17 @@ use Rattle.nextsmall.proofs.rows.plain.Tie as tie
 row-requires : tie.Need-row-requires
 row-requires c κs = search rules
 
-returns : tie.Need-returns
-returns c = let b = c.before in c.row.ensures ∙ constant_at b.before.args.d b.if1.true
+returns-then-d-lt2 : tie.Need-returns-then-d-lt2
+returns-then-d-lt2 c = c.row.ensures ∙ constant_at c.args.d c.if-d-lt2.true
 
-add_row : tie.Need-overflow-add-row
-add_row c = search rules
+overflow_add-e : tie.Need-overflow_add-e
+overflow_add-e c = search rules
 
 row-requires-2 : tie.Need-row-requires-2
 row-requires-2 c κs = search rules
 
-returns_2 : tie.Need-returns-2
-returns_2 c = let b = c.before in c.row2.ensures ∙ literal_at b.before.args.d b.if1.false b.before.requires
+returns : tie.Need-returns
+returns c = c.row-2.ensures ∙ literal_at c.args.d c.if-d-lt2.false c.requires
 
 pub plain_spec : {M : Type 1} → statement M
-plain_spec = tie.close (tie.spec row-requires returns add_row row-requires-2 returns_2)
+plain_spec = tie.close (tie.spec row-requires returns-then-d-lt2 overflow_add-e row-requires-2 returns)
