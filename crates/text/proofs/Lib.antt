@@ -3,7 +3,6 @@ pub mod RowLaws
 pub mod NodeLaws
 pub mod Openings
 pub mod ProofLaws
-pub mod Again
 pub mod Reached
 pub mod TakenLaws
 pub mod Others

@@ -164,6 +164,12 @@ module _ (text : List ℕ) (at : ℕ) (p : Awaited) (t u m : List ℤ) (r : Read
 
 -- ---- formula rows of a proof text, and the heading after them
 
+-- the nodes that are read after formula rows make the whole proof
+nodes_after : (v : List ℤ) (x : Reading (List ℤ × List ℤ)) → as_proof (x and_then with_nodes v) ≡ proof_with v x
+unfolding as_proof proof_with ◌and_then◌
+nodes_after v (read p) = refl
+nodes_after v (stopped why k) = refl
+
 module _ (text : List ℕ) (at n : ℕ) (t u m : List ℤ) (r : Ready text at (Formula n) t u m) where
   formulas_before : rest (Formula n) t u m (lines (drop at text)) ≡ as_proof (proof_so_far text t n at)
   unfolding rest proof_so_far
@@ -187,13 +193,9 @@ module _ (text : List ℕ) (at n : ℕ) (t u m : List ℤ) (r : Ready text at (F
       (λ ls. as_proof (nodes_from 1024 0 (3 + n) ls and_then with_nodes (take (4 * n) t)))
       (formulas_before ∙ ap as_proof (formulas_heading text t n at l e) ∙ then_then (heading_at node_heading (2 + n) (lines (drop at text))) _ _) first a x
     where
-      made : (x : Reading (List ℤ × List ℤ)) → as_proof (x and_then with_nodes (take (4 * n) t)) ≡ proof_with (take (4 * n) t) x
-      made (read p) = unfold as_proof proof_with ◌and_then◌ in refl
-      made (stopped why k) = unfold as_proof proof_with ◌and_then◌ in refl
-
       first : (ls : List Line) → as_proof (nodes_from 1024 0 (3 + n) ls and_then with_nodes (take (4 * n) t)) ≡ rest (Node n 0 0) t u m ls
       first ls =
-          made (nodes_from 1024 0 (3 + n) ls)
+          nodes_after (take (4 * n) t) (nodes_from 1024 0 (3 + n) ls)
           ∙ ap (proof_with (take (4 * n) t)) (sym (nodes_ahead_none (nodes_from 1024 0 (3 + n) ls)) ∙ ap (λ (i : ℕ). nodes_ahead [] [] (nodes_from 1024 0 i ls)) (sym (add-zero (3 + n))))
           ∙ unfold rest in refl
 
