@@ -1,5 +1,5 @@
-// A line reader: it remembers a text, and how far it has read. Its functions are thin, since each is proved by hand: the work on a line
-// is `awaited::take`, on a slice and a number.
+// A line reader: it remembers a text, and how far it has read. Its functions are thin: the work on a line is `awaited::take`, on a slice
+// and a number.
 ghost use Rattle.std.specs.Prelude.{◌≡◌};
 ghost use Rattle.text.specs.Awaiting.{Ready, ReadAll};
 ghost use Rattle.text.specs.OneLine.{Stepped};
@@ -39,7 +39,7 @@ impl<'a> LineReader<'a> {
     }
 }
 
-// A text is read line by line, from its start until no line is awaited. Whoever reads a text calls this, and needs no proof by hand.
+// A text is read line by line, from its start until no line is awaited. Whoever reads a text calls this.
 pub fn read_lines(
     text: &[u8],
     start: Awaited,

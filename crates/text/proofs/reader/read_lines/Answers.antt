@@ -4,7 +4,7 @@ use mathlib.Core.Path.{◌≡◌, sym, ◌∙◌, ap, subst}
 use mathlib.Core.List.{List}
 use lib.IntN.{ℤ}
 use denote.Bor.{Bor}
-use Rattle.text.specs.Awaiting.{Ready, goes_on}
+use Rattle.text.specs.Awaiting.{Ready}
 use Rattle.text.specs.OneLine.{Stepped}
 use Rattle.text.specs.declared.awaited.Awaited.{Awaited}
 use Rattle.text.specs.declared.awaited.Taken.{Taken}
