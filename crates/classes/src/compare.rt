@@ -28,7 +28,7 @@ fn besides(w: Cells, p: usize) -> usize
 // Row g is alike to row f lowered by k = up - down, each literal on i outside an iteration taken for one on n. The two are gone
 // down side by side, both parts of each and and or, and bodies, which are not lowered; the first row number falls at each part.
 // The leading part of one meets that of the other.
-#[cycle(agrees_agrees_anew_gone_down)]
+#[cycle(agreement)]
 fn gone_down(
     schema: &[i32],
     s: usize,
@@ -77,7 +77,7 @@ fn gone_down(
 }
 
 // The same; rows that are found to agree are remembered.
-#[cycle(agrees_agrees_anew_gone_down)]
+#[cycle(agreement)]
 fn agrees_anew(
     schema: &[i32],
     s: usize,
@@ -103,7 +103,7 @@ fn agrees_anew(
 }
 
 // The same; rows that are remembered are not gone down again.
-#[cycle(agrees_agrees_anew_gone_down)]
+#[cycle(agreement)]
 fn agrees(
     schema: &[i32],
     s: usize,

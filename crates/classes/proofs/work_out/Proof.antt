@@ -29,8 +29,7 @@ loop-r-init c =
 
 step-requires : tie.Need-step-requires invariant_loop decreases_loop
 step-requires c κs =
-    let l = c.loop-r in
-    (
+    let l = c.loop-r in (
       (omega (arith, c.requires.0), omega (arith, c.requires.0), omega (arith, c.requires.0), omega (arith, c.requires.0)),
       (λ q k. c.requires.1.1 q (omega arith), l.invariant.4),
     )

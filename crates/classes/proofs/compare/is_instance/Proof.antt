@@ -33,13 +33,12 @@ kept_at-requires : tie.Need-kept_at-requires
 kept_at-requires c κs = search rules
 
 returns-then-kept_at-ne0 : tie.Need-returns-then-kept_at-ne0
-returns-then-kept_at-ne0 c =
-    (
-      sym
-          (loose_none _ _ _
-          (bit_one _ (λ e. c.if-kept_at-ne0.true (c.kept_at.ensures.0 ∙ (c.requires.0.4 c.args.z c.requires.0.2).loose ∙ e)))),
-      c.requires.1.1,
-    )
+returns-then-kept_at-ne0 c = (
+  sym
+      (loose_none _ _ _
+      (bit_one _ (λ e. c.if-kept_at-ne0.true (c.kept_at.ensures.0 ∙ (c.requires.0.4 c.args.z c.requires.0.2).loose ∙ e)))),
+  c.requires.1.1,
+)
 
 natural_in-up-requires : tie.Need-natural_in-up-requires
 natural_in-up-requires c κs = search rules

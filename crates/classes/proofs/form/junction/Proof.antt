@@ -88,18 +88,16 @@ smaller-shift-requires : tie.Need-smaller-shift-requires
 smaller-shift-requires c κs = search rules
 
 code-left-requires : tie.Need-code-left-requires
-code-left-requires c κs =
-    (
-      (omega (arith, left_row c.before.before.before), omega (arith, left_is c.before.before.before, (start c.before.before.before).requires.2)),
-      λ l. subst (λ (m : ℕ). m ≤ get_or (forms c.before.before.before) (4 * c.natural-a.result + 1) 0) (sym (shift_of c)) ((smaller_below _ _).0 l).1,
-    )
+code-left-requires c κs = (
+  (omega (arith, left_row c.before.before.before), omega (arith, left_is c.before.before.before, (start c.before.before.before).requires.2)),
+  λ l. subst (λ (m : ℕ). m ≤ get_or (forms c.before.before.before) (4 * c.natural-a.result + 1) 0) (sym (shift_of c)) ((smaller_below _ _).0 l).1,
+)
 
 code-right-requires : tie.Need-code-right-requires
-code-right-requires c κs =
-    (
-      (omega (arith, right_row c.before.before.before.before), omega (arith, right_is c.before.before.before.before, (start c.before.before.before.before).requires.3)),
-      λ l. subst (λ (m : ℕ). m ≤ get_or (forms c.before.before.before.before) (4 * c.natural-b.result + 1) 0) (sym (shift_of c.before)) ((smaller_below _ _).1 l).1,
-    )
+code-right-requires c κs = (
+  (omega (arith, right_row c.before.before.before.before), omega (arith, right_is c.before.before.before.before, (start c.before.before.before.before).requires.3)),
+  λ l. subst (λ (m : ℕ). m ≤ get_or (forms c.before.before.before.before) (4 * c.natural-b.result + 1) 0) (sym (shift_of c.before)) ((smaller_below _ _).1 l).1,
+)
 
 returns-then-left-right : tie.Need-returns-then-left-right
 unfolding in_order
