@@ -120,7 +120,7 @@ pub fn range_size(schema: &[i32], f: usize, n: usize) -> usize
 }
 
 // The values of row f at n and i, i + 1, .. i + (width - 1).
-#[cycle(formula_value_range_value)]
+#[cycle(values)]
 pub fn formula_value(
     schema: &[i32],
     f: usize,
@@ -158,7 +158,7 @@ pub fn formula_value(
 
 // The values of the body at `first` and the `left - 1` numbers after it, combined: by or where `any`, else by and. A long
 // range is halved at each call, so that few calls are open at once however long it is.
-#[cycle(formula_value_range_value)]
+#[cycle(values)]
 fn range_value(
     schema: &[i32],
     body: usize,

@@ -7,53 +7,53 @@ use Rattle.value.proofs.Values.{base_nothing, base_parameter, base_index}
 use Rattle.value.proofs.base_of.Statement.{statement}
 use Rattle.value.proofs.base_of.Tie as tie
 
-mul-is-at : tie.Need-overflow-mul-is-at
-mul-is-at c = search rules
+overflow_mul-f : tie.Need-overflow_mul-f
+overflow_mul-f c = search rules
 
-add-is-at : tie.Need-overflow-add-is-at
-add-is-at c = search rules
+overflow_add-f : tie.Need-overflow_add-f
+overflow_add-f c = search rules
 
-is-at-requires : tie.Need-is-at-requires
-is-at-requires c κs = search rules
+is_at-requires : tie.Need-is_at-requires
+is_at-requires c κs = search rules
+
+returns-then-is_at : tie.Need-returns-then-is_at
+unfolding row_at
+returns-then-is_at c =
+    (omega arith, unbiased_zero ∙ sym (base_nothing _ _ _ (sym c.is_at.ensures ∙ c.if-is_at.true)))
+
+overflow_mul-f-2 : tie.Need-overflow_mul-f-2
+overflow_mul-f-2 c = search rules
+
+overflow_add-f-2 : tie.Need-overflow_add-f-2
+overflow_add-f-2 c = search rules
+
+is_at-requires-2 : tie.Need-is_at-requires-2
+is_at-requires-2 c κs = search rules
+
+overflow_add-result : tie.Need-overflow_add-result
+overflow_add-result c = search rules
+
+returns-then-is_at-2 : tie.Need-returns-then-is_at-2
+unfolding row_at
+returns-then-is_at-2 c =
+    (omega arith, unbiased_pos _ ∙ sym (base_parameter _ _ _ (sym c.is_at.ensures ∙ c.if-is_at.false) (sym c.is_at-2.ensures ∙ c.if-is_at-2.true)))
 
 returns : tie.Need-returns
 unfolding row_at
 returns c =
-    (omega arith, unbiased_zero ∙ sym (base_nothing _ _ _ (sym c.before.is_at.ensures ∙ c.if1.true)))
-
-mul-is-at-2 : tie.Need-overflow-mul-is-at-2
-mul-is-at-2 c = search rules
-
-add-is-at-2 : tie.Need-overflow-add-is-at-2
-add-is-at-2 c = search rules
-
-is-at-requires-2 : tie.Need-is-at-requires-2
-is-at-requires-2 c κs = search rules
-
-add-result : tie.Need-overflow-add-result
-add-result c = search rules
-
-returns_2 : tie.Need-returns-2
-unfolding row_at
-returns_2 c =
-    (omega arith, unbiased_pos _ ∙ sym (base_parameter _ _ _ (sym c.before.before.before.is_at.ensures ∙ c.before.before.if1.false) (sym c.before.is-at2.ensures ∙ c.if2.true)))
-
-returns_3 : tie.Need-returns-3
-unfolding row_at
-returns_3 c =
-    (c.before.before.before.before.requires.2, sym (base_index _ _ _ (sym c.before.before.before.is_at.ensures ∙ c.before.before.if1.false) (sym c.before.is-at2.ensures ∙ c.if2.false)))
+    (c.requires.2, sym (base_index _ _ _ (sym c.is_at.ensures ∙ c.if-is_at.false) (sym c.is_at-2.ensures ∙ c.if-is_at-2.false)))
 
 pub base_of_spec : {M : Type 1} → statement M
 base_of_spec =
     tie.close
     (tie.spec
-    mul-is-at
-    add-is-at
-    is-at-requires
-    returns
-    mul-is-at-2
-    add-is-at-2
-    is-at-requires-2
-    add-result
-    returns_2
-    returns_3)
+    overflow_mul-f
+    overflow_add-f
+    is_at-requires
+    returns-then-is_at
+    overflow_mul-f-2
+    overflow_add-f-2
+    is_at-requires-2
+    overflow_add-result
+    returns-then-is_at-2
+    returns)

@@ -4,13 +4,13 @@ use Rattle.pairs.specs.Word.{combined_word}
 use Rattle.value.proofs.combined.Statement.{statement}
 use Rattle.value.proofs.combined.Tie as tie
 
-returns : tie.Need-returns
+returns-then-any : tie.Need-returns-then-any
 unfolding combined_word
-returns c = ap (λ (v : Bool). combined_word v c.before.args.v c.before.args.w) (sym c.if1.true)
+returns-then-any c = ap (λ (v : Bool). combined_word v c.args.v c.args.w) (sym c.if-any.true)
 
-returns_2 : tie.Need-returns-2
+returns-else-any : tie.Need-returns-else-any
 unfolding combined_word
-returns_2 c = ap (λ (v : Bool). combined_word v c.before.args.v c.before.args.w) (sym c.if1.false)
+returns-else-any c = ap (λ (v : Bool). combined_word v c.args.v c.args.w) (sym c.if-any.false)
 
 pub combined_spec : {M : Type 1} → statement M
-combined_spec = tie.close (tie.spec returns returns_2)
+combined_spec = tie.close (tie.spec returns-then-any returns-else-any)

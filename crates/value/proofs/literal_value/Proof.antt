@@ -32,56 +32,53 @@ value_at_lem c j = value (σ c) c.args.n (tree (row_at c.args.schema.now) c.args
 formed : (c : tie.Start) → well_formed (row_at c.args.schema.now) c.args.f ≡ true
 formed c = c.requires.0.formed _ (omega arith)
 
-symbol-word-requires : tie.Need-symbol-word-requires
-symbol-word-requires c κs = search rules
+symbol_word-w-requires : tie.Need-symbol_word-w-requires
+symbol_word-w-requires c κs = search rules
 
-mul_natural_at : tie.Need-overflow-mul-natural-at
-mul_natural_at c = search rules
+overflow_mul-f : tie.Need-overflow_mul-f
+overflow_mul-f c = search rules
 
-natural_at_requires : tie.Need-natural-at-requires
-natural_at_requires c κs = search rules
+natural_at-requires : tie.Need-natural_at-requires
+natural_at-requires c κs = search rules
 
-returns : tie.Need-returns
+returns-then-natural_at-eq2 : tie.Need-returns-then-natural_at-eq2
 unfolding row_at word_at
-returns c =
-    let start = c.before.before.before in
-    c.before.before.symbol-word.ensures
-    ∙ word_same (symbol_at start) (value_at_lem start) start.args.width
+returns-then-natural_at-eq2 c =
+    c.symbol_word-w.ensures
+    ∙ word_same (symbol_at c.before.before.before) (value_at_lem c.before.before.before) c.args.width
     (λ j l.
-    sym (signed_true _ _ (eq-eqb (nat (row start).kind) 2 (sym c.before.natural-at.ensures.0 ∙ c.if1.true)))
-    ∙ sym (value_literal _ _ (formed start) _ refl start.requires.2.low start.requires.2.high _ _ _))
+    sym (signed_true _ _ (eq-eqb (nat (row c.before.before.before).kind) 2 (sym c.natural_at.ensures.0 ∙ c.if-natural_at-eq2.true)))
+    ∙ sym (value_literal _ _ (formed c.before.before.before) _ refl c.requires.2.low c.requires.2.high _ _ _))
 
 ones-requires : tie.Need-ones-requires
 ones-requires c κs = search rules
 
-sub-result : tie.Need-overflow-sub-result
+overflow_sub-result : tie.Need-overflow_sub-result
 unfolding word_at
-sub-result c =
-    let start = c.before.before.before.before in
-    omega (arith, c.ones.ensures, c.before.before.before.symbol-word.ensures, word_less (symbol_at start) start.args.width)
+overflow_sub-result c =
+    omega (arith, c.ones.ensures, c.symbol_word-w.ensures, word_less (symbol_at c.before.before.before.before) c.args.width)
 
-returns_2 : tie.Need-returns-2
+returns : tie.Need-returns
 unfolding row_at word_at
-returns_2 c =
-    let start = c.before.before.before.before in
-    let w = c.before.before.before.symbol-word in
-    let turned : c.ones.result - w.result ≡ word (λ j. not (symbol_at start j)) start.args.width =
-    omega (arith, c.ones.ensures, w.ensures, word_not (symbol_at start) start.args.width)
+returns c =
+    let w = c.symbol_word-w in
+    let turned : c.ones.result - w.result ≡ word (λ j. not (symbol_at c.before.before.before.before j)) c.args.width =
+    omega (arith, c.ones.ensures, w.ensures, word_not (symbol_at c.before.before.before.before) c.args.width)
     in
     turned
-    ∙ word_same (λ j. not (symbol_at start j)) (value_at_lem start) start.args.width
+    ∙ word_same (λ j. not (symbol_at c.before.before.before.before j)) (value_at_lem c.before.before.before.before) c.args.width
     (λ j l.
-    sym (signed_false _ _ (ne_eqb (nat (row start).kind) 2 (λ e. c.before.if1.false (c.before.before.natural-at.ensures.0 ∙ e))))
-    ∙ sym (value_literal _ _ (formed start) _ refl start.requires.2.low start.requires.2.high _ _ _))
+    sym (signed_false _ _ (ne_eqb (nat (row c.before.before.before.before).kind) 2 (λ e. c.if-natural_at-eq2.false (c.natural_at.ensures.0 ∙ e))))
+    ∙ sym (value_literal _ _ (formed c.before.before.before.before) _ refl c.requires.2.low c.requires.2.high _ _ _))
 
 pub literal_value_spec : {M : Type 1} → statement M
 literal_value_spec =
     tie.close
     (tie.spec
-    symbol-word-requires
-    mul_natural_at
-    natural_at_requires
-    returns
+    symbol_word-w-requires
+    overflow_mul-f
+    natural_at-requires
+    returns-then-natural_at-eq2
     ones-requires
-    sub-result
-    returns_2)
+    overflow_sub-result
+    returns)

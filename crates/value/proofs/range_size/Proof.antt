@@ -25,88 +25,88 @@ near c =
       end_up = within_nat 9999 9999 _ c.requires.2.end;
     }
 
-add-up : tie.Need-overflow-add-up
-add-up c = search rules
+overflow_add-up : tie.Need-overflow_add-up
+overflow_add-up c = search rules
 
-mul-under-at : tie.Need-overflow-mul-under-at
-mul-under-at c = search rules
+overflow_mul-f : tie.Need-overflow_mul-f
+overflow_mul-f c = search rules
 
-add-under-at : tie.Need-overflow-add-under-at
-add-under-at c = search rules
+overflow_add-f : tie.Need-overflow_add-f
+overflow_add-f c = search rules
 
-under-at-requires : tie.Need-under-at-requires
-under-at-requires c κs = search rules
+under_at-requires : tie.Need-under_at-requires
+under_at-requires c κs = search rules
 
-add-up-2 : tie.Need-overflow-add-up-2
+overflow_add-up-2 : tie.Need-overflow_add-up-2
 unfolding row_at
-add-up-2 c = omega (arith, near c.before)
+overflow_add-up-2 c = omega (arith, near c.before)
 
-mul-under-at-2 : tie.Need-overflow-mul-under-at-2
-mul-under-at-2 c = search rules
+overflow_mul-f-2 : tie.Need-overflow_mul-f-2
+overflow_mul-f-2 c = search rules
 
-add-under-at-2 : tie.Need-overflow-add-under-at-2
-add-under-at-2 c = search rules
+overflow_add-f-2 : tie.Need-overflow_add-f-2
+overflow_add-f-2 c = search rules
 
-under-at-requires-2 : tie.Need-under-at-requires-2
-under-at-requires-2 c κs = search rules
+under_at-requires-2 : tie.Need-under_at-requires-2
+under_at-requires-2 c κs = search rules
 
-add-up-3 : tie.Need-overflow-add-up-3
+overflow_add-up-3 : tie.Need-overflow_add-up-3
 unfolding row_at
-add-up-3 c = omega (arith, near c.before.before)
+overflow_add-up-3 c = omega (arith, near c.before.before)
 
-mul_natural_at : tie.Need-overflow-mul-natural-at
-mul_natural_at c = search rules
+overflow_mul-f-3 : tie.Need-overflow_mul-f-3
+overflow_mul-f-3 c = search rules
 
-add_natural_at : tie.Need-overflow-add-natural-at
-add_natural_at c = search rules
+overflow_add-f-3 : tie.Need-overflow_add-f-3
+overflow_add-f-3 c = search rules
 
-natural_at_requires : tie.Need-natural-at-requires
-natural_at_requires c κs = search rules
+natural_at-requires : tie.Need-natural_at-requires
+natural_at-requires c κs = search rules
 
-mul_natural_at_2 : tie.Need-overflow-mul-natural-at-2
-mul_natural_at_2 c = search rules
+overflow_mul-f-4 : tie.Need-overflow_mul-f-4
+overflow_mul-f-4 c = search rules
 
-add_natural_at_2 : tie.Need-overflow-add-natural-at-2
-add_natural_at_2 c = search rules
+overflow_add-f-4 : tie.Need-overflow_add-f-4
+overflow_add-f-4 c = search rules
 
-natural_at_requires_2 : tie.Need-natural-at-requires-2
-natural_at_requires_2 c κs = search rules
+natural_at-requires-2 : tie.Need-natural_at-requires-2
+natural_at-requires-2 c κs = search rules
 
-add-down : tie.Need-overflow-add-down
+overflow_add-down : tie.Need-overflow_add-down
 unfolding row_at
-add-down c = omega (arith, near c.before.before.before.before)
+overflow_add-down c = omega (arith, near c.before.before.before.before)
 
-returns : tie.Need-returns
+returns-then-up-down : tie.Need-returns-then-up-down
 unfolding row_at
-returns c =
-    let a = c.before.before.before.before.before.args in
+returns-then-up-down c =
+    let a = c.args in
     omega (arith, size_is a.n (row_at a.schema.now a.f).b (row_at a.schema.now a.f).c)
 
-returns_2 : tie.Need-returns-2
+returns-else-up-down : tie.Need-returns-else-up-down
 unfolding row_at
-returns_2 c =
-    let a = c.before.before.before.before.before.args in
+returns-else-up-down c =
+    let a = c.args in
     omega (arith, size_is a.n (row_at a.schema.now a.f).b (row_at a.schema.now a.f).c)
 
 pub range_size_spec : {M : Type 1} → statement M
 range_size_spec =
     tie.close
     (tie.spec
-    add-up
-    mul-under-at
-    add-under-at
-    under-at-requires
-    add-up-2
-    mul-under-at-2
-    add-under-at-2
-    under-at-requires-2
-    add-up-3
-    mul_natural_at
-    add_natural_at
-    natural_at_requires
-    mul_natural_at_2
-    add_natural_at_2
-    natural_at_requires_2
-    add-down
-    returns
-    returns_2)
+    overflow_add-up
+    overflow_mul-f
+    overflow_add-f
+    under_at-requires
+    overflow_add-up-2
+    overflow_mul-f-2
+    overflow_add-f-2
+    under_at-requires-2
+    overflow_add-up-3
+    overflow_mul-f-3
+    overflow_add-f-3
+    natural_at-requires
+    overflow_mul-f-4
+    overflow_add-f-4
+    natural_at-requires-2
+    overflow_add-down
+    returns-then-up-down
+    returns-else-up-down)

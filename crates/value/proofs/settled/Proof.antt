@@ -8,7 +8,7 @@ same-requires : tie.Need-same-requires
 same-requires c κs = search rules
 
 returns : tie.Need-returns
-returns c = ap (eqb c.before.args.w) c.same.ensures
+returns c = ap (eqb c.args.w) c.same.ensures
 
 pub settled_spec : {M : Type 1} → statement M
 settled_spec = tie.close (tie.spec same-requires returns)

@@ -38,120 +38,112 @@ based c = literal_base _ _ (formed c) _ refl c.requires.2.low c.requires.2.high
 added : (c : tie.Start) → offset (row c).c ≡ true
 added c = literal_offset _ _ (formed c) _ refl c.requires.2.low c.requires.2.high
 
-base-of-requires : tie.Need-base-of-requires
-base-of-requires c κs = search rules
+base_of-requires : tie.Need-base_of-requires
+base_of-requires c κs = search rules
 
-mul_moved : tie.Need-overflow-mul-moved
-mul_moved c = search rules
+overflow_mul-f : tie.Need-overflow_mul-f
+overflow_mul-f c = search rules
 
-add_moved : tie.Need-overflow-add-moved
-add_moved c = search rules
+overflow_add-f : tie.Need-overflow_add-f
+overflow_add-f c = search rules
 
-moved_requires : tie.Need-moved-requires
+moved-x-requires : tie.Need-moved-x-requires
 unfolding row_at offset
-moved_requires c κs =
+moved-x-requires c κs =
     record {
       start = omega arith;
       up = omega (arith, within_nat 9999 9999 _ (added c.before));
       down = omega (arith, within_under 9999 9999 _ (added c.before));
     }
 
-mul_natural_at : tie.Need-overflow-mul-natural-at
-mul_natural_at c = search rules
+overflow_mul-f-2 : tie.Need-overflow_mul-f-2
+overflow_mul-f-2 c = search rules
 
-add_natural_at : tie.Need-overflow-add-natural-at
-add_natural_at c = search rules
+overflow_add-f-2 : tie.Need-overflow_add-f-2
+overflow_add-f-2 c = search rules
 
-natural_at_requires : tie.Need-natural-at-requires
-natural_at_requires c κs = search rules
+natural_at-symbol-requires : tie.Need-natural_at-symbol-requires
+natural_at-symbol-requires c κs = search rules
 
-mul_natural_at_2 : tie.Need-overflow-mul-natural-at-2
-mul_natural_at_2 c = search rules
+overflow_mul-f-3 : tie.Need-overflow_mul-f-3
+overflow_mul-f-3 c = search rules
 
-add_natural_at_2 : tie.Need-overflow-add-natural-at-2
-add_natural_at_2 c = search rules
+overflow_add-f-3 : tie.Need-overflow_add-f-3
+overflow_add-f-3 c = search rules
 
-natural_at_requires_2 : tie.Need-natural-at-requires-2
-natural_at_requires_2 c κs = search rules
+natural_at-requires : tie.Need-natural_at-requires
+natural_at-requires c κs = search rules
 
 -- the symbol, and how far its index lies from the end of what stands for one
-module _ (c : tie.After-natural-at) where
-  symbol_is : pos c.natural-at.result ≡ (row c.before.before.before).a
+module _ (c : tie.After-natural_at-symbol) where
+  symbol_is : pos c.natural_at-symbol.result ≡ (row c.before.before.before).a
   unfolding row_at within
-  symbol_is = ap pos c.natural-at.ensures.0 ∙ nat_pos _ (and_left _ _ (symbol c.before.before.before))
+  symbol_is = ap pos c.natural_at-symbol.ensures.0 ∙ nat_pos _ (and_left _ _ (symbol c.before.before.before))
 
-  symbol_few : c.natural-at.result ≤ 255
+  symbol_few : c.natural_at-symbol.result ≤ 255
   unfolding row_at
-  symbol_few = omega (arith, c.natural-at.ensures.0, within_nat 0 255 _ (symbol c.before.before.before))
+  symbol_few = omega (arith, c.natural_at-symbol.ensures.0, within_nat 0 255 _ (symbol c.before.before.before))
 
-  index_few : c.before.moved.result ≤ 95533
+  index_few : c.moved-x.result ≤ 95533
   unfolding row_at offset
-  index_few = omega (arith, moved_high _ _ _ c.before.moved.ensures, within_nat 9999 9999 _ (added c.before.before.before))
+  index_few = omega (arith, moved_high _ _ _ c.moved-x.ensures, within_nat 9999 9999 _ (added c.before.before.before))
 
-  index_is : unbiased c.before.moved.result ≡ (base c.before.before.before.args.n (unbiased c.before.before.before.args.i) (base_of (row c.before.before.before).b) +ℤ (row c.before.before.before).c)
+  index_is : unbiased c.moved-x.result ≡ (base c.before.before.before.args.n (unbiased c.before.before.before.args.i) (base_of (row c.before.before.before).b) +ℤ (row c.before.before.before).c)
   unfolding row_at
-  index_is = c.before.moved.ensures ∙ ap (λ (z : ℤ). z +ℤ (row c.before.before.before).c) c.before.before.base-of.ensures.1
+  index_is = c.moved-x.ensures ∙ ap (λ (z : ℤ). z +ℤ (row c.before.before.before).c) c.base_of.ensures.1
 
-listed-word-requires : tie.Need-listed-word-requires
-listed-word-requires c κs =
-    let start = c.before.before.before.before.before in
-    let at = c.before.before in
-    (start.requires.0.few, symbol_few at, omega arith, omega arith, omega (arith, index_few at), start.requires.0.sorted)
+listed_word-requires : tie.Need-listed_word-requires
+listed_word-requires c κs =
+    (c.requires.0.few, symbol_few c.before.before, omega arith, omega arith, omega (arith, index_few c.before.before), c.requires.0.sorted)
 
 same-requires : tie.Need-same-requires
 same-requires c κs = search rules
 
+returns-then-natural_at-lt2 : tie.Need-returns-then-natural_at-lt2
+unfolding row_at word_at symbol_value
+returns-then-natural_at-lt2 c =
+    let found = c.listed_word.result in
+    c.same.ensures
+    ∙ word_same (λ j. eqb found 1) (λ j. symbol_value (σ c.before.before.before.before.before.before.before) c.args.n (row c.before.before.before.before.before.before.before) (unbiased (c.args.i + j))) c.args.width
+    (λ j l.
+    ap (λ (m : ℕ). eqb m 1) c.listed_word.ensures
+    ∙ word_one (σ c.before.before.before.before.before.before.before (pos c.natural_at-symbol.result)) c.moved-x.result
+    ∙ ap₂ (σ c.before.before.before.before.before.before.before) (symbol_is c.before.before.before.before) (index_is c.before.before.before.before)
+    ∙ ap (λ (z : ℤ). σ c.before.before.before.before.before.before.before (row c.before.before.before.before.before.before.before).a (z +ℤ (row c.before.before.before.before.before.before.before).c)) (base_fixed c.args.n _ _ (row c.before.before.before.before.before.before.before).b (based c.before.before.before.before.before.before.before) (omega (arith, c.natural_at.ensures.0, c.if-natural_at-lt2.true))))
+
+listed_word-requires-2 : tie.Need-listed_word-requires-2
+listed_word-requires-2 c κs =
+    (c.requires.0.few, symbol_few c.before.before, omega arith, omega arith, omega (arith, index_few c.before.before), c.requires.0.sorted)
+
 returns : tie.Need-returns
 unfolding row_at word_at symbol_value
 returns c =
-    let start = c.before.before.before.before.before.before.before in
-    let at = c.before.before.before.before in
-    let found = c.before.listed-word.result in
-    c.same.ensures
-    ∙ word_same (λ j. eqb found 1) (λ j. symbol_value (σ start) start.args.n (row start) (unbiased (start.args.i + j))) start.args.width
-    (λ j l.
-    ap (λ (m : ℕ). eqb m 1) c.before.listed-word.ensures
-    ∙ word_one (σ start (pos at.natural-at.result)) at.before.moved.result
-    ∙ ap₂ (σ start) (symbol_is at) (index_is at)
-    ∙ ap (λ (z : ℤ). σ start (row start).a (z +ℤ (row start).c)) (base_fixed start.args.n _ _ (row start).b (based start) (omega (arith, c.before.before.before.natural-at2.ensures.0, c.before.before.if1.true))))
-
-listed-word-requires-2 : tie.Need-listed-word-requires-2
-listed-word-requires-2 c κs =
-    let start = c.before.before.before.before.before in
-    let at = c.before.before in
-    (start.requires.0.few, symbol_few at, omega arith, omega arith, omega (arith, index_few at), start.requires.0.sorted)
-
-returns_2 : tie.Need-returns-2
-unfolding row_at word_at symbol_value
-returns_2 c =
-    let start = c.before.before.before.before.before.before in
-    let at = c.before.before.before in
-    let moves : (i : ℤ) → (base start.args.n i (base_of (row start).b) +ℤ (row start).c) ≡ (i +ℤ (row start).c) =
-    λ i. ap (λ (z : ℤ). z +ℤ (row start).c) (base_moves start.args.n i (row start).b (omega (arith, c.before.before.natural-at2.ensures.0, c.before.if1.false)))
+    let moves : (i : ℤ) → (base c.args.n i (base_of (row c.before.before.before.before.before.before).b) +ℤ (row c.before.before.before.before.before.before).c) ≡ (i +ℤ (row c.before.before.before.before.before.before).c) =
+    λ i. ap (λ (z : ℤ). z +ℤ (row c.before.before.before.before.before.before).c) (base_moves c.args.n i (row c.before.before.before.before.before.before).b (omega (arith, c.natural_at.ensures.0, c.if-natural_at-lt2.false)))
     in
-    c.listed-word2.ensures
-    ∙ word_same _ (λ j. symbol_value (σ start) start.args.n (row start) (unbiased (start.args.i + j))) start.args.width
+    c.listed_word-2.ensures
+    ∙ word_same _ (λ j. symbol_value (σ c.before.before.before.before.before.before) c.args.n (row c.before.before.before.before.before.before) (unbiased (c.args.i + j))) c.args.width
     (λ j l.
-    ap₂ (σ start) (symbol_is at)
-    (moved_more at.before.moved.result start.args.i j (row start).c (index_is at ∙ moves (unbiased start.args.i))
-    ∙ sym (moves (unbiased (start.args.i + j)))))
+    ap₂ (σ c.before.before.before.before.before.before) (symbol_is c.before.before.before)
+    (moved_more c.moved-x.result c.args.i j (row c.before.before.before.before.before.before).c (index_is c.before.before.before ∙ moves (unbiased c.args.i))
+    ∙ sym (moves (unbiased (c.args.i + j)))))
 
 pub symbol_word_spec : {M : Type 1} → statement M
 symbol_word_spec =
     tie.close
     (tie.spec
-    base-of-requires
-    mul_moved
-    add_moved
-    moved_requires
-    mul_natural_at
-    add_natural_at
-    natural_at_requires
-    mul_natural_at_2
-    add_natural_at_2
-    natural_at_requires_2
-    listed-word-requires
+    base_of-requires
+    overflow_mul-f
+    overflow_add-f
+    moved-x-requires
+    overflow_mul-f-2
+    overflow_add-f-2
+    natural_at-symbol-requires
+    overflow_mul-f-3
+    overflow_add-f-3
+    natural_at-requires
+    listed_word-requires
     same-requires
-    returns
-    listed-word-requires-2
-    returns_2)
+    returns-then-natural_at-lt2
+    listed_word-requires-2
+    returns)
