@@ -15,15 +15,13 @@ use Rattle.model.proofs.check_model.Tie as tie
 
 abbrev model : tie.Start → ℤ → Model
 model c n =
-    record { schema = lent_schema c.args.schema.now c.args.h; n = n; pairs = c.args.pairs.now; pair_rows = c.args.pair-rows }
+    record { schema = lent_schema c.args.schema.now c.args.h; n = n; pairs = c.args.pairs.now; pair_rows = c.args.pair_rows }
 
 -- a signed number is kept as bits, and read back from them
-model_known : (c : tie.After-model-pass) →
-    let start = c.before in
-    c.model-pass.result ≡ model_refusal (model start start.args.n)
+model_known : (c : tie.After-model_pass-found) →
+    c.model_pass-found.result ≡ model_refusal (model c.before c.args.n)
 model_known c =
-    let start = c.before in
-    c.model-pass.ensures ∙ ap (λ (m : ℤ). model_refusal (model start m)) (to_z-of_z start.ranges.n)
+    c.model_pass-found.ensures ∙ ap (λ (m : ℤ). model_refusal (model c.before m)) (to_z-of_z c.ranges.n)
 
 -- the second clause follows from the first
 both : (c : tie.Start) (v : Verdict) →
@@ -31,25 +29,25 @@ both : (c : tie.Start) (v : Verdict) →
     v ≡ check_model M → (v ≡ check_model M) × ((nodes links : ℕ) → v ≡ Accepted nodes links → Irrefutable M.schema)
 both c v e = (e, λ nodes links a. no_model_lem (model c c.args.n) nodes links (sym e ∙ a))
 
-model-pass-requires : tie.Need-model-pass-requires
-model-pass-requires c κs = search rules
+model_pass-found-requires : tie.Need-model_pass-found-requires
+model_pass-found-requires c κs = search rules
 
-enum-known-found : tie.Need-enum-known-found
-enum-known-found c = search rules
+enum_known-found : tie.Need-enum_known-found
+enum_known-found c = search rules
 
-enum_told : tie.Need-enum-told
-enum_told c = search rules
+enum_told-1 : tie.Need-enum_told-1
+enum_told-1 c = search rules
 
-returns : tie.Need-returns
+returns-in-Found : tie.Need-returns-in-Found
 unfolding check_model
-returns c =
-    both c.before.before.before.before _ (refused_is _ _ _ _ (model_known c.before.before.before) c.before.found.given.1)
+returns-in-Found c =
+    both c.before.before _ (refused_is _ _ _ _ (model_known c.before) c.in-Found.is)
 
-returns_2 : tie.Need-returns-2
+returns-in-Nothing : tie.Need-returns-in-Nothing
 unfolding check_model
-returns_2 c =
-    both c.before.before.before _ (accepted_is _ _ (model_known c.before.before) c.enum_told.given.1)
+returns-in-Nothing c =
+    both c.before.before _ (accepted_is _ _ (model_known c.before) c.in-Nothing.is)
 
 pub check_model_spec : {M : Type 1} → statement M
 check_model_spec =
-    tie.close (tie.spec model-pass-requires enum-known-found enum_told returns returns_2)
+    tie.close (tie.spec model_pass-found-requires enum_known-found enum_told-1 returns-in-Found returns-in-Nothing)

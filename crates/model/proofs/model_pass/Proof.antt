@@ -19,114 +19,113 @@ use Rattle.model.proofs.model_pass.Tie as tie
 
 abbrev model : tie.Start → Model
 model c =
-    record { schema = lent_schema c.args.schema.now c.args.h; n = c.args.n; pairs = c.args.pairs.now; pair_rows = c.args.pair-rows }
+    record { schema = lent_schema c.args.schema.now c.args.h; n = c.args.n; pairs = c.args.pairs.now; pair_rows = c.args.pair_rows }
 
 -- nothing was found in the tables' sizes, in the formula rows, in the pairs
-tables_passed : (c : tie.After-enum-told) →
-    let a = c.before.before.before.args in
-    tables_refusal a.schema.now a.h.rows a.pairs.now a.pair-rows ≡ Nothing
-tables_passed c = nothing_found _ _ c.before.before.tables-pass.ensures c.enum_told.given.1
+tables_passed : (c : tie.In-Nothing) →
+    let a = c.args in
+    tables_refusal a.schema.now a.h.rows a.pairs.now a.pair_rows ≡ Nothing
+tables_passed c = nothing_found _ _ c.tables_pass-found.ensures c.in-Nothing.is
 
-formulas_passed : (c : tie.After-enum-told3) →
-    let a = c.before.before.before.before.before.before.args in
+formulas_passed : (c : tie.In-Nothing-found) →
+    let a = c.args in
     schema_refusal (lent_schema a.schema.now a.h) ≡ Nothing
-formulas_passed c = nothing_found _ _ c.before.before.formulas-pass.ensures.0 c.enum-told3.given.1
+formulas_passed c = nothing_found _ _ c.formulas_pass-found.ensures.0 c.in-Nothing-found.is
 
-all_formed_lem : (c : tie.After-enum-told3) →
-    let a = c.before.before.before.before.before.before.args in
+all_formed_lem : (c : tie.In-Nothing-found) →
+    let a = c.args in
     AllFormed (row_at a.schema.now) a.h.rows
 all_formed_lem c =
-    c.before.before.formulas-pass.ensures.1 c.enum-told3.given.1
+    c.formulas_pass-found.ensures.1 c.in-Nothing-found.is
 
-pairs_passed : (c : tie.After-enum-told5) →
-    let a = c.before.before.before.before.before.before.before.before.before.args in
-    scan (pair_refusal a.pairs.now) a.pair-rows ≡ Nothing
-pairs_passed c = nothing_found _ _ c.before.before.pairs-pass.ensures c.enum-told5.given.1
+pairs_passed : (c : tie.In-Nothing-found-2) →
+    let a = c.args in
+    scan (pair_refusal a.pairs.now) a.pair_rows ≡ Nothing
+pairs_passed c = nothing_found _ _ c.pairs_pass-found.ensures c.in-Nothing-found-2.is
 
-tables-pass-requires : tie.Need-tables-pass-requires
-tables-pass-requires c κs = search rules
+tables_pass-found-requires : tie.Need-tables_pass-found-requires
+tables_pass-found-requires c κs = search rules
 
-enum_told : tie.Need-enum-told
-enum_told c = search rules
+enum_told-1 : tie.Need-enum_told-1
+enum_told-1 c = search rules
 
-enum-told-2 : tie.Need-enum-told-2
-enum-told-2 c = search rules
+enum_told-in_default : tie.Need-enum_told-in_default
+enum_told-in_default c = search rules
 
-returns : tie.Need-returns
-returns c =
-    stays _ _ _ _ _ c.before.before.tables-pass.ensures c.enum-told2.given.1 ∙ sym (model_is (model c.before.before.before))
+returns-in_default : tie.Need-returns-in_default
+returns-in_default c =
+    stays _ _ _ _ _ c.tables_pass-found.ensures c.in_default.is ∙ sym (model_is (model c.before.before))
 
-formulas-pass-requires : tie.Need-formulas-pass-requires
-formulas-pass-requires c κs =
+formulas_pass-found-requires : tie.Need-formulas_pass-found-requires
+formulas_pass-found-requires c κs =
     let e = tables_passed c in
     (rows_few _ _ _ _ e, schema_held_lem _ _ _ _ e)
 
-enum-told-3 : tie.Need-enum-told-3
-enum-told-3 c = search rules
+enum_told-in-Nothing-found : tie.Need-enum_told-in-Nothing-found
+enum_told-in-Nothing-found c = search rules
 
-enum-told-4 : tie.Need-enum-told-4
-enum-told-4 c = search rules
+enum_told-in_default-found : tie.Need-enum_told-in_default-found
+enum_told-in_default-found c = search rules
 
-returns_2 : tie.Need-returns-2
-returns_2 c =
-    later _ _ _ (tables_passed c.before.before.before)
-    (stays _ _ _ _ _ c.before.before.formulas-pass.ensures.0 c.enum-told4.given.1)
+returns-in_default-found : tie.Need-returns-in_default-found
+returns-in_default-found c =
+    later _ _ _ (tables_passed c.before.before)
+    (stays _ _ _ _ _ c.formulas_pass-found.ensures.0 c.in_default-found.is)
+    ∙ sym (model_is (model c.before.before.before.before))
+
+pairs_pass-found-requires : tie.Need-pairs_pass-found-requires
+pairs_pass-found-requires c κs =
+    pairs_few _ _ _ _ (tables_passed c.before.before)
+
+enum_told-in-Nothing-found-2 : tie.Need-enum_told-in-Nothing-found-2
+enum_told-in-Nothing-found-2 c = search rules
+
+enum_told-in_default-found-2 : tie.Need-enum_told-in_default-found-2
+enum_told-in_default-found-2 c = search rules
+
+returns-in_default-found-2 : tie.Need-returns-in_default-found-2
+returns-in_default-found-2 c =
+    later _ _ _ (tables_passed c.before.before.before.before)
+    (later _ _ _ (formulas_passed c.before.before)
+    (stays _ _ _ _ _ c.pairs_pass-found.ensures c.in_default-found-2.is))
     ∙ sym (model_is (model c.before.before.before.before.before.before))
 
-pairs-pass-requires : tie.Need-pairs-pass-requires
-pairs-pass-requires c κs =
-    pairs_few _ _ _ _ (tables_passed c.before.before.before)
-
-enum-told-5 : tie.Need-enum-told-5
-enum-told-5 c = search rules
-
-enum-told-6 : tie.Need-enum-told-6
-enum-told-6 c = search rules
-
-returns_3 : tie.Need-returns-3
-returns_3 c =
-    later _ _ _ (tables_passed c.before.before.before.before.before.before)
-    (later _ _ _ (formulas_passed c.before.before.before)
-    (stays _ _ _ _ _ c.before.before.pairs-pass.ensures c.enum-told6.given.1))
-    ∙ sym (model_is (model c.before.before.before.before.before.before.before.before.before))
-
-truth-pass-requires : tie.Need-truth-pass-requires
-truth-pass-requires c κs =
-    let tables = tables_passed c.before.before.before.before.before.before in
-    let formulas = formulas_passed c.before.before.before in
+truth_pass-requires : tie.Need-truth_pass-requires
+truth_pass-requires c κs =
+    let tables = tables_passed c.before.before.before.before in
+    let formulas = formulas_passed c.before.before in
     let root = passed_root _ formulas in
     record {
       row = omega (arith, root, rows_few _ _ _ _ tables);
-      formed = λ r p. all_formed_lem c.before.before.before r (omega (arith, root));
+      formed = λ r p. all_formed_lem c.before.before r (omega (arith, root));
       few = pairs_few _ _ _ _ tables;
       sorted = scan_sorted _ _ (pairs_passed c);
     }
 
-returns_4 : tie.Need-returns-4
-returns_4 c =
-    let start = c.before.before.before.before.before.before.before.before.before.before in
-    later _ _ _ (tables_passed c.before.before.before.before.before.before.before)
-    (later _ _ _ (formulas_passed c.before.before.before.before)
+returns : tie.Need-returns
+returns c =
+    later _ _ _ (tables_passed c.before.before.before.before.before)
+    (later _ _ _ (formulas_passed c.before.before.before)
     (later _ _ _ (pairs_passed c.before)
-    (c.truth-pass.ensures
-    ∙ ap (λ (m : ℤ). truth_refusal (lent_schema start.args.schema.now start.args.h) m start.args.pairs.now start.args.pair-rows) (to_z-of_z start.ranges.n))))
-    ∙ sym (model_is (model start))
+    (c.truth_pass.ensures
+    ∙ ap (λ (m : ℤ). truth_refusal (lent_schema c.args.schema.now c.args.h) m c.args.pairs.now c.args.pair_rows) (to_z-of_z c.ranges.n))))
+    ∙ sym (model_is (model c.before.before.before.before.before.before.before))
 
 pub model_pass_spec : {M : Type 1} → statement M
 model_pass_spec =
     tie.close
     (tie.spec
-    tables-pass-requires
-    enum_told
-    enum-told-2
-    returns
-    formulas-pass-requires
-    enum-told-3
-    enum-told-4
-    returns_2
-    pairs-pass-requires
-    enum-told-5
-    enum-told-6
-    returns_3
-    truth-pass-requires
-    returns_4)
+    tables_pass-found-requires
+    enum_told-1
+    enum_told-in_default
+    returns-in_default
+    formulas_pass-found-requires
+    enum_told-in-Nothing-found
+    enum_told-in_default-found
+    returns-in_default-found
+    pairs_pass-found-requires
+    enum_told-in-Nothing-found-2
+    enum_told-in_default-found-2
+    returns-in_default-found-2
+    truth_pass-requires
+    returns)

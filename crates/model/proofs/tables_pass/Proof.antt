@@ -1,5 +1,5 @@
-use mathlib.Core.Path.{◌≡◌, sym, ◌∙◌}
-use mathlib.Core.Bool.{true}
+use mathlib.Core.Path.{◌≡◌, sym, ◌∙◌, ap}
+use mathlib.Core.Bool.{true, not}
 use borrow.Author.Rules.{rules}
 use borrow.Author.Tests.{le-leb, lt-leb}
 use Rattle.stab.specs.Basic.{◌and◌}
@@ -17,45 +17,45 @@ whole-requires : tie.Need-whole-requires
 whole-requires c κs = search rules
 
 -- both tables hold their rows
-held : (c : tie.Else2) →
-    let a = c.before.before.before.before.args in
-    (holds a.schema.now 4 a.schema-rows and holds a.pairs.now 2 a.pair-rows) ≡ true
+held : (c : tie.Else-not-holds-2) →
+    let a = c.args in
+    (holds a.schema.now 4 a.schema_rows and holds a.pairs.now 2 a.pair_rows) ≡ true
 held c =
     and_both _ _
-    (sym c.before.before.before.holds.ensures ∙ true_of_not _ c.before.before.if1.false)
-    (sym c.before.holds2.ensures ∙ true_of_not _ c.if2.false)
+    (sym c.holds.ensures ∙ true_of_not _ (ap not c.if-not-holds.false))
+    (sym c.holds-2.ensures ∙ true_of_not _ (ap not c.if-not-holds-2.false))
 
-returns : tie.Need-returns
+returns-then-not-holds : tie.Need-returns-then-not-holds
 unfolding tables_refusal
-returns c = found_here _ _ _ _ c.whole.ensures (and_first_false _ _ (sym c.before.before.holds.ensures ∙ false_of_not _ c.before.if1.true))
+returns-then-not-holds c = found_here _ _ _ _ c.whole.ensures (and_first_false _ _ (sym c.holds.ensures ∙ false_of_not _ (ap not c.if-not-holds.true)))
 
 holds-requires-2 : tie.Need-holds-requires-2
 holds-requires-2 c κs = search rules
 
-whole-requires-2 : tie.Need-whole-requires-2
-whole-requires-2 c κs = search rules
+whole-requires-then-not-holds-2 : tie.Need-whole-requires-then-not-holds-2
+whole-requires-then-not-holds-2 c κs = search rules
 
-returns_2 : tie.Need-returns-2
+returns-then-not-holds-2 : tie.Need-returns-then-not-holds-2
 unfolding tables_refusal
-returns_2 c = found_here _ _ _ _ c.whole2.ensures (and_second_false _ _ (sym c.before.before.holds2.ensures ∙ false_of_not _ c.before.if2.true))
+returns-then-not-holds-2 c = found_here _ _ _ _ c.whole-then-not-holds-2.ensures (and_second_false _ _ (sym c.holds-2.ensures ∙ false_of_not _ (ap not c.if-not-holds-2.true)))
 
-whole-requires-3 : tie.Need-whole-requires-3
-whole-requires-3 c κs = search rules
+whole-requires-then-schema_rows-gt1024 : tie.Need-whole-requires-then-schema_rows-gt1024
+whole-requires-then-schema_rows-gt1024 c κs = search rules
 
-returns_3 : tie.Need-returns-3
+returns-then-schema_rows-gt1024 : tie.Need-returns-then-schema_rows-gt1024
 unfolding tables_refusal
-returns_3 c = found_later _ _ _ _ (held c.before.before) (found_last _ _ _ c.whole3.ensures (and_first_false _ _ (lt-leb _ _ c.before.if3.true)))
+returns-then-schema_rows-gt1024 c = found_later _ _ _ _ (held c.before.before) (found_last _ _ _ c.whole-then-schema_rows-gt1024.ensures (and_first_false _ _ (lt-leb _ _ c.if-schema_rows-gt1024.true)))
 
-whole-requires-4 : tie.Need-whole-requires-4
-whole-requires-4 c κs = search rules
+whole-requires-then-pair_rows-gt4096 : tie.Need-whole-requires-then-pair_rows-gt4096
+whole-requires-then-pair_rows-gt4096 c κs = search rules
 
-returns_4 : tie.Need-returns-4
+returns-then-pair_rows-gt4096 : tie.Need-returns-then-pair_rows-gt4096
 unfolding tables_refusal
-returns_4 c = found_later _ _ _ _ (held c.before.before.before) (found_last _ _ _ c.whole4.ensures (and_second_false _ _ (lt-leb _ _ c.before.if4.true)))
+returns-then-pair_rows-gt4096 c = found_later _ _ _ _ (held c.before.before.before) (found_last _ _ _ c.whole-then-pair_rows-gt4096.ensures (and_second_false _ _ (lt-leb _ _ c.if-pair_rows-gt4096.true)))
 
-returns_5 : tie.Need-returns-5
+returns : tie.Need-returns
 unfolding tables_refusal
-returns_5 c = found_later _ _ _ _ (held c.before.before) (sym (whole_none _ _ (and_both _ _ (le-leb _ _ c.before.if3.false) (le-leb _ _ c.if4.false))))
+returns c = found_later _ _ _ _ (held c.before.before) (sym (whole_none _ _ (and_both _ _ (le-leb _ _ c.if-schema_rows-gt1024.false) (le-leb _ _ c.if-pair_rows-gt4096.false))))
 
 pub tables_pass_spec : {M : Type 1} → statement M
 tables_pass_spec =
@@ -63,12 +63,12 @@ tables_pass_spec =
     (tie.spec
     holds-requires
     whole-requires
-    returns
+    returns-then-not-holds
     holds-requires-2
-    whole-requires-2
-    returns_2
-    whole-requires-3
-    returns_3
-    whole-requires-4
-    returns_4
-    returns_5)
+    whole-requires-then-not-holds-2
+    returns-then-not-holds-2
+    whole-requires-then-schema_rows-gt1024
+    returns-then-schema_rows-gt1024
+    whole-requires-then-pair_rows-gt4096
+    returns-then-pair_rows-gt4096
+    returns)

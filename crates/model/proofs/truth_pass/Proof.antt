@@ -1,7 +1,7 @@
 use Prim.Native.Nat.{ℕ}
 use native.Mathlib.Omega.{arith}
 use mathlib.Core.Path.{◌≡◌, sym, ◌∙◌, ap, ap₂}
-use mathlib.Core.Bool.{true}
+use mathlib.Core.Bool.{true, not}
 use lib.Dec.{eqb}
 use lib.IntN.{ℤ, pos}
 use lib.Signed.{le_z}
@@ -22,90 +22,89 @@ use Rattle.model.proofs.Passes.{n_small, whole_none, found_last, found_here, fou
 use Rattle.model.proofs.truth_pass.Statement.{statement}
 use Rattle.model.proofs.truth_pass.Tie as tie
 
-width-fits-requires : tie.Need-width-fits-requires
-width-fits-requires c κs = search rules
+width_fits-requires : tie.Need-width_fits-requires
+width_fits-requires c κs = search rules
 
 whole-requires : tie.Need-whole-requires
 whole-requires c κs = search rules
 
 -- a signed number is kept as bits, and read back from them
-width_is : (c : tie.After-width-fits) →
-    let a = c.before.before.args in
-    c.width-fits.result ≡ (le_z a.h.least a.n and le_z a.n (pos 9999))
+width_is : (c : tie.After-width_fits) →
+    let a = c.args in
+    c.width_fits.result ≡ (le_z a.h.least a.n and le_z a.n (pos 9999))
 width_is c =
-    let start = c.before.before in
-    c.width-fits.ensures
-    ∙ ap₂ (λ (l m : ℤ). le_z l m and le_z m (pos 9999)) (read_back start.args.h.least c.before.struct_told.given.1.1.0.1) (to_z-of_z start.ranges.n)
+    c.width_fits.ensures
+    ∙ ap₂ (λ (l m : ℤ). le_z l m and le_z m (pos 9999)) (read_back c.args.h.least c.struct_told-1.given.1.1.0.1) (to_z-of_z c.ranges.n)
 
-width : (c : tie.Else1) →
-    let a = c.before.before.before.args in
+width : (c : tie.Else-not-width_fits) →
+    let a = c.args in
     (le_z a.h.least a.n and le_z a.n (pos 9999)) ≡ true
-width c = sym (width_is c.before) ∙ true_of_not _ c.if1.false
+width c = sym (width_is c.before) ∙ true_of_not _ (ap not c.if-not-width_fits.false)
 
-root_is : (c : tie.After-natural) → c.natural.result ≡ nat c.before.before.before.before.before.args.h.root
+root_is : (c : tie.After-natural-f) → c.natural-f.result ≡ nat c.args.h.root
 root_is c =
-    c.natural.ensures
-    ∙ ap nat (read_back c.before.before.before.before.before.args.h.root c.before.struct-told2.given.1.0.1)
+    c.natural-f.ensures
+    ∙ ap nat (read_back c.args.h.root c.struct_told-2-1.given.1.0.1)
 
-n_is : (c : tie.After-natural2) → c.natural2.result ≡ nat c.before.before.before.before.before.before.args.n
-n_is c = c.natural2.ensures ∙ ap nat (to_z-of_z c.before.before.before.before.before.before.ranges.n)
+n_is : (c : tie.After-natural-m) → c.natural-m.result ≡ nat c.args.n
+n_is c = c.natural-m.ensures ∙ ap nat (to_z-of_z c.ranges.n)
 
-value_is : (c : tie.After-formula-value) →
-    let a = c.before.before.before.before.before.before.before.args in
-    truth (listed a.pairs.now a.pair-rows) (nat a.n) (tree (row_at a.schema.now) (nat a.h.root)) ≡ eqb c.formula-value.result 1
+value_is : (c : tie.After-formula_value) →
+    let a = c.args in
+    truth (listed a.pairs.now a.pair_rows) (nat a.n) (tree (row_at a.schema.now) (nat a.h.root)) ≡ eqb c.formula_value.result 1
 unfolding truth
 value_is c =
-    let a = c.before.before.before.before.before.before.before.args in
+    let a = c.args in
     sym
-    (ap (λ (w : ℕ). eqb w 1) c.formula-value.ensures
-    ∙ word_one (value (listed a.pairs.now a.pair-rows) c.before.natural2.result (tree (row_at a.schema.now) c.before.before.natural.result)) 65536
-    ∙ ap₂ (λ (m f : ℕ). value (listed a.pairs.now a.pair-rows) m (tree (row_at a.schema.now) f) (unbiased 65536)) (n_is c.before) (root_is c.before.before)
-    ∙ ap (value (listed a.pairs.now a.pair-rows) (nat a.n) (tree (row_at a.schema.now) (nat a.h.root))) unbiased_zero)
+    (ap (λ (w : ℕ). eqb w 1) c.formula_value.ensures
+    ∙ word_one (value (listed a.pairs.now a.pair_rows) c.natural-m.result (tree (row_at a.schema.now) c.natural-f.result)) 65536
+    ∙ ap₂ (λ (m f : ℕ). value (listed a.pairs.now a.pair_rows) m (tree (row_at a.schema.now) f) (unbiased 65536)) (n_is c.before) (root_is c.before.before)
+    ∙ ap (value (listed a.pairs.now a.pair_rows) (nat a.n) (tree (row_at a.schema.now) (nat a.h.root))) unbiased_zero)
 
-returns : tie.Need-returns
+returns-then-not-width_fits : tie.Need-returns-then-not-width_fits
 unfolding truth_refusal
-returns c = found_here _ _ _ _ c.whole.ensures (sym (width_is c.before.before) ∙ false_of_not _ c.before.if1.true)
+returns-then-not-width_fits c = found_here _ _ _ _ c.whole.ensures (sym (width_is c.before.before) ∙ false_of_not _ (ap not c.if-not-width_fits.true))
 
-natural_requires : tie.Need-natural-requires
-natural_requires c κs = search rules
+natural-f-requires : tie.Need-natural-f-requires
+natural-f-requires c κs = search rules
 
-natural_requires_2 : tie.Need-natural-requires-2
-natural_requires_2 c κs = search rules
+natural-m-requires : tie.Need-natural-m-requires
+natural-m-requires c κs = search rules
 
-formula-value-requires : tie.Need-formula-value-requires
-formula-value-requires c κs =
-    let start = c.before.before.before.before.before.before in (
+formula_value-requires : tie.Need-formula_value-requires
+formula_value-requires c κs =
+    (
       record {
-        row = omega (arith, root_is c.before, start.requires.row);
-        formed = λ r p. start.requires.formed r (omega (arith, root_is c.before));
-        width = omega (arith, n_is c, n_small start.args.h.least start.args.n (width c.before.before.before));
-        few = start.requires.few;
-        sorted = start.requires.sorted;
+        row = omega (arith, root_is c.before, c.requires.row);
+        formed = λ r p. c.requires.formed r (omega (arith, root_is c.before));
+        width = omega (arith, n_is c, n_small c.args.h.least c.args.n (width c.before.before.before));
+        few = c.requires.few;
+        sorted = c.requires.sorted;
       },
       omega arith,
     )
 
-whole-requires-2 : tie.Need-whole-requires-2
-whole-requires-2 c κs = search rules
+whole-requires-then-formula_value-ne1 : tie.Need-whole-requires-then-formula_value-ne1
+whole-requires-then-formula_value-ne1 c κs = search rules
 
-returns_2 : tie.Need-returns-2
+returns-then-formula_value-ne1 : tie.Need-returns-then-formula_value-ne1
 unfolding truth_refusal
-returns_2 c = found_later _ _ _ _ (width c.before.before.before.before.before.before) (found_last _ _ _ c.whole2.ensures (value_is c.before.before ∙ ne_eqb _ _ c.before.if2.true))
+returns-then-formula_value-ne1 c = found_later _ _ _ _ (width c.before.before.before.before.before.before) (found_last _ _ _ c.whole-then-formula_value-ne1.ensures (value_is c.before.before ∙ ne_eqb _ _ c.if-formula_value-ne1.true))
 
-returns_3 : tie.Need-returns-3
+returns : tie.Need-returns
 unfolding truth_refusal
-returns_3 c = found_later _ _ _ _ (width c.before.before.before.before.before) (sym (whole_none _ _ (value_is c.before ∙ eq-eqb _ _ c.if2.false)))
+returns c = found_later _ _ _ _ (width c.before.before.before.before.before) (sym (whole_none _ _ (value_is c.before ∙ eq-eqb _ _ c.if-formula_value-ne1.false)))
 
 pub truth_pass_spec : {M : Type 1} → statement M
 truth_pass_spec =
     tie.close
     (tie.spec
-    width-fits-requires
+    width_fits-requires
     whole-requires
-    returns
-    natural_requires
-    natural_requires_2
-    formula-value-requires
-    whole-requires-2
-    returns_2
-    returns_3)
+    returns-then-not-width_fits
+    natural-f-requires
+    natural-m-requires
+    formula_value-requires
+    whole-requires-then-formula_value-ne1
+    returns-then-formula_value-ne1
+    returns)

@@ -7,29 +7,28 @@ use Rattle.round.proofs.Kept.{refused_kept}
 use Rattle.round.proofs.keep_schema.Statement.{statement}
 use Rattle.round.proofs.keep_schema.Tie as tie
 
-enum_told : tie.Need-enum-told
-enum_told c = search rules
+enum_told-1 : tie.Need-enum_told-1
+enum_told-1 c = search rules
 
-enum-told-2 : tie.Need-enum-told-2
-enum-told-2 c = search rules
+enum_told-in-Refused : tie.Need-enum_told-in-Refused
+enum_told-in-Refused c = search rules
 
 clear-requires : tie.Need-clear-requires
 clear-requires c κs = search rules
 
-returns : tie.Need-returns
+returns-in-Schema : tie.Need-returns-in-Schema
 unfolding kept schema_numbers
-returns c = ap (λ (x : SchemaRead). kept 0 (schema_numbers x).answer c.before.before.before.args.out.now) (sym c.enum_told.given.1)
+returns-in-Schema c = ap (λ (x : SchemaRead). kept 0 (schema_numbers x).answer c.args.out.now) (sym c.in-Schema.is)
 
-same_length : tie.Need-same-length
-same_length c = search rules
+shape_of-out : tie.Need-shape_of-out
+shape_of-out c = search rules
 
-returns_2 : tie.Need-returns-2
+returns-in-Refused : tie.Need-returns-in-Refused
 unfolding kept schema_numbers
-returns_2 c =
-    let told = c.before.before.before.before in
-    let t = told.before.before.before.args.out.now in
-    c.before.before.clear.ensures ∙ refused_kept 0 told.enum-told2.given.0.0 t ∙ ap (λ (x : SchemaRead). kept 0 (schema_numbers x).answer t) (sym told.enum-told2.given.1)
+returns-in-Refused c =
+    let t = c.args.out.now in
+    c.clear.ensures ∙ refused_kept 0 c.in-Refused.why t ∙ ap (λ (x : SchemaRead). kept 0 (schema_numbers x).answer t) (sym c.in-Refused.is)
 
 pub keep_schema_spec : {M : Type 1} → statement M
 keep_schema_spec =
-    tie.close (tie.spec enum_told enum-told-2 clear-requires returns same_length returns_2)
+    tie.close (tie.spec enum_told-1 enum_told-in-Refused clear-requires returns-in-Schema shape_of-out returns-in-Refused)

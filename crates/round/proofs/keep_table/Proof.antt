@@ -9,29 +9,28 @@ use Rattle.round.proofs.Kept.{refused_kept}
 use Rattle.round.proofs.keep_table.Statement.{statement}
 use Rattle.round.proofs.keep_table.Tie as tie
 
-enum_told : tie.Need-enum-told
-enum_told c = search rules
+enum_told-1 : tie.Need-enum_told-1
+enum_told-1 c = search rules
 
-enum-told-2 : tie.Need-enum-told-2
-enum-told-2 c = search rules
+enum_told-in-Refused : tie.Need-enum_told-in-Refused
+enum_told-in-Refused c = search rules
 
 clear-requires : tie.Need-clear-requires
 clear-requires c κs = search rules
 
-returns : tie.Need-returns
+returns-in-Text : tie.Need-returns-in-Text
 unfolding kept written_numbers
-returns c = ap (λ (x : Written). kept (pos 0) (written_numbers x).answer c.before.before.args.table.now) (sym c.enum_told.given.1)
+returns-in-Text c = ap (λ (x : Written). kept (pos 0) (written_numbers x).answer c.args.table.now) (sym c.in-Text.is)
 
-same_length : tie.Need-same-length
-same_length c = search rules
+shape_of-table : tie.Need-shape_of-table
+shape_of-table c = search rules
 
-returns_2 : tie.Need-returns-2
+returns-in-Refused : tie.Need-returns-in-Refused
 unfolding kept written_numbers
-returns_2 c =
-    let told = c.before.before.before in
-    let t = told.before.before.args.table.now in
-    c.before.clear.ensures ∙ cleared_all _ ∙ refused_kept (pos 0) told.enum-told2.given.0.0 t ∙ ap (λ (x : Written). kept (pos 0) (written_numbers x).answer t) (sym told.enum-told2.given.1)
+returns-in-Refused c =
+    let t = c.args.table.now in
+    c.clear.ensures ∙ cleared_all _ ∙ refused_kept (pos 0) c.in-Refused.why t ∙ ap (λ (x : Written). kept (pos 0) (written_numbers x).answer t) (sym c.in-Refused.is)
 
 pub keep_table_spec : {M : Type 1} → statement M
 keep_table_spec =
-    tie.close (tie.spec enum_told enum-told-2 clear-requires returns same_length returns_2)
+    tie.close (tie.spec enum_told-1 enum_told-in-Refused clear-requires returns-in-Text shape_of-table returns-in-Refused)

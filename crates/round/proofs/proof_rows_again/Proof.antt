@@ -18,123 +18,112 @@ use Rattle.round.proofs.proof_rows_again.Statement.{statement}
 use Rattle.round.proofs.proof_rows_again.Tie as tie
 
 abbrev W : tie.Start → Writing
-W s = let a = s.args in write_proof a.table.now a.rows a.nodes.now a.node-rows a.members.now a.member-count (length a.out.now)
+W s = let a = s.args in write_proof a.table.now a.rows a.nodes.now a.node_rows a.members.now a.member_count (length a.out.now)
 
 -- the three tables have their full size
 abbrev full : tie.Start → Bool
-full s = leb 4096 (length s.args.back-table.now) and leb 9216 (length s.args.back-nodes.now) and leb 8192 (length s.args.back-members.now)
+full s = leb 4096 (length s.args.back_table.now) and leb 9216 (length s.args.back_nodes.now) and leb 8192 (length s.args.back_members.now)
 
 -- what is read from the front of an output
 abbrev reads : tie.Start → ℕ → List ℕ → Reading ProofText
-reads s bytes l = read_proof (length s.args.back-table.now) (length s.args.back-nodes.now) (length s.args.back-members.now) (take bytes l)
+reads s bytes l = read_proof (length s.args.back_table.now) (length s.args.back_nodes.now) (length s.args.back_members.now) (take bytes l)
 
 -- there is a text, and it stands within the output
-has_text : (c : tie.After-bytes) → written (W c.before.before.before.before.before.before.before) ≡ Text c.bytes.given.0.0
-has_text c = sym c.before.before.before.before.write-proof.ensures.0 ∙ c.bytes.given.1
+has_text : (c : tie.In-Text) → written (W c.before.before.before.before.before.before) ≡ Text c.in-Text.bytes
+has_text c = sym c.write_proof.ensures.0 ∙ c.in-Text.is
 
-within : (c : tie.After-bytes) → c.bytes.given.0.0 ≤ length c.before.before.before.before.write-proof.new.1.1.1.1.1.1.0
+within : (c : tie.In-Text) → c.in-Text.bytes ≤ length c.write_proof.new.out
 within c =
-    subst (λ (l : List ℕ). c.bytes.given.0.0 ≤ length l) (sym c.before.before.before.before.write-proof.ensures.1)
+    subst (λ (l : List ℕ). c.in-Text.bytes ≤ length l) (sym c.write_proof.ensures.1)
     (bytes_within _ _ _ (has_text c))
 
-has_none : (c : tie.After-why) → written (W c.before.before.before.before.before.before.before) ≡ Refused c.why.given.0.0 c.why.given.0.1.0
-has_none c = sym c.before.before.before.before.write-proof.ensures.0 ∙ c.why.given.1
+has_none : (c : tie.In-Refused) → written (W c.before.before.before.before.before.before) ≡ Refused c.in-Refused.why c.in-Refused.place
+has_none c = sym c.write_proof.ensures.0 ∙ c.in-Refused.is
 
-write-proof-requires : tie.Need-write-proof-requires
-write-proof-requires c κs = search rules
+write_proof-requires : tie.Need-write_proof-requires
+write_proof-requires c κs = search rules
 
-enum-known-bytes : tie.Need-enum-known-bytes
-enum-known-bytes c = search rules
+enum_known-bytes : tie.Need-enum_known-bytes
+enum_known-bytes c = search rules
 
-slice-reshare-prefix-read-proof : tie.Need-slice-reshare-prefix-read-proof
-slice-reshare-prefix-read-proof c = within c.before
+slice_bounds-read_proof-end : tie.Need-slice_bounds-read_proof-end
+slice_bounds-read_proof-end c = within c
 
-slice-aggregate-read-proof : tie.Need-slice-aggregate-read-proof
-slice-aggregate-read-proof c = sym (length-take-le _ _ (within c.before.before))
+slice_bounds-read_proof-end-in-Text : tie.Need-slice_bounds-read_proof-end-in-Text
+slice_bounds-read_proof-end-in-Text c = sym (length-take-le _ _ (within c))
 
-read-proof-requires : tie.Need-read-proof-requires
-read-proof-requires c κs = search rules
+read_proof-r-requires : tie.Need-read_proof-r-requires
+read_proof-r-requires c κs = search rules
 
-keep-proof-requires : tie.Need-keep-proof-requires
-keep-proof-requires c κs = search rules
+keep_proof-requires : tie.Need-keep_proof-requires
+keep_proof-requires c κs = search rules
 
-enum-known-why : tie.Need-enum-known-why
-enum-known-why c = search rules
+enum_known-why : tie.Need-enum_known-why
+enum_known-why c = search rules
 
 clear-requires : tie.Need-clear-requires
 clear-requires c κs = search rules
 
-clear-requires-2 : tie.Need-clear-requires-2
-clear-requires-2 c κs = search rules
+clear-requires-in-Refused : tie.Need-clear-requires-in-Refused
+clear-requires-in-Refused c κs = search rules
 
-clear-requires-3 : tie.Need-clear-requires-3
-clear-requires-3 c κs = search rules
+clear-requires-in-Refused-2 : tie.Need-clear-requires-in-Refused-2
+clear-requires-in-Refused-2 c κs = search rules
 
-same_length : tie.Need-same-length
-same_length c = search rules
+shape_of-out-in-Text : tie.Need-shape_of-out-in-Text
+shape_of-out-in-Text c = search rules
 
-same_length_2 : tie.Need-same-length-2
-same_length_2 c = search rules
+shape_of-back_table-in-Text : tie.Need-shape_of-back_table-in-Text
+shape_of-back_table-in-Text c = search rules
 
-same_length_3 : tie.Need-same-length-3
-same_length_3 c = search rules
+shape_of-back_nodes-in-Text : tie.Need-shape_of-back_nodes-in-Text
+shape_of-back_nodes-in-Text c = search rules
 
-same-length-4 : tie.Need-same-length-4
-same-length-4 c = search rules
+shape_of-back_members-in-Text : tie.Need-shape_of-back_members-in-Text
+shape_of-back_members-in-Text c = search rules
 
-returns : tie.Need-returns
-returns c =
-    let keep = c.before.before in
-    let r = keep.before.before.before.before.before in
-    let b = r.before.before.before.before.before.before in
-    let w = b.before.before.before.before in
-    let s = w.before.before.before in
-    let a = s.args in
-    let bytes = b.bytes.given.0.0 in
-    let g = proof_rows_again_lem a.table.now a.rows a.nodes.now a.node-rows a.members.now a.member-count (length a.out.now)
-    (length a.back-table.now) (length a.back-nodes.now) (length a.back-members.now) bytes (has_text b) in
-    let e = r.read-proof.ensures in
-    let out = w.write-proof.ensures.1 in (
-      e.0 ∙ ap (λ (l : List ℕ). proof_answer (reads s bytes l)) out ∙ g.0,
+returns-in-Text : tie.Need-returns-in-Text
+returns-in-Text c =
+    let a = c.args in
+    let bytes = c.in-Text.bytes in
+    let g = proof_rows_again_lem a.table.now a.rows a.nodes.now a.node_rows a.members.now a.member_count (length a.out.now)
+    (length a.back_table.now) (length a.back_nodes.now) (length a.back_members.now) bytes (has_text c.before.before.before.before.before.before.before.before.before.before.before) in
+    let e = c.read_proof-r.ensures in
+    let out = c.write_proof.ensures.1 in (
+      e.0 ∙ ap (λ (l : List ℕ). proof_answer (reads c.before.before.before.before.before.before.before.before.before.before.before.before.before.before.before.before.before bytes l)) out ∙ g.0,
       (
-        e.1.0 ∙ ap (λ (l : List ℕ). proof_table (length a.back-table.now) (reads s bytes l)) out ∙ g.1,
+        e.1.0 ∙ ap (λ (l : List ℕ). proof_table (length a.back_table.now) (reads c.before.before.before.before.before.before.before.before.before.before.before.before.before.before.before.before.before bytes l)) out ∙ g.1,
         (
-          e.1.1.0 ∙ ap (λ (l : List ℕ). node_table (length a.back-nodes.now) (reads s bytes l)) out ∙ g.2,
-          (e.1.1.1 ∙ ap (λ (l : List ℕ). member_table (length a.back-members.now) (reads s bytes l)) out ∙ g.3, keep.keep-proof.ensures ∙ ap (kept 0 (proof_numbers r.read-proof.result).answer) out),
+          e.1.1.0 ∙ ap (λ (l : List ℕ). node_table (length a.back_nodes.now) (reads c.before.before.before.before.before.before.before.before.before.before.before.before.before.before.before.before.before bytes l)) out ∙ g.2,
+          (e.1.1.1 ∙ ap (λ (l : List ℕ). member_table (length a.back_members.now) (reads c.before.before.before.before.before.before.before.before.before.before.before.before.before.before.before.before.before bytes l)) out ∙ g.3, c.keep_proof.ensures ∙ ap (kept 0 (proof_numbers c.read_proof-r.result).answer) out),
         ),
       ),
     )
 
-same-length-5 : tie.Need-same-length-5
-same-length-5 c = search rules
+shape_of-out-in-Refused : tie.Need-shape_of-out-in-Refused
+shape_of-out-in-Refused c = search rules
 
-same-length-6 : tie.Need-same-length-6
-same-length-6 c = search rules
+shape_of-back_table-in-Refused : tie.Need-shape_of-back_table-in-Refused
+shape_of-back_table-in-Refused c = search rules
 
-same-length-7 : tie.Need-same-length-7
-same-length-7 c = search rules
+shape_of-back_nodes-in-Refused : tie.Need-shape_of-back_nodes-in-Refused
+shape_of-back_nodes-in-Refused c = search rules
 
-same-length-8 : tie.Need-same-length-8
-same-length-8 c = search rules
+shape_of-back_members-in-Refused : tie.Need-shape_of-back_members-in-Refused
+shape_of-back_members-in-Refused c = search rules
 
-returns_2 : tie.Need-returns-2
-returns_2 c =
-    let third = c.before in
-    let second = third.before.before.before in
-    let first = second.before.before.before in
-    let y = first.before.before.before in
-    let w = y.before.before.before.before in
-    let s = w.before.before.before in
-    let a = s.args in
-    let none = has_none y in (
-      proof_unwritten (W s) (full s) a.rows a.node-rows a.member-count _ _ none,
+returns-in-Refused : tie.Need-returns-in-Refused
+returns-in-Refused c =
+    let a = c.args in
+    let none = has_none c.before.before.before.before.before.before.before.before.before in (
+      proof_unwritten (W c.before.before.before.before.before.before.before.before.before.before.before.before.before.before.before) (full c.before.before.before.before.before.before.before.before.before.before.before.before.before.before.before) a.rows a.node_rows a.member_count _ _ none,
       (
-        first.clear.ensures ∙ cleared_all _ ∙ table_unwritten (W s) (full s) (length a.back-table.now) (take (4 * a.rows) a.table.now) _ _ none,
+        c.clear.ensures ∙ cleared_all _ ∙ table_unwritten (W c.before.before.before.before.before.before.before.before.before.before.before.before.before.before.before) (full c.before.before.before.before.before.before.before.before.before.before.before.before.before.before.before) (length a.back_table.now) (take (4 * a.rows) a.table.now) _ _ none,
         (
-          second.clear2.ensures ∙ cleared_all _ ∙ table_unwritten (W s) (full s) (length a.back-nodes.now) (take (9 * a.node-rows) a.nodes.now) _ _ none,
+          c.clear-in-Refused.ensures ∙ cleared_all _ ∙ table_unwritten (W c.before.before.before.before.before.before.before.before.before.before.before.before.before.before.before) (full c.before.before.before.before.before.before.before.before.before.before.before.before.before.before.before) (length a.back_nodes.now) (take (9 * a.node_rows) a.nodes.now) _ _ none,
           (
-            third.clear3.ensures ∙ cleared_all _ ∙ table_unwritten (W s) (full s) (length a.back-members.now) (take a.member-count a.members.now) _ _ none,
-            w.write-proof.ensures.1 ∙ output_unwritten (W s) _ _ _ none _,
+            c.clear-in-Refused-2.ensures ∙ cleared_all _ ∙ table_unwritten (W c.before.before.before.before.before.before.before.before.before.before.before.before.before.before.before) (full c.before.before.before.before.before.before.before.before.before.before.before.before.before.before.before) (length a.back_members.now) (take a.member_count a.members.now) _ _ none,
+            c.write_proof.ensures.1 ∙ output_unwritten (W c.before.before.before.before.before.before.before.before.before.before.before.before.before.before.before) _ _ _ none _,
           ),
         ),
       ),
@@ -144,23 +133,23 @@ pub proof_rows_again_spec : {M : Type 1} → statement M
 proof_rows_again_spec =
     tie.close
     (tie.spec
-    write-proof-requires
-    enum-known-bytes
-    slice-reshare-prefix-read-proof
-    slice-aggregate-read-proof
-    read-proof-requires
-    keep-proof-requires
-    enum-known-why
+    write_proof-requires
+    enum_known-bytes
+    slice_bounds-read_proof-end
+    slice_bounds-read_proof-end-in-Text
+    read_proof-r-requires
+    keep_proof-requires
+    enum_known-why
     clear-requires
-    clear-requires-2
-    clear-requires-3
-    same_length
-    same_length_2
-    same_length_3
-    same-length-4
-    returns
-    same-length-5
-    same-length-6
-    same-length-7
-    same-length-8
-    returns_2)
+    clear-requires-in-Refused
+    clear-requires-in-Refused-2
+    shape_of-out-in-Text
+    shape_of-back_table-in-Text
+    shape_of-back_nodes-in-Text
+    shape_of-back_members-in-Text
+    returns-in-Text
+    shape_of-out-in-Refused
+    shape_of-back_table-in-Refused
+    shape_of-back_nodes-in-Refused
+    shape_of-back_members-in-Refused
+    returns-in-Refused)

@@ -24,102 +24,92 @@ abbrev W : tie.Start → Writing
 W s = writes s s.args.root s.args.least
 
 -- what the writer gave, and left in the output; a signed number is kept as bits, and read back from them
-was_written : (c : tie.After-write-schema) →
-    let s = c.before.before.before in
-    (c.write-schema.result ≡ written (W s)) × (c.write-schema.new.1.1.1.1.0 ≡ output (length s.args.out.now) (W s))
+was_written : (c : tie.After-write_schema) →
+    (c.write_schema.result ≡ written (W c.before.before.before)) × (c.write_schema.new.out ≡ output (length c.args.out.now) (W c.before.before.before))
 was_written c =
-    let s = c.before.before.before in
-    let same = ap₂ (writes s) (to_z-of_z s.ranges.root) (to_z-of_z s.ranges.least) in
-    (c.write-schema.ensures.0 ∙ ap written same, c.write-schema.ensures.1 ∙ ap (output (length s.args.out.now)) same)
+    let same = ap₂ (writes c.before.before.before) (to_z-of_z c.ranges.root) (to_z-of_z c.ranges.least) in
+    (c.write_schema.ensures.0 ∙ ap written same, c.write_schema.ensures.1 ∙ ap (output (length c.args.out.now)) same)
 
 -- there is a text, and it stands within the output
-has_text : (c : tie.After-bytes) → written (W c.before.before.before.before.before.before.before) ≡ Text c.bytes.given.0.0
-has_text c = sym (was_written c.before.before.before.before).0 ∙ c.bytes.given.1
+has_text : (c : tie.In-Text) → written (W c.before.before.before.before.before.before) ≡ Text c.in-Text.bytes
+has_text c = sym (was_written c.before.before.before).0 ∙ c.in-Text.is
 
-within : (c : tie.After-bytes) → c.bytes.given.0.0 ≤ length c.before.before.before.before.write-schema.new.1.1.1.1.0
+within : (c : tie.In-Text) → c.in-Text.bytes ≤ length c.write_schema.new.out
 within c =
-    subst (λ (l : List ℕ). c.bytes.given.0.0 ≤ length l) (sym (was_written c.before.before.before.before).1)
+    subst (λ (l : List ℕ). c.in-Text.bytes ≤ length l) (sym (was_written c.before.before.before).1)
     (bytes_within _ _ _ (has_text c))
 
-has_none : (c : tie.After-why) → written (W c.before.before.before.before.before.before.before) ≡ Refused c.why.given.0.0 c.why.given.0.1.0
-has_none c = sym (was_written c.before.before.before.before).0 ∙ c.why.given.1
+has_none : (c : tie.In-Refused) → written (W c.before.before.before.before.before.before) ≡ Refused c.in-Refused.why c.in-Refused.place
+has_none c = sym (was_written c.before.before.before).0 ∙ c.in-Refused.is
 
-write-schema-requires : tie.Need-write-schema-requires
-write-schema-requires c κs = search rules
+write_schema-requires : tie.Need-write_schema-requires
+write_schema-requires c κs = search rules
 
-enum-known-bytes : tie.Need-enum-known-bytes
-enum-known-bytes c = search rules
+enum_known-bytes : tie.Need-enum_known-bytes
+enum_known-bytes c = search rules
 
-slice-reshare-prefix-read-schema : tie.Need-slice-reshare-prefix-read-schema
-slice-reshare-prefix-read-schema c = within c.before
+slice_bounds-read_schema-end : tie.Need-slice_bounds-read_schema-end
+slice_bounds-read_schema-end c = within c
 
-slice-aggregate-read-schema : tie.Need-slice-aggregate-read-schema
-slice-aggregate-read-schema c = sym (length-take-le _ _ (within c.before.before))
+slice_bounds-read_schema-end-in-Text : tie.Need-slice_bounds-read_schema-end-in-Text
+slice_bounds-read_schema-end-in-Text c = sym (length-take-le _ _ (within c))
 
-read-schema-requires : tie.Need-read-schema-requires
-read-schema-requires c κs = search rules
+read_schema-r-requires : tie.Need-read_schema-r-requires
+read_schema-r-requires c κs = search rules
 
-keep-schema-requires : tie.Need-keep-schema-requires
-keep-schema-requires c κs = search rules
+keep_schema-requires : tie.Need-keep_schema-requires
+keep_schema-requires c κs = search rules
 
-enum-known-why : tie.Need-enum-known-why
-enum-known-why c = search rules
+enum_known-why : tie.Need-enum_known-why
+enum_known-why c = search rules
 
 clear-requires : tie.Need-clear-requires
 clear-requires c κs = search rules
 
-same_length : tie.Need-same-length
-same_length c = search rules
+shape_of-out-in-Text : tie.Need-shape_of-out-in-Text
+shape_of-out-in-Text c = search rules
 
-same_length_2 : tie.Need-same-length-2
-same_length_2 c = search rules
+shape_of-back-in-Text : tie.Need-shape_of-back-in-Text
+shape_of-back-in-Text c = search rules
 
-returns : tie.Need-returns
-returns c =
-    let keep = c.before.before in
-    let r = keep.before.before.before in
-    let b = r.before.before.before.before in
-    let w = b.before.before.before.before in
-    let s = w.before.before.before in
-    let m = length s.args.back.now in
-    let bytes = b.bytes.given.0.0 in
-    let g = schema_rows_again_lem s.args.table.now s.args.rows s.args.root s.args.least (length s.args.out.now) m bytes (has_text b) in
-    let out = (was_written w).1 in (
-      r.read-schema.ensures.0 ∙ ap (λ (l : List ℕ). schema_answer (read_schema m (take bytes l))) out ∙ g.0,
-      (r.read-schema.ensures.1 ∙ ap (λ (l : List ℕ). schema_table m (read_schema m (take bytes l))) out ∙ g.1, keep.keep-schema.ensures ∙ ap (kept 0 (schema_numbers r.read-schema.result).answer) out),
+returns-in-Text : tie.Need-returns-in-Text
+returns-in-Text c =
+    let m = length c.args.back.now in
+    let bytes = c.in-Text.bytes in
+    let g = schema_rows_again_lem c.args.table.now c.args.rows c.args.root c.args.least (length c.args.out.now) m bytes (has_text c.before.before.before.before.before.before.before) in
+    let out = (was_written c.before.before.before.before.before.before.before.before.before.before).1 in (
+      c.read_schema-r.ensures.0 ∙ ap (λ (l : List ℕ). schema_answer (read_schema m (take bytes l))) out ∙ g.0,
+      (c.read_schema-r.ensures.1 ∙ ap (λ (l : List ℕ). schema_table m (read_schema m (take bytes l))) out ∙ g.1, c.keep_schema.ensures ∙ ap (kept 0 (schema_numbers c.read_schema-r.result).answer) out),
     )
 
-same_length_3 : tie.Need-same-length-3
-same_length_3 c = search rules
+shape_of-out-in-Refused : tie.Need-shape_of-out-in-Refused
+shape_of-out-in-Refused c = search rules
 
-same-length-4 : tie.Need-same-length-4
-same-length-4 c = search rules
+shape_of-back-in-Refused : tie.Need-shape_of-back-in-Refused
+shape_of-back-in-Refused c = search rules
 
-returns_2 : tie.Need-returns-2
-returns_2 c =
-    let y = c.before.before.before.before in
-    let w = y.before.before.before.before in
-    let s = w.before.before.before in
-    let m = length s.args.back.now in (
-      schema_unwritten (W s) (leb 4096 m) s.args.root s.args.least s.args.rows _ _ (has_none y),
-      (c.before.clear.ensures ∙ cleared_all _ ∙ table_unwritten (W s) (leb 4096 m) m (take (4 * s.args.rows) s.args.table.now) _ _ (has_none y), (was_written w).1 ∙ output_unwritten (W s) _ _ _ (has_none y) _),
+returns-in-Refused : tie.Need-returns-in-Refused
+returns-in-Refused c =
+    let m = length c.args.back.now in (
+      schema_unwritten (W c.before.before.before.before.before.before.before.before.before) (leb 4096 m) c.args.root c.args.least c.args.rows _ _ (has_none c.before.before.before),
+      (c.clear.ensures ∙ cleared_all _ ∙ table_unwritten (W c.before.before.before.before.before.before.before.before.before) (leb 4096 m) m (take (4 * c.args.rows) c.args.table.now) _ _ (has_none c.before.before.before), (was_written c.before.before.before.before.before.before).1 ∙ output_unwritten (W c.before.before.before.before.before.before.before.before.before) _ _ _ (has_none c.before.before.before) _),
     )
 
 pub schema_rows_again_spec : {M : Type 1} → statement M
 schema_rows_again_spec =
     tie.close
     (tie.spec
-    write-schema-requires
-    enum-known-bytes
-    slice-reshare-prefix-read-schema
-    slice-aggregate-read-schema
-    read-schema-requires
-    keep-schema-requires
-    enum-known-why
+    write_schema-requires
+    enum_known-bytes
+    slice_bounds-read_schema-end
+    slice_bounds-read_schema-end-in-Text
+    read_schema-r-requires
+    keep_schema-requires
+    enum_known-why
     clear-requires
-    same_length
-    same_length_2
-    returns
-    same_length_3
-    same-length-4
-    returns_2)
+    shape_of-out-in-Text
+    shape_of-back-in-Text
+    returns-in-Text
+    shape_of-out-in-Refused
+    shape_of-back-in-Refused
+    returns-in-Refused)

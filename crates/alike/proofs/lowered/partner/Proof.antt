@@ -16,76 +16,70 @@ Lent s = lent s.args.schema.now s.args.proof.now s.args.nodes.now s.args.members
 long : (s : tie.Start) → length (set_of s.args.members.now (node_at s.args.nodes.now s.args.j)) ≡ nat (node_at s.args.nodes.now s.args.j).size
 long s = set_length s.args.nodes.now s.args.members.now s.args.j s.requires.1.1.1.0.held
 
-natural-of-requires : tie.Need-natural-of-requires
-natural-of-requires c κs = omega arith
+natural_of-size-requires : tie.Need-natural_of-size-requires
+natural_of-size-requires c κs = omega arith
 
-abbrev begin : tie.After-natural-of → tie.Start
+abbrev begin : tie.After-natural_of-size → tie.Start
 begin c = c.before.before.before
 
-place-requires : tie.Need-place-requires
-place-requires c κs =
-    let n = c.before in
-    let s = begin n in
-    ((s.pre.0.0, s.pre.0.1, omega (arith, n.natural-of.ensures.0, s.pre.0), omega (arith, n.natural-of.ensures.0)), s.pre.1)
+place-after-requires : tie.Need-place-after-requires
+place-after-requires c κs =
+    let s = begin c.before in
+    ((s.requires.0.0, s.requires.0.1, omega (arith, c.natural_of-size.ensures.0, s.requires.0), omega (arith, c.natural_of-size.ensures.0)), s.requires.1)
 
 -- ---- from the place on
 
-abbrev start : tie.After-place → tie.Start
+abbrev start : tie.After-place-after → tie.Start
 start a = begin a.before.before
 
-same_length : tie.Need-same-length
-same_length c = c.before.before.before.place.auto.1.1.1.1.1.1.1.1.1.1.1.0
+shape_of-agreed-then-after-size : tie.Need-shape_of-agreed-then-after-size
+shape_of-agreed-then-after-size c = c.place-after.auto.agreed
 
-returns : tie.Need-returns
+returns-then-after-size : tie.Need-returns-then-after-size
 unfolding set node
-returns c =
-    let a = c.before.before.before in
-    let s = start a in (
-      (λ l. lowered_at (Lent s) _ _ _ a.place.result (omega (arith, long s)) (rw (to_z-of_z s.fits.k) at (a.place.ensures.0 c.if1.true))),
-      ((λ l. absurd (omega (arith, a.before.before.natural-of.ensures.0, c.if1.true))), a.place.ensures.1.1),
+returns-then-after-size c =
+    let s = start c.before.before.before in (
+      (λ l. lowered_at (Lent s) _ _ _ c.place-after.result (omega (arith, long s)) (rw (to_z-of_z s.ranges.k) at (c.place-after.ensures.0 c.if-after-size.true))),
+      ((λ l. absurd (omega (arith, c.natural_of-size.ensures.0, c.if-after-size.true))), c.place-after.ensures.1.1),
     )
 
 -- ---- before it
 
-place-requires-2 : tie.Need-place-requires-2
-place-requires-2 c κs =
-    let a = c.before.before.before.before in
-    let s = start a in
-    ((s.pre.0.0, s.pre.0.1, omega arith, s.pre.0.2), (s.pre.1.0, (s.pre.1.1.0, (s.pre.1.1.1.0, (a.place.ensures.1.1, omega (arith, a.place.auto.1.1.1.1.1.1.1.1.1.1.1.0, s.pre.1.1.1.1.1))))))
+place-before-requires : tie.Need-place-before-requires
+place-before-requires c κs =
+    let s = start c.before.before.before.before in
+    ((s.requires.0.0, s.requires.0.1, omega arith, s.requires.0.2), (s.requires.1.0, (s.requires.1.1.0, (s.requires.1.1.1.0, (c.place-after.ensures.1.1, omega (arith, c.place-after.auto.agreed, s.requires.1.1.1.1.1))))))
 
-abbrev after : tie.After-place2 → tie.After-place
+abbrev after : tie.After-place-before → tie.After-place-after
 after b = b.before.before.before.before.before
 
-as_long : (b : tie.After-place2) → length b.place2.new.1.1.1.1.1.1.1.1.1.1.1.0 ≡ length (start (after b)).args.agreed.now
-as_long b = b.place2.auto.1.1.1.1.1.1.1.1.1.1.1.0 ∙ (after b).place.auto.1.1.1.1.1.1.1.1.1.1.1.0
+as_long : (b : tie.After-place-before) → length b.place-before.new.agreed ≡ length (start (after b)).args.agreed.now
+as_long b = b.place-before.auto.agreed ∙ (after b).place-after.auto.agreed
 
-same_length_2 : tie.Need-same-length-2
-same_length_2 c = as_long c.before.before.before
+shape_of-agreed-then-before-from : tie.Need-shape_of-agreed-then-before-from
+shape_of-agreed-then-before-from c = as_long c.before.before.before
 
-returns_2 : tie.Need-returns-2
+returns-then-before-from : tie.Need-returns-then-before-from
 unfolding set node
-returns_2 c =
-    let b = c.before.before.before in
-    let s = start (after b) in (
-      (λ l. lowered_at (Lent s) _ _ _ b.place2.result (omega (arith, long s)) (rw (to_z-of_z s.fits.k) at (b.place2.ensures.0 c.if2.true))),
-      ((λ l. absurd (omega (arith, c.if2.true, s.pre.0))), b.place2.ensures.1.1),
+returns-then-before-from c =
+    let s = start (after c.before.before.before) in (
+      (λ l. lowered_at (Lent s) _ _ _ c.place-before.result (omega (arith, long s)) (rw (to_z-of_z s.ranges.k) at (c.place-before.ensures.0 c.if-before-from.true))),
+      ((λ l. absurd (omega (arith, c.if-before-from.true, s.requires.0))), c.place-before.ensures.1.1),
     )
 
-same_length_3 : tie.Need-same-length-3
-same_length_3 c = as_long c.before.before.before
+shape_of-agreed : tie.Need-shape_of-agreed
+shape_of-agreed c = as_long c.before.before.before
 
-returns_3 : tie.Need-returns-3
+returns : tie.Need-returns
 unfolding set node
-returns_3 c =
-    let b = c.before.before.before in
-    let e = b.before.before in
-    let a = after b in
+returns c =
+    let a = after c.before.before.before in
     let s = start a in (
-      (λ l. absurd (omega (arith, a.before.before.natural-of.ensures.0))),
+      (λ l. absurd (omega (arith, a.natural_of-size.ensures.0))),
       (
         (λ l. lowered_nowhere (Lent s) _ _ _
-            (λ i q. rw (to_z-of_z s.fits.k) at (all_round _ _ (a.place.ensures.1.0 e.if1.false) (b.place2.ensures.1.0 c.if2.false) i (omega (arith, long s, a.before.before.natural-of.ensures.0))))),
-        b.place2.ensures.1.1,
+            (λ i q. rw (to_z-of_z s.ranges.k) at (all_round _ _ (a.place-after.ensures.1.0 c.if-after-size.false) (c.place-before.ensures.1.0 c.if-before-from.false) i (omega (arith, long s, a.natural_of-size.ensures.0))))),
+        c.place-before.ensures.1.1,
       ),
     )
 
@@ -93,12 +87,12 @@ pub partner_spec : {M : Type 1} → statement M
 partner_spec =
     tie.close
     (tie.spec
-    natural-of-requires
-    place-requires
-    same_length
-    returns
-    place-requires-2
-    same_length_2
-    returns_2
-    same_length_3
-    returns_3)
+    natural_of-size-requires
+    place-after-requires
+    shape_of-agreed-then-after-size
+    returns-then-after-size
+    place-before-requires
+    shape_of-agreed-then-before-from
+    returns-then-before-from
+    shape_of-agreed
+    returns)

@@ -1,7 +1,8 @@
+use mathlib.Core.Bool.{not}
 use borrow.Author.Rules.{rules}
 use Prim.Native.Nat.{ℕ, ◌-◌, ◌<◌, ◌≤◌}
 use native.Mathlib.Omega.{arith}
-use mathlib.Core.Path.{subst}
+use mathlib.Core.Path.{subst, ap}
 use lib.IntN.{pos}
 use lib.ListN.{get_or, length}
 use borrow.Author.Count.{below_more}
@@ -11,53 +12,51 @@ use Rattle.alike.proofs.LoweredLaws.{OneForm}
 use Rattle.alike.proofs.lowered.past.Statement.{statement}
 use Rattle.alike.proofs.lowered.past.Tie as tie
 
-abbrev invariant_loop : tie.invariant-loop
+abbrev invariant_loop : tie.invariant-loop-e
 invariant_loop rows forms i z e₀ e =
     (i < e)
     × (e ≤ length rows)
     × ((a : ℕ) → a < e → i < a → OneForm forms (nat (get_or rows i (pos 0))) (nat (get_or rows a (pos 0))))
 
-abbrev decreases_loop : tie.decreases-loop
+abbrev decreases_loop : tie.decreases-loop-e
 decreases_loop rows forms i z e₀ e = length rows - e
 
-natural_at_requires : tie.Need-natural-at-requires invariant_loop decreases_loop
-natural_at_requires c κs = search rules
+natural_at-z-requires : tie.Need-natural_at-z-requires invariant_loop decreases_loop
+natural_at-z-requires c κs = search rules
 
-add-e : tie.Need-overflow-add-e invariant_loop decreases_loop
-add-e c = omega arith
+overflow_add-e : tie.Need-overflow_add-e invariant_loop decreases_loop
+overflow_add-e c = omega arith
 
-loop_holds : tie.Need-loop-init invariant_loop decreases_loop
-loop_holds c = (omega arith, omega arith, λ a p q. absurd (omega arith))
+loop-e-init : tie.Need-loop-e-init invariant_loop decreases_loop
+loop-e-init c = (omega arith, omega arith, λ a p q. absurd (omega arith))
 
-natural_at_requires_2 : tie.Need-natural-at-requires-2 invariant_loop decreases_loop
-natural_at_requires_2 c κs = search rules
+natural_at-requires : tie.Need-natural_at-requires invariant_loop decreases_loop
+natural_at-requires c κs = search rules
 
-same-form-requires : tie.Need-same-form-requires invariant_loop decreases_loop
-same-form-requires c κs = (c.before.before.before.natural-at.ensures.1, c.natural-at2.ensures.1)
+same_form-requires : tie.Need-same_form-requires invariant_loop decreases_loop
+same_form-requires c κs = (c.natural_at-z.ensures.1, c.natural_at.ensures.1)
+
+returns-then-not-same_form : tie.Need-returns-then-not-same_form invariant_loop decreases_loop
+returns-then-not-same_form c =
+    let l = c.loop-e in
+    ((l.invariant.0, l.invariant.1), l.invariant.2)
+
+overflow_add-e-in-loop-e : tie.Need-overflow_add-e-in-loop-e invariant_loop decreases_loop
+overflow_add-e-in-loop-e c = omega arith
+
+loop-e-smaller : tie.Need-loop-e-smaller invariant_loop decreases_loop
+loop-e-smaller c = omega arith
+
+loop-e-preserved : tie.Need-loop-e-preserved invariant_loop decreases_loop
+loop-e-preserved c =
+    let s = c.args in
+    let same = c.same_form.ensures (true_of_not _ (ap not c.if-not-same_form.false)) in
+    let here = subst (λ (y : ℕ). OneForm s.forms.now y (nat (get_or s.rows.now c.loop-e.e (pos 0)))) c.natural_at-z.ensures.0 (subst (OneForm s.forms.now c.natural_at-z.result) c.natural_at.ensures.0 same) in
+    (omega arith, omega arith, below_more _ _ c.loop-e.invariant.2 (λ p. here))
 
 returns : tie.Need-returns invariant_loop decreases_loop
 returns c =
-    let l = c.before.before.before.before.loop in
-    ((l.invariant.0, l.invariant.1), l.invariant.2)
-
-add-e-2 : tie.Need-overflow-add-e-2 invariant_loop decreases_loop
-add-e-2 c = omega arith
-
-loop_less : tie.Need-loop-smaller invariant_loop decreases_loop
-loop_less c = omega arith
-
-loop_again : tie.Need-loop-preserved invariant_loop decreases_loop
-loop_again c =
-    let f = c.before in
-    let b = f.before.before.before in
-    let s = b.before.before.before.args in
-    let same = f.same-form.ensures (true_of_not _ c.if1.false) in
-    let here = subst (λ (y : ℕ). OneForm s.forms.now y (nat (get_or s.rows.now b.loop.e (pos 0)))) b.before.natural-at.ensures.0 (subst (OneForm s.forms.now b.before.natural-at.result) f.before.natural-at2.ensures.0 same) in
-    (omega arith, omega arith, below_more _ _ b.loop.invariant.2 (λ p. here))
-
-returns_2 : tie.Need-returns-2 invariant_loop decreases_loop
-returns_2 c =
-    let l = c.before.loop in
+    let l = c.loop-e in
     ((l.invariant.0, l.invariant.1), l.invariant.2)
 
 pub past_spec : {M : Type 1} → statement M
@@ -66,13 +65,13 @@ past_spec =
     (tie.spec
     invariant_loop
     decreases_loop
-    natural_at_requires
-    add-e
-    loop_holds
-    natural_at_requires_2
-    same-form-requires
-    returns
-    add-e-2
-    loop_less
-    loop_again
-    returns_2)
+    natural_at-z-requires
+    overflow_add-e
+    loop-e-init
+    natural_at-requires
+    same_form-requires
+    returns-then-not-same_form
+    overflow_add-e-in-loop-e
+    loop-e-smaller
+    loop-e-preserved
+    returns)

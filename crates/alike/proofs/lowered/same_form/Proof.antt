@@ -4,79 +4,79 @@ use borrow.Author.Tests.{eqb-true}
 use Rattle.alike.proofs.lowered.same_form.Statement.{statement}
 use Rattle.alike.proofs.lowered.same_form.Tie as tie
 
-mul-a : tie.Need-overflow-mul-a
-mul-a c = search rules
+overflow_mul-a : tie.Need-overflow_mul-a
+overflow_mul-a c = search rules
 
-mul-b : tie.Need-overflow-mul-b
-mul-b c = search rules
+overflow_mul-b : tie.Need-overflow_mul-b
+overflow_mul-b c = search rules
 
-add-if1 : tie.Need-overflow-add-if1
-add-if1 c = search rules
+overflow_add-a : tie.Need-overflow_add-a
+overflow_add-a c = search rules
+
+returns-then-forms-a : tie.Need-returns-then-forms-a
+returns-then-forms-a c = λ e. absurd (false≢true e)
+
+overflow_add-b : tie.Need-overflow_add-b
+overflow_add-b c = search rules
+
+returns-then-forms-b : tie.Need-returns-then-forms-b
+returns-then-forms-b c = λ e. absurd (false≢true e)
+
+offset_bounds-forms-a : tie.Need-offset_bounds-forms-a
+offset_bounds-forms-a c = search rules
+
+bounds-forms-a : tie.Need-bounds-forms-a
+bounds-forms-a c = search rules
+
+offset_bounds-forms-b : tie.Need-offset_bounds-forms-b
+offset_bounds-forms-b c = search rules
+
+bounds-forms-b : tie.Need-bounds-forms-b
+bounds-forms-b c = search rules
+
+returns-then-forms-a-2 : tie.Need-returns-then-forms-a-2
+returns-then-forms-a-2 c = λ e. absurd (false≢true e)
+
+overflow_add-result : tie.Need-overflow_add-result
+overflow_add-result c = search rules
+
+offset_bounds-forms-a-2 : tie.Need-offset_bounds-forms-a-2
+offset_bounds-forms-a-2 c = search rules
+
+bounds-forms-a-2 : tie.Need-bounds-forms-a-2
+bounds-forms-a-2 c = search rules
+
+overflow_add-result-2 : tie.Need-overflow_add-result-2
+overflow_add-result-2 c = search rules
+
+offset_bounds-forms-b-2 : tie.Need-offset_bounds-forms-b-2
+offset_bounds-forms-b-2 c = search rules
+
+bounds-forms-b-2 : tie.Need-bounds-forms-b-2
+bounds-forms-b-2 c = search rules
 
 returns : tie.Need-returns
-returns c = λ e. absurd (false≢true e)
-
-add-if2 : tie.Need-overflow-add-if2
-add-if2 c = search rules
-
-returns_2 : tie.Need-returns-2
-returns_2 c = λ e. absurd (false≢true e)
-
-mul-if3 : tie.Need-overflow-mul-if3
-mul-if3 c = search rules
-
-shared-slice-read-if3 : tie.Need-shared-slice-read-if3
-shared-slice-read-if3 c = search rules
-
-mul-if3-2 : tie.Need-overflow-mul-if3-2
-mul-if3-2 c = search rules
-
-shared-slice-read-if3-2 : tie.Need-shared-slice-read-if3-2
-shared-slice-read-if3-2 c = search rules
-
-returns_3 : tie.Need-returns-3
-returns_3 c = λ e. absurd (false≢true e)
-
-add-result : tie.Need-overflow-add-result
-add-result c = search rules
-
-mul-result : tie.Need-overflow-mul-result
-mul-result c = search rules
-
-shared-slice-read-result : tie.Need-shared-slice-read-result
-shared-slice-read-result c = search rules
-
-add-result-2 : tie.Need-overflow-add-result-2
-add-result-2 c = search rules
-
-mul-result-2 : tie.Need-overflow-mul-result-2
-mul-result-2 c = search rules
-
-shared-slice-read-result-2 : tie.Need-shared-slice-read-result-2
-shared-slice-read-result-2 c = search rules
-
-returns_4 : tie.Need-returns-4
-returns_4 c = λ e. (c.before.before.if3.false, eqb-true _ _ e)
+returns c = λ e. (c.if-forms-a-2.false, eqb-true _ _ e)
 
 pub same_form_spec : {M : Type 1} → statement M
 same_form_spec =
     tie.close
     (tie.spec
-    mul-a
-    mul-b
-    add-if1
-    returns
-    add-if2
-    returns_2
-    mul-if3
-    shared-slice-read-if3
-    mul-if3-2
-    shared-slice-read-if3-2
-    returns_3
-    add-result
-    mul-result
-    shared-slice-read-result
-    add-result-2
-    mul-result-2
-    shared-slice-read-result-2
-    returns_4)
+    overflow_mul-a
+    overflow_mul-b
+    overflow_add-a
+    returns-then-forms-a
+    overflow_add-b
+    returns-then-forms-b
+    offset_bounds-forms-a
+    bounds-forms-a
+    offset_bounds-forms-b
+    bounds-forms-b
+    returns-then-forms-a-2
+    overflow_add-result
+    offset_bounds-forms-a-2
+    bounds-forms-a-2
+    overflow_add-result-2
+    offset_bounds-forms-b-2
+    bounds-forms-b-2
+    returns)
