@@ -24,7 +24,7 @@ pub words_same : (p q : ℕ → Bool) (k : ℕ) → ((j : ℕ) → p j ≡ q j) 
 unfolding words
 words_same p q zero h = refl
 words_same p q (suc k) h =
-    ap₂ (λ (w : ℕ) (ws : List ℕ). w ∷ ws) (word_same p q 64 (λ j l. h j)) (words_same _ _ k (λ j. h (64 + j)))
+    ap₂ (λ (w : ℕ) (ws : List ℕ). w ∷ ws) (word_same p q 64 (λ j l. h j)) (words_same (λ j. p (64 + j)) (λ j. q (64 + j)) k (λ j. h (64 + j)))
 
 pub words_length : (p : ℕ → Bool) (k : ℕ) → length (words p k) ≡ k
 unfolding words

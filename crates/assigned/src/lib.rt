@@ -180,7 +180,7 @@ fn looked_at(facts: &[u32], body: usize, left: usize) -> usize
 }
 
 // The values of row f at n and what i stands for.
-#[cycle(formula_values_range_values)]
+#[cycle(values)]
 fn formula_values(
     schema: &[i32],
     facts: &[u32],
@@ -221,7 +221,7 @@ fn formula_values(
 }
 
 // The values of row f, an iteration, at n: no i changes them. The values of its body at one i after the other are combined.
-#[cycle(formula_values_range_values)]
+#[cycle(values)]
 fn range_values(
     schema: &[i32],
     facts: &[u32],

@@ -7,26 +7,24 @@ use Rattle.assigned.proofs.DigitLaws.{digit_low, digit_high}
 use Rattle.assigned.proofs.digit_word.Statement.{statement}
 use Rattle.assigned.proofs.digit_word.Tie as tie
 
-low-digits-requires : tie.Need-low-digits-requires
-low-digits-requires c κs = search rules
+low_digits-requires : tie.Need-low_digits-requires
+low_digits-requires c κs = search rules
 
-returns : tie.Need-returns
-returns c =
-    let s = c.before.before in
-    c.low-digits.ensures ∙ word_same _ _ 64 (λ j l. digit_low s.args.m s.args.b s.requires.0 j c.before.if1.true)
+returns-then-b-lt6 : tie.Need-returns-then-b-lt6
+returns-then-b-lt6 c =
+    c.low_digits.ensures ∙ word_same _ _ 64 (λ j l. digit_low c.args.m c.args.b c.requires.0 j c.if-b-lt6.true)
 
-shr_same : tie.Need-overflow-shr-same
-shr_same c = search rules
+overflow_shr-m : tie.Need-overflow_shr-m
+overflow_shr-m c = search rules
 
 same-requires : tie.Need-same-requires
 same-requires c κs = search rules
 
-returns_2 : tie.Need-returns-2
+returns : tie.Need-returns
 unfolding digit
-returns_2 c =
-    let s = c.before.before in
-    c.same.ensures ∙ word_same _ _ 64 (λ j l. digit_high s.args.m s.args.b s.requires.0 j (omega arith) l)
+returns c =
+    c.same.ensures ∙ word_same _ _ 64 (λ j l. digit_high c.args.m c.args.b c.requires.0 j (omega arith) l)
 
 pub digit_word_spec : {M : Type 1} → statement M
 digit_word_spec =
-    tie.close (tie.spec low-digits-requires returns shr_same same-requires returns_2)
+    tie.close (tie.spec low_digits-requires returns-then-b-lt6 overflow_shr-m same-requires returns)

@@ -17,56 +17,55 @@ use Rattle.assigned.proofs.digits.Tie as tie
 abbrev from : Bool → ℕ → ℕ → ℕ → Bool
 from held m b j = signed held (digit (m + j) b)
 
-abbrev invariant_loop : tie.invariant-loop
+abbrev invariant_loop : tie.invariant-loop-k
 invariant_loop held m b out₀ k₀ out k = (k ≤ 64) × (length out ≡ 64) × (take k out ≡ words (from held m b) k)
 
-abbrev decreases_loop : tie.decreases-loop
+abbrev decreases_loop : tie.decreases-loop-k
 decreases_loop held m b out₀ k₀ out k = 64 - k
 
-loop_holds : tie.Need-loop-init invariant_loop decreases_loop
+loop-k-init : tie.Need-loop-k-init invariant_loop decreases_loop
 unfolding words
-loop_holds c = (omega arith, c.requires.3, refl)
+loop-k-init c = (omega arith, c.requires.3, refl)
 
-mul-digit-word : tie.Need-overflow-mul-digit-word invariant_loop decreases_loop
-mul-digit-word c = omega arith
+overflow_mul-k : tie.Need-overflow_mul-k invariant_loop decreases_loop
+overflow_mul-k c = omega arith
 
-add-digit-word : tie.Need-overflow-add-digit-word invariant_loop decreases_loop
-add-digit-word c = omega arith
+overflow_add-m : tie.Need-overflow_add-m invariant_loop decreases_loop
+overflow_add-m c = omega arith
 
-digit-word-requires : tie.Need-digit-word-requires invariant_loop decreases_loop
-digit-word-requires c κs = omega arith
+digit_word-requires : tie.Need-digit_word-requires invariant_loop decreases_loop
+digit_word-requires c κs = omega arith
 
 turned-requires : tie.Need-turned-requires invariant_loop decreases_loop
 turned-requires c κs = search rules
 
-mul-out : tie.Need-overflow-mul-out invariant_loop decreases_loop
-mul-out c = omega arith
+offset_bounds-out-k : tie.Need-offset_bounds-out-k invariant_loop decreases_loop
+offset_bounds-out-k c = omega arith
 
-element-write-out : tie.Need-element-write-out invariant_loop decreases_loop
-element-write-out c = omega arith
+bounds-out-k : tie.Need-bounds-out-k invariant_loop decreases_loop
+bounds-out-k c = omega arith
 
-add_k : tie.Need-overflow-add-k invariant_loop decreases_loop
-add_k c = omega arith
+overflow_add-k : tie.Need-overflow_add-k invariant_loop decreases_loop
+overflow_add-k c = omega arith
 
-loop_less : tie.Need-loop-smaller invariant_loop decreases_loop
-loop_less c = omega arith
+loop-k-smaller : tie.Need-loop-k-smaller invariant_loop decreases_loop
+loop-k-smaller c = omega arith
 
-loop_again : tie.Need-loop-preserved invariant_loop decreases_loop
-loop_again c =
-    let s = c.before.before.before.before in
-    let k = c.before.before.before.loop.k in
-    let inv = c.before.before.before.loop.invariant in (
+loop-k-preserved : tie.Need-loop-k-preserved invariant_loop decreases_loop
+loop-k-preserved c =
+    let k = c.loop-k.k in
+    let inv = c.loop-k.invariant in (
       omega arith,
       simp length-set inv.1,
       words_put _ _ _ _ (omega arith) inv.2
           (c.turned.ensures
-          ∙ ap (turned_word s.args.held) c.before.digit-word.ensures
-          ∙ turned_word_lem s.args.held (λ j. digit (s.args.m + 64 * k + j) s.args.b)
-          ∙ word_same _ _ 64 (λ j l. ap (λ (x : ℕ). signed s.args.held (digit x s.args.b)) (add_assoc s.args.m (64 * k) j))),
+          ∙ ap (turned_word c.args.held) c.digit_word.ensures
+          ∙ turned_word_lem c.args.held (λ j. digit (c.args.m + 64 * k + j) c.args.b)
+          ∙ word_same _ _ 64 (λ j l. ap (λ (x : ℕ). signed c.args.held (digit x c.args.b)) (add_assoc c.args.m (64 * k) j))),
     )
 
 returns : tie.Need-returns invariant_loop decreases_loop
-returns c = words_all _ _ _ 64 c.before.loop.invariant.1 c.loop-test.false c.before.loop.invariant.0 c.before.loop.invariant.2
+returns c = words_all _ _ _ 64 c.loop-k.invariant.1 c.loop-k-test.false c.loop-k.invariant.0 c.loop-k.invariant.2
 
 pub digits_spec : {M : Type 1} → statement M
 digits_spec =
@@ -74,14 +73,14 @@ digits_spec =
     (tie.spec
     invariant_loop
     decreases_loop
-    loop_holds
-    mul-digit-word
-    add-digit-word
-    digit-word-requires
+    loop-k-init
+    overflow_mul-k
+    overflow_add-m
+    digit_word-requires
     turned-requires
-    mul-out
-    element-write-out
-    add_k
-    loop_less
-    loop_again
+    offset_bounds-out-k
+    bounds-out-k
+    overflow_add-k
+    loop-k-smaller
+    loop-k-preserved
     returns)

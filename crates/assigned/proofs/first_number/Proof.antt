@@ -29,11 +29,11 @@ abbrev holds : List ℤ → ℕ → ℕ → ℕ → Bool
 holds schema root n m = truth (among (numbered (occurring n (tree (row_at schema) root)) m)) n (tree (row_at schema) root)
 
 -- no number passed makes the root true; blocks are whole
-abbrev invariant_loop : tie.invariant-loop
+abbrev invariant_loop : tie.invariant-loop-m
 invariant_loop schema facts root n keys count total out₀ m₀ out m =
     (m % 4096 ≡ 0) × (m ≤ 65536) × (length out ≡ 64) × ((i : ℕ) → i < m → holds schema root n i ≡ false)
 
-abbrev decreases_loop : tie.decreases-loop
+abbrev decreases_loop : tie.decreases-loop-m
 decreases_loop schema facts root n keys count total out₀ m₀ out m = 65536 - m
 
 module _ (c : tie.Start invariant_loop decreases_loop) where
@@ -58,94 +58,87 @@ module _ (c : tie.Start invariant_loop decreases_loop) where
       ∙ ap (λ (ks : List ℕ). truth (keyed ks m) c.args.n (tree (row_at c.args.schema.now) c.args.root)) c.requires.listed
       ∙ keyed_truth (row_at c.args.schema.now) c.args.facts.now c.args.root c.args.n c.requires.passed c.requires.width m
 
-shl-total : tie.Need-overflow-shl-total invariant_loop decreases_loop
-shl-total c = omega (arith, c.before.before.requires.few)
+overflow_shl-total : tie.Need-overflow_shl-total invariant_loop decreases_loop
+overflow_shl-total c = omega (arith, c.requires.few)
 
-loop_holds : tie.Need-loop-init invariant_loop decreases_loop
-loop_holds c = (refl, omega arith, refl, below_none _)
+loop-m-init : tie.Need-loop-m-init invariant_loop decreases_loop
+loop-m-init c = (refl, omega arith, refl, below_none _)
 
-formula-values-requires : tie.Need-formula-values-requires invariant_loop decreases_loop
-formula-values-requires c κs =
-    let at = c.before.before in
-    let s = at.before.before.before in (
-      record {
-        row = s.requires.row;
-        formed = s.requires.passed.formed;
-        width = s.requires.width;
-        few = s.requires.few;
-        held = held s;
-        whole = omega (arith, at.loop.invariant.0);
-        start = at.loop.invariant.1;
-      },
-      s.requires.passed.known,
-      record { low = omega arith; high = omega arith },
-      at.loop.invariant.2,
-    )
+formula_values-requires : tie.Need-formula_values-requires invariant_loop decreases_loop
+formula_values-requires c κs = (
+  record {
+    row = c.requires.row;
+    formed = c.requires.passed.formed;
+    width = c.requires.width;
+    few = c.requires.few;
+    held = held c.before.before.before.before.before;
+    whole = omega (arith, c.loop-m.invariant.0);
+    start = c.loop-m.invariant.1;
+  },
+  c.requires.passed.known,
+  record { low = omega arith; high = omega arith },
+  c.loop-m.invariant.2,
+)
 
-first-digit-requires : tie.Need-first-digit-requires invariant_loop decreases_loop
-first-digit-requires c κs = search rules
+first_digit-j-requires : tie.Need-first_digit-j-requires invariant_loop decreases_loop
+first_digit-j-requires c κs = search rules
 
 -- a block is looked at
-module _ (c : tie.After-first-digit invariant_loop decreases_loop) where
-  abbrev at : tie.At-loop invariant_loop decreases_loop
+module _ (c : tie.After-first_digit-j invariant_loop decreases_loop) where
+  abbrev at : tie.At-loop-m invariant_loop decreases_loop
   at = c.before.before.before.before.before
 
   abbrev start : tie.Start invariant_loop decreases_loop
   start = at.before.before.before
 
   abbrev out : List ℕ
-  out = c.before.before.formula-values.new.1.1.1.1.1.1.1.1.0
+  out = c.formula_values.new.out
 
-  out_is : out ≡ words (λ j. value (keyed (take start.args.count start.args.keys.now) (at.loop.m + j)) start.args.n (tree (row_at start.args.schema.now) start.args.root) (unbiased 65536)) 64
+  out_is : out ≡ words (λ j. value (keyed (take start.args.count start.args.keys.now) (at.loop-m.m + j)) start.args.n (tree (row_at start.args.schema.now) start.args.root) (unbiased 65536)) 64
   unfolding values_from
-  out_is = c.before.before.formula-values.ensures
+  out_is = c.formula_values.ensures
 
-  digit_is : (j : ℕ) → j < 4096 → digit_of out j ≡ passes start (at.loop.m + j)
-  digit_is j l = ap (λ (o : List ℕ). digit_of o j) out_is ∙ words_digit _ 64 j (omega arith) ∙ value_is start (at.loop.m + j)
+  digit_is : (j : ℕ) → j < 4096 → digit_of out j ≡ passes start (at.loop-m.m + j)
+  digit_is j l = ap (λ (o : List ℕ). digit_of o j) out_is ∙ words_digit _ 64 j (omega arith) ∙ value_is start (at.loop-m.m + j)
 
-  least : Least (digit_of out) 4096 c.first-digit.result
-  least = least_at _ _ _ c.first-digit.ensures
+  least : Least (digit_of out) 4096 c.first_digit-j.result
+  least = least_at _ _ _ c.first_digit-j.ensures
 
-  none_before : (i : ℕ) → i < at.loop.m + c.first-digit.result → passes start i ≡ false
-  none_before = block_before (passes start) (digit_of out) at.loop.m 4096 c.first-digit.result at.loop.inv.3 digit_is least
+  none_before : (i : ℕ) → i < at.loop-m.m + c.first_digit-j.result → passes start i ≡ false
+  none_before = block_before (passes start) (digit_of out) at.loop-m.m 4096 c.first_digit-j.result at.loop-m.invariant.3 digit_is least
 
-add-if2 : tie.Need-overflow-add-if2 invariant_loop decreases_loop
-add-if2 c = omega (arith, c.if1.true, (at c.before).loop.invariant.1)
+overflow_add-m : tie.Need-overflow_add-m invariant_loop decreases_loop
+overflow_add-m c = omega (arith, c.if-j-lt4096.true, (at c.before).loop-m.invariant.1)
 
-add-result : tie.Need-overflow-add-result invariant_loop decreases_loop
-add-result c = omega (arith, c.before.if1.true, (at c.before.before).loop.invariant.1)
+overflow_add-result : tie.Need-overflow_add-result invariant_loop decreases_loop
+overflow_add-result c = omega (arith, c.if-j-lt4096.true, (at c.before.before).loop-m.invariant.1)
+
+returns-then-m-j : tie.Need-returns-then-m-j invariant_loop decreases_loop
+returns-then-m-j c =
+    block_found (passes (start c.before.before)) (digit_of (out c.before.before)) (at c.before.before).loop-m.m 4096 _ (at c.before.before).loop-m.invariant.3 (digit_is c.before.before) (least c.before.before) _ c.if-j-lt4096.true (omega (arith, total_is (start c.before.before), c.if-m-j.true))
+
+returns-else-m-j : tie.Need-returns-else-m-j invariant_loop decreases_loop
+returns-else-m-j c =
+    total_is (start c.before.before) ∙ none_below (passes (start c.before.before)) _ _ (none_before c.before.before) (omega (arith, total_is (start c.before.before), c.if-m-j.false))
+
+overflow_add-m-in-loop-m : tie.Need-overflow_add-m-in-loop-m invariant_loop decreases_loop
+overflow_add-m-in-loop-m c = omega (arith, (at c.before).loop-m.invariant.1)
+
+loop-m-smaller : tie.Need-loop-m-smaller invariant_loop decreases_loop
+loop-m-smaller c =
+    omega (arith, (at c.before).loop-m.invariant.0, (at c.before).loop-m.invariant.1, c.loop-m-test.true, total_is (start c.before), total_small (start c.before))
+
+loop-m-preserved : tie.Need-loop-m-preserved invariant_loop decreases_loop
+loop-m-preserved c = (
+  omega (arith, (at c.before).loop-m.invariant.0),
+  omega (arith, (at c.before).loop-m.invariant.0, (at c.before).loop-m.invariant.1, c.loop-m-test.true, total_is (start c.before), total_small (start c.before)),
+  ap length (out_is c.before) ∙ words_length _ 64,
+  λ i l. none_before c.before i (omega (arith, c.if-j-lt4096.false)),
+)
 
 returns : tie.Need-returns invariant_loop decreases_loop
 returns c =
-    let b = c.before.before in
-    block_found (passes (start b)) (digit_of (out b)) (at b).loop.m 4096 _ (at b).loop.invariant.3 (digit_is b) (least b) _ c.before.if1.true (omega (arith, total_is (start b), c.if2.true))
-
-returns_2 : tie.Need-returns-2 invariant_loop decreases_loop
-returns_2 c =
-    let b = c.before.before in
-    total_is (start b) ∙ none_below (passes (start b)) _ _ (none_before b) (omega (arith, total_is (start b), c.if2.false))
-
-add-m : tie.Need-overflow-add-m invariant_loop decreases_loop
-add-m c = omega (arith, (at c.before).loop.invariant.1)
-
-loop_less : tie.Need-loop-smaller invariant_loop decreases_loop
-loop_less c =
-    let b = c.before in
-    omega (arith, (at b).loop.invariant.0, (at b).loop.invariant.1, b.before.before.before.before.loop-test.true, total_is (start b), total_small (start b))
-
-loop_again : tie.Need-loop-preserved invariant_loop decreases_loop
-loop_again c =
-    let b = c.before in (
-      omega (arith, (at b).loop.invariant.0),
-      omega (arith, (at b).loop.invariant.0, (at b).loop.invariant.1, b.before.before.before.before.loop-test.true, total_is (start b), total_small (start b)),
-      ap length (out_is b) ∙ words_length _ 64,
-      λ i l. none_before b i (omega (arith, c.if1.false)),
-    )
-
-returns_3 : tie.Need-returns-3 invariant_loop decreases_loop
-returns_3 c =
-    let s = c.before.before.before.before in
-    total_is s ∙ none_below (passes s) _ _ c.before.loop.invariant.3 (omega (arith, total_is s, c.loop-test.false))
+    total_is c.before.before.before.before ∙ none_below (passes c.before.before.before.before) _ _ c.loop-m.invariant.3 (omega (arith, total_is c.before.before.before.before, c.loop-m-test.false))
 
 pub first_number_spec : {M : Type 1} → statement M
 first_number_spec =
@@ -153,15 +146,15 @@ first_number_spec =
     (tie.spec
     invariant_loop
     decreases_loop
-    shl-total
-    loop_holds
-    formula-values-requires
-    first-digit-requires
-    add-if2
-    add-result
-    returns
-    returns_2
-    add-m
-    loop_less
-    loop_again
-    returns_3)
+    overflow_shl-total
+    loop-m-init
+    formula_values-requires
+    first_digit-j-requires
+    overflow_add-m
+    overflow_add-result
+    returns-then-m-j
+    returns-else-m-j
+    overflow_add-m-in-loop-m
+    loop-m-smaller
+    loop-m-preserved
+    returns)

@@ -34,55 +34,55 @@ long c = length-take-le _ _ c.requires.0.held
 abbrev symbol : tie.Start → ℕ → Bool
 symbol c m = symbol_value (keyed (ks c) m) c.args.n (row c) (unbiased c.args.i)
 
-module _ (c : tie.After-place) where
+module _ (c : tie.After-place-k) where
   abbrev start : tie.Start
   start = c.before.before.before.before
 
   abbrev key : ℕ
   key = key_of (wire_at (row start) start.args.n (unbiased start.args.i))
 
-  place_is : c.place.result ≡ place_of key (ks start)
-  place_is = c.place.ensures ∙ ap (λ (k : ℕ). place_of k (ks start)) c.before.literal-key.ensures.0
+  place_is : c.place-k.result ≡ place_of key (ks start)
+  place_is = c.place-k.ensures ∙ ap (λ (k : ℕ). place_of k (ks start)) c.literal_key.ensures.0
 
-  symbol_here : c.place.result < start.args.count → (m : ℕ) → digit m (start.args.count - 1 - c.place.result) ≡ symbol start m
+  symbol_here : c.place-k.result < start.args.count → (m : ℕ) → digit m (start.args.count - 1 - c.place-k.result) ≡ symbol start m
   unfolding symbol_value wire_at
   symbol_here h m =
-      let e : start.args.count - 1 - c.place.result ≡ length (ks start) - 1 - place_of key (ks start) = omega (arith, place_is, long start) in
+      let e : start.args.count - 1 - c.place-k.result ≡ length (ks start) - 1 - place_of key (ks start) = omega (arith, place_is, long start) in
       ap (digit m) e ∙ sym (keyed_at _ _ (ks start) m (omega (arith, place_is, long start)))
 
-  symbol_nowhere : start.args.count ≤ c.place.result → (m : ℕ) → false ≡ symbol start m
+  symbol_nowhere : start.args.count ≤ c.place-k.result → (m : ℕ) → false ≡ symbol start m
   unfolding symbol_value wire_at
   symbol_nowhere h m = sym (keyed_elsewhere _ _ (ks start) m (omega (arith, place_is, long start)))
 
-  value_is : (m : ℕ) → signed (eqb c.before.before.natural-at.result 2) (symbol start m) ≡ value (keyed (ks start) m) start.args.n (tree (row_at start.args.schema.now) start.args.f) (unbiased start.args.i)
+  value_is : (m : ℕ) → signed (eqb c.natural_at-held.result 2) (symbol start m) ≡ value (keyed (ks start) m) start.args.n (tree (row_at start.args.schema.now) start.args.f) (unbiased start.args.i)
   unfolding row_at
   value_is m =
-      let kind = c.before.before.natural-at.ensures.0 in
-      let formed : well_formed (row_at start.args.schema.now) start.args.f ≡ true = start.pre.0.formed _ (omega arith) in
-      sym (value_literal _ _ formed _ kind (omega (arith, kind, start.pre.2.low)) (omega (arith, kind, start.pre.2.high)) _ _ _)
+      let kind = c.natural_at-held.ensures.0 in
+      let formed : well_formed (row_at start.args.schema.now) start.args.f ≡ true = start.requires.0.formed _ (omega arith) in
+      sym (value_literal _ _ formed _ kind (omega (arith, kind, start.requires.2.low)) (omega (arith, kind, start.requires.2.high)) _ _ _)
 
 signed_false : (v : Bool) → not v ≡ signed v false
 unfolding signed
 signed_false true = refl
 signed_false false = refl
 
-mul_natural_at : tie.Need-overflow-mul-natural-at
-mul_natural_at c = search rules
+overflow_mul-f : tie.Need-overflow_mul-f
+overflow_mul-f c = search rules
 
-natural_at_requires : tie.Need-natural-at-requires
-natural_at_requires c κs = search rules
+natural_at-held-requires : tie.Need-natural_at-held-requires
+natural_at-held-requires c κs = search rules
 
-literal-key-requires : tie.Need-literal-key-requires
-literal-key-requires c κs = search rules
+literal_key-requires : tie.Need-literal_key-requires
+literal_key-requires c κs = search rules
 
-place-requires : tie.Need-place-requires
-place-requires c κs = search rules
+place-k-requires : tie.Need-place-k-requires
+place-k-requires c κs = search rules
 
-sub-digits : tie.Need-overflow-sub-digits
-sub-digits c = search rules
+overflow_sub-count : tie.Need-overflow_sub-count
+overflow_sub-count c = search rules
 
-sub-digits-2 : tie.Need-overflow-sub-digits-2
-sub-digits-2 c = search rules
+overflow_sub-count-then-k-count : tie.Need-overflow_sub-count-then-k-count
+overflow_sub-count-then-k-count c = search rules
 
 digits-requires : tie.Need-digits-requires
 digits-requires c κs = search rules
@@ -90,29 +90,27 @@ digits-requires c κs = search rules
 fill-requires : tie.Need-fill-requires
 fill-requires c κs = search rules
 
-returns : tie.Need-returns
+returns-then-k-count : tie.Need-returns-then-k-count
 unfolding values_from
-returns c =
-    let at = c.before.before.before in
-    c.digits.ensures ∙ words_same _ _ 64 (λ j. ap (signed _) (symbol_here at c.before.before.if1.true _) ∙ value_is at _)
+returns-then-k-count c =
+    c.digits.ensures ∙ words_same _ _ 64 (λ j. ap (signed _) (symbol_here c.before.before.before c.if-k-count.true _) ∙ value_is c.before.before.before _)
 
-returns_2 : tie.Need-returns-2
+returns-else-k-count : tie.Need-returns-else-k-count
 unfolding values_from
-returns_2 c =
-    let at = c.before.before.before in
-    c.fill.ensures ∙ words_same _ _ 64 (λ j. signed_false _ ∙ ap (signed _) (symbol_nowhere at c.before.before.if1.false _) ∙ value_is at _)
+returns-else-k-count c =
+    c.fill.ensures ∙ words_same _ _ 64 (λ j. signed_false _ ∙ ap (signed _) (symbol_nowhere c.before.before.before c.if-k-count.false _) ∙ value_is c.before.before.before _)
 
 pub literal_values_spec : {M : Type 1} → statement M
 literal_values_spec =
     tie.close
     (tie.spec
-    mul_natural_at
-    natural_at_requires
-    literal-key-requires
-    place-requires
-    sub-digits
-    sub-digits-2
+    overflow_mul-f
+    natural_at-held-requires
+    literal_key-requires
+    place-k-requires
+    overflow_sub-count
+    overflow_sub-count-then-k-count
     digits-requires
     fill-requires
-    returns
-    returns_2)
+    returns-then-k-count
+    returns-else-k-count)

@@ -14,32 +14,32 @@ low b k e = ap (λ (x : ℕ). word (λ j. digit j x) 64) (sym e)
 last : (b : ℕ) → b < 6 → (b ≡ 0 → ⊥) → (b ≡ 1 → ⊥) → (b ≡ 2 → ⊥) → (b ≡ 3 → ⊥) → (b ≡ 4 → ⊥) → b ≡ 5
 last b h p q r s t = omega arith
 
-returns : tie.Need-returns
+returns-in-0 : tie.Need-returns-in-0
 unfolding word digit if◌then◌else◌
-returns c = low _ 0 c.match.keys1
+returns-in-0 c = low _ 0 c.in-0.is
 
-returns_2 : tie.Need-returns-2
+returns-in-1 : tie.Need-returns-in-1
 unfolding word digit if◌then◌else◌
-returns_2 c = low _ 1 c.match.keys2
+returns-in-1 c = low _ 1 c.in-1.is
 
-returns_3 : tie.Need-returns-3
+returns-in-2 : tie.Need-returns-in-2
 unfolding word digit if◌then◌else◌
-returns_3 c = low _ 2 c.match.keys3
+returns-in-2 c = low _ 2 c.in-2.is
 
-returns_4 : tie.Need-returns-4
+returns-in-3 : tie.Need-returns-in-3
 unfolding word digit if◌then◌else◌
-returns_4 c = low _ 3 c.match.keys4
+returns-in-3 c = low _ 3 c.in-3.is
 
-returns_5 : tie.Need-returns-5
+returns-in-4 : tie.Need-returns-in-4
 unfolding word digit if◌then◌else◌
-returns_5 c = low _ 4 c.match.keys5
+returns-in-4 c = low _ 4 c.in-4.is
 
-returns_6 : tie.Need-returns-6
+returns-in_default : tie.Need-returns-in_default
 unfolding word digit if◌then◌else◌
-returns_6 c =
-    let r = c.match.rest in
-    low _ 5 (last _ c.before.requires r.0.0.0.0.1 r.0.0.0.1 r.0.0.1 r.0.1 r.1)
+returns-in_default c =
+    let r = c.in_default.in_default-own.rest in
+    low _ 5 (last _ c.requires r.0.0.0.0.1 r.0.0.0.1 r.0.0.1 r.0.1 r.1)
 
 pub low_digits_spec : {M : Type 1} → statement M
 low_digits_spec =
-    tie.close (tie.spec returns returns_2 returns_3 returns_4 returns_5 returns_6)
+    tie.close (tie.spec returns-in-0 returns-in-1 returns-in-2 returns-in-3 returns-in-4 returns-in_default)

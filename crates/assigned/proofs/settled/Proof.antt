@@ -16,47 +16,43 @@ use Rattle.assigned.proofs.settled.Tie as tie
 abbrev all_so : Bool → ℕ → Bool
 all_so any w = eqb w (word (λ j. any) 64)
 
-abbrev invariant_loop : tie.invariant-loop
+abbrev invariant_loop : tie.invariant-loop-k
 invariant_loop any ws all k₀ k = (k ≤ 64) × (all_of (all_so any) (take k ws) ≡ true)
 
-abbrev decreases_loop : tie.decreases-loop
+abbrev decreases_loop : tie.decreases-loop-k
 decreases_loop any ws all k₀ k = 64 - k
 
-same-requires : tie.Need-same-requires invariant_loop decreases_loop
-same-requires c κs = search rules
+same-all-requires : tie.Need-same-all-requires invariant_loop decreases_loop
+same-all-requires c κs = search rules
 
-loop_holds : tie.Need-loop-init invariant_loop decreases_loop
+loop-k-init : tie.Need-loop-k-init invariant_loop decreases_loop
 unfolding all_of
-loop_holds c = (omega arith, refl)
+loop-k-init c = (omega arith, refl)
 
-mul-if1 : tie.Need-overflow-mul-if1 invariant_loop decreases_loop
-mul-if1 c = omega arith
+offset_bounds-ws-k : tie.Need-offset_bounds-ws-k invariant_loop decreases_loop
+offset_bounds-ws-k c = omega arith
 
-element-copy-out-if1 : tie.Need-element-copy-out-if1 invariant_loop decreases_loop
-element-copy-out-if1 c = omega arith
+bounds-ws-k : tie.Need-bounds-ws-k invariant_loop decreases_loop
+bounds-ws-k c = omega arith
+
+returns-then-ws-k : tie.Need-returns-then-ws-k invariant_loop decreases_loop
+returns-then-ws-k c =
+    sym (all_not (all_so c.args.any) _ c.loop-k.k (omega arith) (ne_eqb _ _ (λ e. c.if-ws-k.true (e ∙ sym c.same-all.ensures))))
+
+overflow_add-k : tie.Need-overflow_add-k invariant_loop decreases_loop
+overflow_add-k c = omega arith
+
+loop-k-smaller : tie.Need-loop-k-smaller invariant_loop decreases_loop
+loop-k-smaller c = omega arith
+
+loop-k-preserved : tie.Need-loop-k-preserved invariant_loop decreases_loop
+loop-k-preserved c =
+    (omega arith, all_more (all_so c.args.any) _ c.loop-k.k (omega arith) c.loop-k.invariant.1 (eq-eqb _ _ (c.if-ws-k.false ∙ c.same-all.ensures)))
 
 returns : tie.Need-returns invariant_loop decreases_loop
 returns c =
-    let at = c.before.before.before in
-    let s = at.before.before in
-    sym (all_not (all_so s.args.any) _ at.loop.k (omega arith) (ne_eqb _ _ (λ e. c.if1.true (e ∙ sym at.before.same.ensures))))
-
-add_k : tie.Need-overflow-add-k invariant_loop decreases_loop
-add_k c = omega arith
-
-loop_less : tie.Need-loop-smaller invariant_loop decreases_loop
-loop_less c = omega arith
-
-loop_again : tie.Need-loop-preserved invariant_loop decreases_loop
-loop_again c =
-    let at = c.before.before.before in
-    let s = at.before.before in
-    (omega arith, all_more (all_so s.args.any) _ at.loop.k (omega arith) at.loop.invariant.1 (eq-eqb _ _ (c.if1.false ∙ at.before.same.ensures)))
-
-returns_2 : tie.Need-returns-2 invariant_loop decreases_loop
-returns_2 c =
-    let a = c.before.before.before.args in
-    sym (all_end (all_so a.any) a.ws.now c.before.loop.k (omega arith) c.before.loop.invariant.1)
+    let a = c.args in
+    sym (all_end (all_so a.any) a.ws.now c.loop-k.k (omega arith) c.loop-k.invariant.1)
 
 pub settled_spec : {M : Type 1} → statement M
 settled_spec =
@@ -64,12 +60,12 @@ settled_spec =
     (tie.spec
     invariant_loop
     decreases_loop
-    same-requires
-    loop_holds
-    mul-if1
-    element-copy-out-if1
-    returns
-    add_k
-    loop_less
-    loop_again
-    returns_2)
+    same-all-requires
+    loop-k-init
+    offset_bounds-ws-k
+    bounds-ws-k
+    returns-then-ws-k
+    overflow_add-k
+    loop-k-smaller
+    loop-k-preserved
+    returns)

@@ -5,16 +5,16 @@ use Rattle.assigned.specs.Words.{turned_word}
 use Rattle.assigned.proofs.turned.Statement.{statement}
 use Rattle.assigned.proofs.turned.Tie as tie
 
-returns : tie.Need-returns
+returns-then-held : tie.Need-returns-then-held
 unfolding turned_word
-returns c = ap (λ (v : Bool). turned_word v c.before.args.w) (sym c.if1.true)
+returns-then-held c = ap (λ (v : Bool). turned_word v c.args.w) (sym c.if-held.true)
 
-sub-result : tie.Need-overflow-sub-result
-sub-result c = search rules
+overflow_sub-result : tie.Need-overflow_sub-result
+overflow_sub-result c = search rules
 
-returns_2 : tie.Need-returns-2
+returns-else-held : tie.Need-returns-else-held
 unfolding turned_word
-returns_2 c = ap (λ (v : Bool). turned_word v c.before.args.w) (sym c.if1.false)
+returns-else-held c = ap (λ (v : Bool). turned_word v c.args.w) (sym c.if-held.false)
 
 pub turned_spec : {M : Type 1} → statement M
-turned_spec = tie.close (tie.spec sub-result returns returns_2)
+turned_spec = tie.close (tie.spec overflow_sub-result returns-then-held returns-else-held)
