@@ -1,7 +1,8 @@
+use mathlib.Core.Bool.{not}
 use borrow.Author.Rules.{rules}
 use Prim.Native.Nat.{ℕ, ◌<◌, ◌≤◌}
 use native.Mathlib.Omega.{arith}
-use mathlib.Core.Path.{◌≡◌, ◌∙◌}
+use mathlib.Core.Path.{◌≡◌, ◌∙◌, ap}
 use mathlib.Core.List.{[]}
 use lib.IntN.{pos}
 use Rattle.stab.specs.Node.{Tableau, node, row, rows, row_count, formula}
@@ -16,80 +17,74 @@ use Rattle.stab.proofs.Bools.{asked_false, asked_true}
 abbrev Lent : tie.Start → Tableau
 Lent s = lent s.args.schema.now s.args.proof.now s.args.nodes.now [] s.args.h
 
-abbrev begin : tie.Else1 → tie.Start
+abbrev begin : tie.Else-not-unfolds → tie.Start
 begin c = c.before.before.before.before.before
 
 -- the rule is 3 or 4
-numbered : (c : tie.Else1) → (n : ℕ) × ((node (Lent (begin c)) (begin c).args.j).rule ≡ pos n) × (3 ≤ n) × (n < 5)
+numbered : (c : tie.Else-not-unfolds) → (n : ℕ) × ((node (Lent (begin c)) (begin c).args.j).rule ≡ pos n) × (3 ≤ n) × (n < 5)
 unfolding node
-numbered c = unfolding_number _ (asked_true c.before.unfolds.ensures c.if1.false)
+numbered c = unfolding_number _ (asked_true c.unfolds.ensures (ap not c.if-not-unfolds.false))
 
 unfolds-requires : tie.Need-unfolds-requires
 unfolds-requires c κs = search rules
 
-returns : tie.Need-returns
+returns-then-not-unfolds : tie.Need-returns-then-not-unfolds
 unfolding node
-returns c =
-    let s = c.before.before.before.before.before in
-    (no_partners (Lent s) _ (asked_false c.before.unfolds.ensures c.if1.true), s.requires.1.1.1.1.0)
+returns-then-not-unfolds c =
+    (no_partners (Lent c.before.before.before.before.before) _ (asked_false c.unfolds.ensures (ap not c.if-not-unfolds.true)), c.requires.1.1.1.1.0)
 
-natural-of-requires : tie.Need-natural-of-requires
-natural-of-requires c κs = search rules
+natural_of-on-requires : tie.Need-natural_of-on-requires
+natural_of-on-requires c κs = search rules
 
-natural-of-requires-2 : tie.Need-natural-of-requires-2
-natural-of-requires-2 c κs = search rules
+natural_of-with-requires : tie.Need-natural_of-with-requires
+natural_of-with-requires c κs = search rules
 
-is-shortened-requires : tie.Need-is-shortened-requires
+is_shortened-requires : tie.Need-is_shortened-requires
 unfolding node row rows row_count
-is-shortened-requires c κs =
+is_shortened-requires c κs =
     let s = begin c.before.before in
     let k = numbered c.before.before in
-    let p = unfold_on (Lent s) _ _ k.1 s.pre.1.0 s.pre.1.1.1.0.formed k.2 k.3 in
-    let q = unfold_with (Lent s) _ _ k.1 s.pre.1.0 s.pre.1.1.1.0.formed k.2 k.3 in
-    rw (c.before.natural-of.ensures.0, c.natural-of2.ensures.0) ((omega (arith, p.0, s.pre.1.1.1.0.few), omega (arith, q.0, s.pre.1.1.1.0.few)), (p.2, q.2))
+    let p = unfold_on (Lent s) _ _ k.1 s.requires.1.0 s.requires.1.1.1.0.formed k.2 k.3 in
+    let q = unfold_with (Lent s) _ _ k.1 s.requires.1.0 s.requires.1.1.1.0.formed k.2 k.3 in
+    rw (c.natural_of-on.ensures.0, c.natural_of-with.ensures.0) ((omega (arith, p.0, s.requires.1.1.1.0.few), omega (arith, q.0, s.requires.1.1.1.0.few)), (p.2, q.2))
 
-returns_2 : tie.Need-returns-2
+returns-then-not-is_shortened : tie.Need-returns-then-not-is_shortened
 unfolding node row rows
-returns_2 c =
+returns-then-not-is_shortened c =
     let s = begin c.before.before.before.before in (
       not_shortened (Lent s) _
-          (asked_true c.before.before.before.before.before.unfolds.ensures c.before.before.before.before.if1.false)
-          (rw (c.before.before.before.natural-of.ensures.0, c.before.before.natural-of2.ensures.0) at (asked_false c.before.is-shortened.ensures c.if2.true)),
-      s.pre.1.1.1.1.0,
+          (asked_true c.unfolds.ensures (ap not c.if-not-unfolds.false))
+          (rw (c.natural_of-on.ensures.0, c.natural_of-with.ensures.0) at (asked_false c.is_shortened.ensures (ap not c.if-not-is_shortened.true))),
+      s.requires.1.1.1.1.0,
     )
 
-natural-of-requires-3 : tie.Need-natural-of-requires-3
-natural-of-requires-3 c κs = search rules
+natural_of-other-requires : tie.Need-natural_of-other-requires
+natural_of-other-requires c κs = search rules
 
-is-instance-requires : tie.Need-is-instance-requires
+is_instance-requires : tie.Need-is_instance-requires
 unfolding node row rows row_count
-is-instance-requires c κs =
-    let o = c.before in
-    let e = o.before.before.before.before.before in
-    let s = begin e in
-    let k = numbered e in
-    let p = unfold_on (Lent s) _ _ k.1 s.pre.1.0 s.pre.1.1.1.0.formed k.2 k.3 in
-    let q = unfold_kind (Lent s) _ _ k.1 s.pre.1.0 s.pre.1.1.1.0.formed k.2 k.3 in
-    let r = unfold_other (Lent s) _ _ k.1 s.pre.1.0 s.pre.1.1.1.0.formed k.2 k.3 in
-    rw (o.before.before.before.before.natural-of.ensures.0, o.natural-of3.ensures.0)
-    ((_, p.0, r, s.pre.1.1.1.0, s.pre.1.1.0, s.pre.1.1.1.1.1), (q, s.pre.1.1.1.1.0))
+is_instance-requires c κs =
+    let s = begin c.before.before.before.before.before.before in
+    let k = numbered c.before.before.before.before.before.before in
+    let p = unfold_on (Lent s) _ _ k.1 s.requires.1.0 s.requires.1.1.1.0.formed k.2 k.3 in
+    let q = unfold_kind (Lent s) _ _ k.1 s.requires.1.0 s.requires.1.1.1.0.formed k.2 k.3 in
+    let r = unfold_other (Lent s) _ _ k.1 s.requires.1.0 s.requires.1.1.1.0.formed k.2 k.3 in
+    rw (c.natural_of-on.ensures.0, c.natural_of-other.ensures.0)
+    ((_, p.0, r, s.requires.1.1.1.0, s.requires.1.1.0, s.requires.1.1.1.1.1), (q, s.requires.1.1.1.1.0))
 
-same_length : tie.Need-same-length
-same_length c = c.before.before.is-instance.auto.1.1.1.1.1.1.1.0
+shape_of-agreed : tie.Need-shape_of-agreed
+shape_of-agreed c = c.is_instance.auto.agreed
 
-returns_3 : tie.Need-returns-3
+returns : tie.Need-returns
 unfolding node row rows is_instance formula
-returns_3 c =
-    let i = c.before.before in
-    let o = i.before.before in
-    let e = o.before.before.before.before.before in
-    let s = begin e in (
-      i.is-instance.ensures.0
-          ∙ rw (o.before.before.before.before.natural-of.ensures.0, o.natural-of3.ensures.0)
+returns c =
+    let s = begin c.before.before.before.before.before.before.before.before.before in (
+      c.is_instance.ensures.0
+          ∙ rw (c.natural_of-on.ensures.0, c.natural_of-other.ensures.0)
           (instance_decides (Lent s) _
-          (asked_true e.before.unfolds.ensures e.if1.false)
-          (rw (o.before.before.before.before.natural-of.ensures.0, o.before.before.before.natural-of2.ensures.0) at (asked_true o.before.before.is-shortened.ensures o.before.if2.false))),
-      i.is-instance.ensures.1,
+          (asked_true c.unfolds.ensures (ap not c.if-not-unfolds.false))
+          (rw (c.natural_of-on.ensures.0, c.natural_of-with.ensures.0) at (asked_true c.is_shortened.ensures (ap not c.if-not-is_shortened.false)))),
+      c.is_instance.ensures.1,
     )
 
 pub partners_fit_spec : {M : Type 1} → statement M
@@ -97,12 +92,12 @@ partners_fit_spec =
     tie.close
     (tie.spec
     unfolds-requires
-    returns
-    natural-of-requires
-    natural-of-requires-2
-    is-shortened-requires
-    returns_2
-    natural-of-requires-3
-    is-instance-requires
-    same_length
-    returns_3)
+    returns-then-not-unfolds
+    natural_of-on-requires
+    natural_of-with-requires
+    is_shortened-requires
+    returns-then-not-is_shortened
+    natural_of-other-requires
+    is_instance-requires
+    shape_of-agreed
+    returns)

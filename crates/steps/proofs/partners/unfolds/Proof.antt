@@ -5,19 +5,19 @@ use Rattle.stab.proofs.Bools.{or_left, or_first_false}
 use Rattle.steps.proofs.partners.unfolds.Statement.{statement}
 use Rattle.steps.proofs.partners.unfolds.Tie as tie
 
-is-of-requires : tie.Need-is-of-requires
-is-of-requires c κs = search rules
+is_of-requires : tie.Need-is_of-requires
+is_of-requires c κs = search rules
+
+returns-then-is_of : tie.Need-returns-then-is_of
+unfolding of_rule
+returns-then-is_of c = sym (or_left _ _ (sym c.is_of.ensures ∙ c.if-is_of.true))
+
+is_of-requires-2 : tie.Need-is_of-requires-2
+is_of-requires-2 c κs = search rules
 
 returns : tie.Need-returns
 unfolding of_rule
-returns c = sym (or_left _ _ (sym c.before.is-of.ensures ∙ c.if1.true))
-
-is-of-requires-2 : tie.Need-is-of-requires-2
-is-of-requires-2 c κs = search rules
-
-returns_2 : tie.Need-returns-2
-unfolding of_rule
-returns_2 c = c.is-of2.ensures ∙ sym (or_first_false _ _ (sym c.before.before.is-of.ensures ∙ c.before.if1.false))
+returns c = c.is_of-2.ensures ∙ sym (or_first_false _ _ (sym c.is_of.ensures ∙ c.if-is_of.false))
 
 pub unfolds_spec : {M : Type 1} → statement M
-unfolds_spec = tie.close (tie.spec is-of-requires returns is-of-requires-2 returns_2)
+unfolds_spec = tie.close (tie.spec is_of-requires returns-then-is_of is_of-requires-2 returns)
