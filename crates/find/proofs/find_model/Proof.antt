@@ -20,69 +20,66 @@ abbrev here : tie.Start → Query
 here c = query c c.args.n
 
 -- a signed number is kept as bits, and read back from them
-query_known : (c : tie.After-query-pass) → c.query-pass.result ≡ query_refusal (here c.before.before)
+query_known : (c : tie.After-query_pass-found) → c.query_pass-found.result ≡ query_refusal (here c.before.before)
 query_known c =
-    let start = c.before.before in
-    c.query-pass.ensures.0 ∙ ap (λ (m : ℤ). query_refusal (query start m)) (to_z-of_z start.ranges.n)
+    c.query_pass-found.ensures.0 ∙ ap (λ (m : ℤ). query_refusal (query c.before.before m)) (to_z-of_z c.ranges.n)
 
-slice-aggregate-query-pass : tie.Need-slice-aggregate-query-pass
-slice-aggregate-query-pass c = search rules
+slice_bounds-query_pass-end : tie.Need-slice_bounds-query_pass-end
+slice_bounds-query_pass-end c = search rules
 
-query-pass-requires : tie.Need-query-pass-requires
-query-pass-requires c κs = search rules
+query_pass-found-requires : tie.Need-query_pass-found-requires
+query_pass-found-requires c κs = search rules
 
-enum-known-found : tie.Need-enum-known-found
-enum-known-found c = search rules
+enum_known-found : tie.Need-enum_known-found
+enum_known-found c = search rules
 
 clear-requires : tie.Need-clear-requires
 clear-requires c κs = search rules
 
-enum_told : tie.Need-enum-told
-enum_told c = search rules
+enum_told-1 : tie.Need-enum_told-1
+enum_told-1 c = search rules
 
-slice-aggregate-searched : tie.Need-slice-aggregate-searched
-slice-aggregate-searched c = search rules
+slice_bounds-searched-end : tie.Need-slice_bounds-searched-end
+slice_bounds-searched-end c = search rules
 
 searched-requires : tie.Need-searched-requires
 searched-requires c κs =
-    c.before.before.before.before.before.query-pass.ensures.1 c.before.before.enum_told.given.1
+    c.query_pass-found.ensures.1 c.in-Nothing.is
 
-same_length : tie.Need-same-length
-same_length c = search rules
+shape_of-pairs-in-Found : tie.Need-shape_of-pairs-in-Found
+shape_of-pairs-in-Found c = search rules
 
-returns : tie.Need-returns
-returns c =
-    let start = c.before.before.before.before.before.before.before.before.before in
-    let found = c.before.before.before.before.found.given.1 in (
-      refused_is (here start) _ (query_known c.before.before.before.before.before.before.before) _ _ found,
-      c.before.clear.ensures ∙ cleared_padded start.args.pairs.now 0 _ (omega arith) refl ∙ refused_table (here start) _ (query_known c.before.before.before.before.before.before.before) _ _ found,
+returns-in-Found : tie.Need-returns-in-Found
+returns-in-Found c =
+    let found = c.in-Found.is in (
+      refused_is (here c.before.before.before.before.before.before.before) _ (query_known c.before.before.before.before.before) _ _ found,
+      c.clear.ensures ∙ cleared_padded c.args.pairs.now 0 _ (omega arith) refl ∙ refused_table (here c.before.before.before.before.before.before.before) _ (query_known c.before.before.before.before.before) _ _ found,
     )
 
-same_length_2 : tie.Need-same-length-2
-same_length_2 c = search rules
+shape_of-pairs-in-Nothing : tie.Need-shape_of-pairs-in-Nothing
+shape_of-pairs-in-Nothing c = search rules
 
-returns_2 : tie.Need-returns-2
-returns_2 c =
-    let start = c.before.before.before.before.before.before.before.before.before in
-    let n = to_z-of_z start.ranges.n in
-    let known = query_known c.before.before.before.before.before.before.before in
-    let told = c.before.before.before.before.enum_told.given.1 in (
-      c.before.searched.ensures.0 ∙ ap (λ (m : ℤ). search_answer (query start m)) n ∙ searched_is (here start) _ known told,
-      c.before.searched.ensures.1 ∙ ap (λ (m : ℤ). search_table (query start m)) n ∙ searched_table (here start) _ known told,
+returns-in-Nothing : tie.Need-returns-in-Nothing
+returns-in-Nothing c =
+    let n = to_z-of_z c.ranges.n in
+    let known = query_known c.before.before.before.before.before.before in
+    let told = c.in-Nothing.is in (
+      c.searched.ensures.0 ∙ ap (λ (m : ℤ). search_answer (query c.before.before.before.before.before.before.before.before m)) n ∙ searched_is (here c.before.before.before.before.before.before.before.before) _ known told,
+      c.searched.ensures.1 ∙ ap (λ (m : ℤ). search_table (query c.before.before.before.before.before.before.before.before m)) n ∙ searched_table (here c.before.before.before.before.before.before.before.before) _ known told,
     )
 
 pub find_model_spec : {M : Type 1} → statement M
 find_model_spec =
     tie.close
     (tie.spec
-    slice-aggregate-query-pass
-    query-pass-requires
-    enum-known-found
+    slice_bounds-query_pass-end
+    query_pass-found-requires
+    enum_known-found
     clear-requires
-    enum_told
-    slice-aggregate-searched
+    enum_told-1
+    slice_bounds-searched-end
     searched-requires
-    same_length
-    returns
-    same_length_2
-    returns_2)
+    shape_of-pairs-in-Found
+    returns-in-Found
+    shape_of-pairs-in-Nothing
+    returns-in-Nothing)

@@ -7,55 +7,55 @@ use Rattle.find.specs.Search.{is_true}
 use Rattle.find.proofs.put_true.Statement.{statement}
 use Rattle.find.proofs.put_true.Tie as tie
 
-sub-if1 : tie.Need-overflow-sub-if1
-sub-if1 c = search rules
+overflow_sub-count : tie.Need-overflow_sub-count
+overflow_sub-count c = search rules
 
-sub-if1-2 : tie.Need-overflow-sub-if1-2
-sub-if1-2 c = search rules
+overflow_sub-count-2 : tie.Need-overflow_sub-count-2
+overflow_sub-count-2 c = search rules
 
-shr-if1 : tie.Need-overflow-shr-if1
-shr-if1 c = search rules
+overflow_shr-m : tie.Need-overflow_shr-m
+overflow_shr-m c = search rules
 
-mul-put-pair : tie.Need-overflow-mul-put-pair
-mul-put-pair c = search rules
+offset_bounds-keys-k : tie.Need-offset_bounds-keys-k
+offset_bounds-keys-k c = search rules
 
-shared-slice-read-put-pair : tie.Need-shared-slice-read-put-pair
-shared-slice-read-put-pair c = search rules
+bounds-keys-k : tie.Need-bounds-keys-k
+bounds-keys-k c = search rules
 
-put-pair-requires : tie.Need-put-pair-requires
-put-pair-requires c κs = search rules
+put_pair-requires : tie.Need-put_pair-requires
+put_pair-requires c κs = search rules
 
-add-result : tie.Need-overflow-add-result
-add-result c = search rules
+overflow_add-result : tie.Need-overflow_add-result
+overflow_add-result c = search rules
 
-same_length : tie.Need-same-length
-same_length c = search rules
+shape_of-pairs-then-m-count-eq1 : tie.Need-shape_of-pairs-then-m-count-eq1
+shape_of-pairs-then-m-count-eq1 c = search rules
+
+returns-then-m-count-eq1 : tie.Need-returns-then-m-count-eq1
+unfolding is_true
+returns-then-m-count-eq1 c =
+    let a = c.args in
+    let set : is_true a.m a.count a.k ≡ true = eq-eqb _ 1 c.if-m-count-eq1.true in
+    (sym (if_true (is_true a.m a.count a.k) _ _ set), c.put_pair.ensures ∙ sym (if_true (is_true a.m a.count a.k) _ _ set))
 
 returns : tie.Need-returns
 unfolding is_true
 returns c =
-    let a = c.before.before.before.before.before.before.args in
-    let set : is_true a.m a.count a.k ≡ true = eq-eqb _ 1 c.before.before.before.before.if1.true in
-    (sym (if_true (is_true a.m a.count a.k) _ _ set), c.before.put-pair.ensures ∙ sym (if_true (is_true a.m a.count a.k) _ _ set))
-
-returns_2 : tie.Need-returns-2
-unfolding is_true
-returns_2 c =
-    let a = c.before.before.args in
-    let unset : is_true a.m a.count a.k ≡ false = ne_eqb _ 1 c.if1.false in
+    let a = c.args in
+    let unset : is_true a.m a.count a.k ≡ false = ne_eqb _ 1 c.if-m-count-eq1.false in
     (sym (if_false (is_true a.m a.count a.k) _ _ unset), sym (if_false (is_true a.m a.count a.k) _ _ unset))
 
 pub put_true_spec : {M : Type 1} → statement M
 put_true_spec =
     tie.close
     (tie.spec
-    sub-if1
-    sub-if1-2
-    shr-if1
-    mul-put-pair
-    shared-slice-read-put-pair
-    put-pair-requires
-    add-result
-    same_length
-    returns
-    returns_2)
+    overflow_sub-count
+    overflow_sub-count-2
+    overflow_shr-m
+    offset_bounds-keys-k
+    bounds-keys-k
+    put_pair-requires
+    overflow_add-result
+    shape_of-pairs-then-m-count-eq1
+    returns-then-m-count-eq1
+    returns)

@@ -25,75 +25,74 @@ abbrev query : tie.Start → Query
 query c = record { schema = lent_schema c.args.schema.now c.args.h; n = c.args.n; room = length c.args.table.now }
 
 -- a signed number is kept as bits, and read back from them
-root_is : (c : tie.After-natural) → c.natural.result ≡ nat c.before.before.before.args.h.root
+root_is : (c : tie.After-natural-row) → c.natural-row.result ≡ nat c.args.h.root
 root_is c =
-    c.natural.ensures ∙ ap nat (read_back c.before.before.before.args.h.root c.before.struct_told.given.1.0.1)
+    c.natural-row.ensures ∙ ap nat (read_back c.args.h.root c.struct_told-1.given.1.0.1)
 
-n_is : (c : tie.After-natural2) → c.natural2.result ≡ nat c.before.before.before.before.args.n
-n_is c = c.natural2.ensures ∙ ap nat (to_z-of_z c.before.before.before.before.ranges.n)
+n_is : (c : tie.After-natural-width) → c.natural-width.result ≡ nat c.args.n
+n_is c = c.natural-width.ensures ∙ ap nat (to_z-of_z c.ranges.n)
 
-module _ (c : tie.After-natural2) where
+module _ (c : tie.After-natural-width) where
   abbrev start : tie.Start
   start = c.before.before.before.before
 
-  root_row_lem : c.before.natural.result < 1024
-  root_row_lem = omega (arith, root_is c.before, start.pre.row)
+  root_row_lem : c.natural-row.result < 1024
+  root_row_lem = omega (arith, root_is c.before, start.requires.row)
 
-  root_passed : Passed (row_at start.args.schema.now) start.args.facts.now (c.before.natural.result + 1)
-  root_passed = subst (λ (r : ℕ). Passed (row_at start.args.schema.now) start.args.facts.now (r + 1)) (sym (root_is c.before)) start.pre.passed
+  root_passed : Passed (row_at start.args.schema.now) start.args.facts.now (c.natural-row.result + 1)
+  root_passed = subst (λ (r : ℕ). Passed (row_at start.args.schema.now) start.args.facts.now (r + 1)) (sym (root_is c.before)) start.requires.passed
 
-  n_small : c.natural2.result ≤ 9999
-  n_small = omega (arith, n_is c, start.pre.width)
+  n_small : c.natural-width.result ≤ 9999
+  n_small = omega (arith, n_is c, start.requires.width)
 
-  wires_are : occurring c.natural2.result (tree (row_at start.args.schema.now) c.before.natural.result) ≡ wires (query start)
+  wires_are : occurring c.natural-width.result (tree (row_at start.args.schema.now) c.natural-row.result) ≡ wires (query start)
   unfolding wires formula
   wires_are = ap₂ (λ (n r : ℕ). occurring n (tree (row_at start.args.schema.now) r)) (n_is c) (root_is c.before)
 
-  first_is : first_model (query start) ≡ first_at start.args.schema.now c.before.natural.result c.natural2.result
+  first_is : first_model (query start) ≡ first_at start.args.schema.now c.natural-row.result c.natural-width.result
   unfolding first_model holds_with wires formula first_at
   first_is = sym (ap₂ (first_at start.args.schema.now) (root_is c.before) (n_is c))
 
 -- the pairs that occur, at most 17
-count_is : (c : tie.After-occurring) → c.occurring.result ≡ held_count (wires (query c.before.before.before.before.before.before))
-count_is c = c.occurring.ensures.0 ∙ ap held_count (wires_are c.before.before)
+count_is : (c : tie.After-occurring-count) → c.occurring-count.result ≡ held_count (wires (query c.before.before.before.before.before.before))
+count_is c = c.occurring-count.ensures.0 ∙ ap held_count (wires_are c.before.before)
 
-natural_requires : tie.Need-natural-requires
-natural_requires c κs = search rules
+natural-row-requires : tie.Need-natural-row-requires
+natural-row-requires c κs = search rules
 
-natural_requires_2 : tie.Need-natural-requires-2
-natural_requires_2 c κs = search rules
+natural-width-requires : tie.Need-natural-width-requires
+natural-width-requires c κs = search rules
 
-slice-aggregate-occurring : tie.Need-slice-aggregate-occurring
-slice-aggregate-occurring c = search rules
+slice_bounds-occurring-end : tie.Need-slice_bounds-occurring-end
+slice_bounds-occurring-end c = search rules
 
-occurring-requires : tie.Need-occurring-requires
-occurring-requires c κs =
+occurring-count-requires : tie.Need-occurring-count-requires
+occurring-count-requires c κs =
     record { row = root_row_lem c.before; passed = root_passed c.before; width = n_small c.before; room = omega arith; held = omega arith }
 
 clear-requires : tie.Need-clear-requires
 clear-requires c κs = search rules
 
-same_length : tie.Need-same-length
-same_length c = search rules
+shape_of-table-then-count-gt16 : tie.Need-shape_of-table-then-count-gt16
+shape_of-table-then-count-gt16 c = search rules
 
-returns : tie.Need-returns
+returns-then-count-gt16 : tie.Need-returns-then-count-gt16
 unfolding table
-returns c =
-    let start = c.before.before.before.before.before.before.before.before.before.before.before in
-    let h = held_many (wires (query start)) _ (count_is c.before.before.before.before.before) c.before.before.before.if1.true in (
-      answer_over (query start) h,
-      c.before.clear.ensures
-          ∙ cleared_padded start.args.table.now 0 _ (omega arith) refl
-          ∙ ap (λ (ws : List Wire). padded (pos 0) (length start.args.table.now) (table ws)) (sym (given_over (query start) h)),
+returns-then-count-gt16 c =
+    let h = held_many (wires (query c.before.before.before.before.before.before.before.before.before.before.before)) _ (count_is c.before.before.before.before.before) c.if-count-gt16.true in (
+      answer_over (query c.before.before.before.before.before.before.before.before.before.before.before) h,
+      c.clear.ensures
+          ∙ cleared_padded c.args.table.now 0 _ (omega arith) refl
+          ∙ ap (λ (ws : List Wire). padded (pos 0) (length c.args.table.now) (table ws)) (sym (given_over (query c.before.before.before.before.before.before.before.before.before.before.before) h)),
     )
 
-slice-aggregate-shown : tie.Need-slice-aggregate-shown
-slice-aggregate-shown c = search rules
+slice_bounds-shown-end : tie.Need-slice_bounds-shown-end
+slice_bounds-shown-end c = search rules
 
 shown-requires : tie.Need-shown-requires
 shown-requires c κs =
-    let e = c.before.before.before.before.occurring.ensures in
-    let few = c.before.before.if1.false in (
+    let e = c.occurring-count.ensures in
+    let few = c.if-count-gt16.false in (
       record {
         row = root_row_lem c.before.before.before.before.before.before;
         passed = root_passed c.before.before.before.before.before.before;
@@ -102,36 +101,35 @@ shown-requires c κs =
         counted = held_few _ _ e.0 few;
         listed = held_keys _ _ e.0 _ _ e.1 few;
       },
-      omega (arith, few, c.before.before.before.before.occurring.auto.1.1.1.1.0),
-      omega (arith, c.before.before.before.before.before.before.before.before.before.before.requires.room),
+      omega (arith, few, c.occurring-count.auto.keys),
+      omega (arith, c.requires.room),
     )
 
-same_length_2 : tie.Need-same-length-2
-same_length_2 c = search rules
+shape_of-table : tie.Need-shape_of-table
+shape_of-table c = search rules
 
-returns_2 : tie.Need-returns-2
-returns_2 c =
-    let start = c.before.before.before.before.before.before.before.before.before.before.before.before in
-    let few : length (wires (query start)) ≤ 16 = omega (arith, held_few (wires (query start)) _ (count_is c.before.before.before.before.before.before) c.before.before.before.before.if1.false, c.before.before.before.before.if1.false) in
+returns : tie.Need-returns
+returns c =
+    let few : length (wires (query c.before.before.before.before.before.before.before.before.before.before.before.before)) ≤ 16 = omega (arith, held_few (wires (query c.before.before.before.before.before.before.before.before.before.before.before.before)) _ (count_is c.before.before.before.before.before.before) c.if-count-gt16.false, c.if-count-gt16.false) in
     let first = first_is c.before.before.before.before.before.before.before.before in (
-      c.before.shown.ensures.0
-          ∙ ap (λ (z : ℤ). model_or z (first_at start.args.schema.now c.before.before.before.before.before.before.before.before.before.natural.result c.before.before.before.before.before.before.before.before.natural2.result)) (to_z-of_z start.ranges.n)
-          ∙ answer_few (query start) few _ first,
-      c.before.shown.ensures.1 ∙ ap (λ (ws : List Wire). padded (pos 0) (length start.args.table.now) (table ws)) (sym (given_few (query start) few _ first)),
+      c.shown.ensures.0
+          ∙ ap (λ (z : ℤ). model_or z (first_at c.args.schema.now c.natural-row.result c.natural-width.result)) (to_z-of_z c.ranges.n)
+          ∙ answer_few (query c.before.before.before.before.before.before.before.before.before.before.before.before) few _ first,
+      c.shown.ensures.1 ∙ ap (λ (ws : List Wire). padded (pos 0) (length c.args.table.now) (table ws)) (sym (given_few (query c.before.before.before.before.before.before.before.before.before.before.before.before) few _ first)),
     )
 
 pub searched_spec : {M : Type 1} → statement M
 searched_spec =
     tie.close
     (tie.spec
-    natural_requires
-    natural_requires_2
-    slice-aggregate-occurring
-    occurring-requires
+    natural-row-requires
+    natural-width-requires
+    slice_bounds-occurring-end
+    occurring-count-requires
     clear-requires
-    same_length
-    returns
-    slice-aggregate-shown
+    shape_of-table-then-count-gt16
+    returns-then-count-gt16
+    slice_bounds-shown-end
     shown-requires
-    same_length_2
-    returns_2)
+    shape_of-table
+    returns)

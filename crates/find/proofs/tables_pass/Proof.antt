@@ -1,5 +1,5 @@
-use mathlib.Core.Path.{◌≡◌, sym, ◌∙◌}
-use mathlib.Core.Bool.{true}
+use mathlib.Core.Path.{◌≡◌, sym, ◌∙◌, ap}
+use mathlib.Core.Bool.{true, not}
 use borrow.Author.Rules.{rules}
 use borrow.Author.Tests.{le-leb, lt-leb}
 use Rattle.stab.specs.Check.{holds}
@@ -10,9 +10,9 @@ use Rattle.find.proofs.Searches.{at_here, at_later}
 use Rattle.find.proofs.tables_pass.Statement.{statement}
 use Rattle.find.proofs.tables_pass.Tie as tie
 
-returns : tie.Need-returns
+returns-then-room-lt8192 : tie.Need-returns-then-room-lt8192
 unfolding tables_refusal
-returns c = at_here _ _ _ _ (lt-leb _ _ c.if1.true)
+returns-then-room-lt8192 c = at_here _ _ _ _ (lt-leb _ _ c.if-room-lt8192.true)
 
 holds-requires : tie.Need-holds-requires
 holds-requires c κs = search rules
@@ -20,31 +20,31 @@ holds-requires c κs = search rules
 whole-requires : tie.Need-whole-requires
 whole-requires c κs = search rules
 
-held : (c : tie.Else2) → holds c.before.before.before.args.schema.now 4 c.before.before.before.args.schema-rows ≡ true
-held c = sym c.before.holds.ensures ∙ true_of_not _ c.if2.false
+held : (c : tie.Else-not-holds) → holds c.args.schema.now 4 c.args.schema_rows ≡ true
+held c = sym c.holds.ensures ∙ true_of_not _ (ap not c.if-not-holds.false)
 
-returns_2 : tie.Need-returns-2
+returns-then-not-holds : tie.Need-returns-then-not-holds
 unfolding tables_refusal
-returns_2 c =
-    at_later _ _ _ _ _ (le-leb _ _ c.before.before.before.if1.false)
-    (found_here _ _ _ _ c.whole.ensures (sym c.before.before.holds.ensures ∙ false_of_not _ c.before.if2.true))
+returns-then-not-holds c =
+    at_later _ _ _ _ _ (le-leb _ _ c.if-room-lt8192.false)
+    (found_here _ _ _ _ c.whole.ensures (sym c.holds.ensures ∙ false_of_not _ (ap not c.if-not-holds.true)))
 
-whole-requires-2 : tie.Need-whole-requires-2
-whole-requires-2 c κs = search rules
+whole-requires-then-schema_rows-gt1024 : tie.Need-whole-requires-then-schema_rows-gt1024
+whole-requires-then-schema_rows-gt1024 c κs = search rules
 
-returns_3 : tie.Need-returns-3
+returns-then-schema_rows-gt1024 : tie.Need-returns-then-schema_rows-gt1024
 unfolding tables_refusal
-returns_3 c =
-    at_later _ _ _ _ _ (le-leb _ _ c.before.before.before.before.if1.false)
-    (found_later _ _ _ _ (held c.before.before) (found_last _ _ _ c.whole2.ensures (lt-leb _ _ c.before.if3.true)))
+returns-then-schema_rows-gt1024 c =
+    at_later _ _ _ _ _ (le-leb _ _ c.if-room-lt8192.false)
+    (found_later _ _ _ _ (held c.before.before) (found_last _ _ _ c.whole-then-schema_rows-gt1024.ensures (lt-leb _ _ c.if-schema_rows-gt1024.true)))
 
-returns_4 : tie.Need-returns-4
+returns : tie.Need-returns
 unfolding tables_refusal
-returns_4 c =
-    at_later _ _ _ _ _ (le-leb _ _ c.before.before.before.if1.false)
-    (found_later _ _ _ _ (held c.before) (sym (whole_none _ _ (le-leb _ _ c.if3.false))))
+returns c =
+    at_later _ _ _ _ _ (le-leb _ _ c.if-room-lt8192.false)
+    (found_later _ _ _ _ (held c.before) (sym (whole_none _ _ (le-leb _ _ c.if-schema_rows-gt1024.false))))
 
 pub tables_pass_spec : {M : Type 1} → statement M
 tables_pass_spec =
     tie.close
-    (tie.spec returns holds-requires whole-requires returns_2 whole-requires-2 returns_3 returns_4)
+    (tie.spec returns-then-room-lt8192 holds-requires whole-requires returns-then-not-holds whole-requires-then-schema_rows-gt1024 returns-then-schema_rows-gt1024 returns)

@@ -13,19 +13,19 @@ use Rattle.tableau.proofs.check.check.Tie as tie
 abbrev Lent : tie.Start → Tableau
 Lent s = lent s.args.schema.now s.args.proof.now s.args.nodes.now s.args.members.now s.args.h
 
-first-refusal-requires : tie.Need-first-refusal-requires
-first-refusal-requires c κs = search rules
+first_refusal-found-requires : tie.Need-first_refusal-found-requires
+first_refusal-found-requires c κs = search rules
 
-verdict-on-requires : tie.Need-verdict-on-requires
+verdict_on-requires : tie.Need-verdict_on-requires
 unfolding present_mode
-verdict-on-requires c κs e = few_nodes_lem (Lent c.before) present_mode (sym c.first-refusal.ensures ∙ e)
+verdict_on-requires c κs e = few_nodes_lem (Lent c.before) present_mode (sym c.first_refusal-found.ensures ∙ e)
 
 returns : tie.Need-returns
 unfolding checked present_mode verdict_on link_count
 returns c =
     let T = Lent c.before.before in
-    let e = c.verdict-on.ensures ∙ ap (λ (x : Finding). verdict_on x T) c.before.first-refusal.ensures in
+    let e = c.verdict_on.ensures ∙ ap (λ (x : Finding). verdict_on x T) c.first_refusal-found.ensures in
     (e, λ n l a. sound T n l (sym e ∙ a))
 
 pub check_spec : {M : Type 1} → statement M
-check_spec = tie.close (tie.spec first-refusal-requires verdict-on-requires returns)
+check_spec = tie.close (tie.spec first_refusal-found-requires verdict_on-requires returns)

@@ -5,19 +5,19 @@ use Rattle.stab.proofs.Bools.{if_true, if_false}
 use Rattle.tableau.proofs.check.check_as.Statement.{statement}
 use Rattle.tableau.proofs.check.check_as.Tie as tie
 
-check-older-requires : tie.Need-check-older-requires
-check-older-requires c κs = search rules
+check_older-requires : tie.Need-check_older-requires
+check_older-requires c κs = search rules
 
-returns : tie.Need-returns
+returns-then-older : tie.Need-returns-then-older
 unfolding check_as
-returns c = c.check-older.ensures.0 ∙ sym (if_true _ _ _ c.before.if1.true)
+returns-then-older c = c.check_older.ensures.0 ∙ sym (if_true _ _ _ c.if-older.true)
 
 check-requires : tie.Need-check-requires
 check-requires c κs = search rules
 
-returns_2 : tie.Need-returns-2
+returns : tie.Need-returns
 unfolding check_as
-returns_2 c = c.check.ensures.0 ∙ sym (if_false _ _ _ c.before.if1.false)
+returns c = c.check.ensures.0 ∙ sym (if_false _ _ _ c.if-older.false)
 
 pub check_as_spec : {M : Type 1} → statement M
-check_as_spec = tie.close (tie.spec check-older-requires returns check-requires returns_2)
+check_as_spec = tie.close (tie.spec check_older-requires returns-then-older check-requires returns)

@@ -7,37 +7,36 @@ use Rattle.classes.specs.Class.{AllWorked}
 use Rattle.tableau.proofs.check.classify.Statement.{statement}
 use Rattle.tableau.proofs.check.classify.Tie as tie
 
-row-count-requires : tie.Need-row-count-requires
-row-count-requires c κs = search rules
+row_count-requires : tie.Need-row_count-requires
+row_count-requires c κs = search rules
 
-slice-aggregate-work-out : tie.Need-slice-aggregate-work-out
-slice-aggregate-work-out c = search rules
+slice_bounds-work_out-end : tie.Need-slice_bounds-work_out-end
+slice_bounds-work_out-end c = search rules
 
-work-out-requires : tie.Need-work-out-requires
-work-out-requires c κs =
-    let b = c.before.before.before.before.before.before in
-    let n = c.before.before.before.row_count.ensures in (
-      (omega (arith, b.requires.0, n), omega (arith, b.requires.0, n), omega (arith, b.requires.0, n), omega arith),
-      ((λ h l. get_or-replicate 512 h 0 0 l), subst (AllFormed _) (sym n) b.requires.1),
+work_out-requires : tie.Need-work_out-requires
+work_out-requires c κs =
+    let n = c.row_count.ensures in (
+      (omega (arith, c.requires.0, n), omega (arith, c.requires.0, n), omega (arith, c.requires.0, n), omega arith),
+      ((λ h l. get_or-replicate 512 h 0 0 l), subst (AllFormed _) (sym n) c.requires.1),
     )
 
-same_length : tie.Need-same-length
-same_length c = search rules
+shape_of-forms : tie.Need-shape_of-forms
+shape_of-forms c = search rules
 
-same_length_2 : tie.Need-same-length-2
-same_length_2 c = search rules
+shape_of-sides : tie.Need-shape_of-sides
+shape_of-sides c = search rules
 
 returns : tie.Need-returns
 returns c =
-    subst (AllWorked _ _) c.before.before.before.before.before.before.before.before.before.row_count.ensures c.before.before.before.before.before.work-out.ensures.1.1.1
+    subst (AllWorked _ _) c.row_count.ensures c.work_out.ensures.1.1.1
 
 pub classify_spec : {M : Type 1} → statement M
 classify_spec =
     tie.close
     (tie.spec
-    row-count-requires
-    slice-aggregate-work-out
-    work-out-requires
-    same_length
-    same_length_2
+    row_count-requires
+    slice_bounds-work_out-end
+    work_out-requires
+    shape_of-forms
+    shape_of-sides
     returns)

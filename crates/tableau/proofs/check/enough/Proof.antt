@@ -5,13 +5,13 @@ use Rattle.stab.specs.Basic.{◌implies◌}
 use Rattle.tableau.proofs.check.enough.Statement.{statement}
 use Rattle.tableau.proofs.check.enough.Tie as tie
 
-returns : tie.Need-returns
+returns-then-whole : tie.Need-returns-then-whole
 unfolding ◌implies◌
-returns c = sym (ap (λ (w : Bool). w implies ltb 0 c.before.args.k) c.if1.true)
+returns-then-whole c = sym (ap (λ (w : Bool). w implies ltb 0 c.args.k) c.if-whole.true)
 
-returns_2 : tie.Need-returns-2
+returns-else-whole : tie.Need-returns-else-whole
 unfolding ◌implies◌
-returns_2 c = sym (ap (λ (w : Bool). w implies ltb 0 c.before.args.k) c.if1.false)
+returns-else-whole c = sym (ap (λ (w : Bool). w implies ltb 0 c.args.k) c.if-whole.false)
 
 pub enough_spec : {M : Type 1} → statement M
-enough_spec = tie.close (tie.spec returns returns_2)
+enough_spec = tie.close (tie.spec returns-then-whole returns-else-whole)

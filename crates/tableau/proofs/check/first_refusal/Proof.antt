@@ -1,7 +1,7 @@
 use Prim.Native.Nat.{◌+◌, ◌*◌, ◌≤◌}
 use native.Mathlib.Omega.{arith}
-use mathlib.Core.Path.{◌≡◌, sym, ◌∙◌}
-use mathlib.Core.Bool.{true}
+use mathlib.Core.Path.{◌≡◌, sym, ◌∙◌, ap}
+use mathlib.Core.Bool.{true, not}
 use lib.Dec.{leb}
 use lib.ListN.{length}
 use borrow.Author.Rules.{rules}
@@ -24,23 +24,22 @@ Lent s = lent s.args.schema.now s.args.proof.now s.args.nodes.now s.args.members
 hold-requires : tie.Need-hold-requires
 hold-requires c κs = search rules
 
-returns : tie.Need-returns
-returns c =
+returns-then-not-hold : tie.Need-returns-then-not-hold
+returns-then-not-hold c =
     let T = Lent c.before.before in
-    whole_found (tables_hold T) TableTooShort _ (asked_false c.before.hold.ensures c.if1.true) ∙ sym (refusal_is T _)
+    whole_found (tables_hold T) TableTooShort _ (asked_false c.hold.ensures (ap not c.if-not-hold.true)) ∙ sym (refusal_is T _)
 
 -- the tables hold what their counts say, and the counts are within the limits
-held : (c : tie.Else1) → tables_hold (Lent c.before.before) ≡ true
-held c = asked_true c.before.hold.ensures c.if1.false
+held : (c : tie.Else-not-hold) → tables_hold (Lent c.before.before) ≡ true
+held c = asked_true c.hold.ensures (ap not c.if-not-hold.false)
 
-limited : (c : tie.Else2) → within_limits (Lent c.before.before.before.before) ≡ true
+limited : (c : tie.Else-not-few) → within_limits (Lent c.before.before.before.before) ≡ true
 unfolding within_limits row_count
-limited c = asked_true c.before.few.ensures c.if2.false
+limited c = asked_true c.few.ensures (ap not c.if-not-few.false)
 
 -- what is found after the first two tests is what is found first
-after_limits : (c : tie.Else2) (x : Finding) →
-    let start = c.before.before.before.before in
-    x ≡ later_refusal start.args.m (Lent start) → x ≡ refusal start.args.m (Lent start)
+after_limits : (c : tie.Else-not-few) (x : Finding) →
+    x ≡ later_refusal c.args.m (Lent c.before.before.before.before) → x ≡ refusal c.args.m (Lent c.before.before.before.before)
 after_limits c x e =
     let T = Lent c.before.before.before.before in
     later _ _ _ (whole_passes (tables_hold T) TableTooShort (held c.before.before))
@@ -48,12 +47,12 @@ after_limits c x e =
     ∙ sym (refusal_is T _)
 
 -- the sizes of the tables
-sizes : (c : tie.Else2) →
-    let a = c.before.before.before.before.args in
+sizes : (c : tie.Else-not-few) →
+    let a = c.args in
     (a.h.schema_rows + a.h.proof_rows ≤ 1024) × (a.h.node_rows ≤ 1024) × (a.h.member_count ≤ 8192) × (9 * a.h.node_rows ≤ length a.nodes.now) × (a.h.member_count ≤ length a.members.now)
 unfolding tables_hold within_limits row_count holds
 sizes c =
-    let a = c.before.before.before.before.args in
+    let a = c.args in
     let l = limited c in
     let tables = and_right (holds a.proof.now 4 a.h.proof_rows) _ (and_right (holds a.schema.now 4 a.h.schema_rows) _ (held c.before.before)) in
     let nodes = leb-true (9 * a.h.node_rows) (length a.nodes.now) (and_left _ _ tables) in
@@ -69,42 +68,42 @@ sizes c =
 few-requires : tie.Need-few-requires
 few-requires c κs = search rules
 
-returns_2 : tie.Need-returns-2
+returns-then-not-few : tie.Need-returns-then-not-few
 unfolding within_limits row_count
-returns_2 c =
+returns-then-not-few c =
     let T = Lent c.before.before.before.before in
     later _ _ _ (whole_passes (tables_hold T) TableTooShort (held c.before.before))
-    (whole_found (within_limits T) TooMany _ (asked_false c.before.few.ensures c.if2.true))
+    (whole_found (within_limits T) TooMany _ (asked_false c.few.ensures (ap not c.if-not-few.true)))
     ∙ sym (refusal_is T _)
 
-row-count-requires : tie.Need-row-count-requires
-row-count-requires c κs = (sizes c).0
+row_count-requires : tie.Need-row_count-requires
+row_count-requires c κs = (sizes c).0
 
-small-record-requires : tie.Need-small-record-requires
-small-record-requires c κs =
+small_record-requires : tie.Need-small_record-requires
+small_record-requires c κs =
     let z = sizes c.before.before.before.before in
-    let n = c.before.before.before.row_count.ensures in
+    let n = c.row_count.ensures in
     (omega (arith, n), omega arith, z.2, z.3, z.4)
 
-returns_3 : tie.Need-returns-3
-returns_3 c = after_limits c.before.before.before.before.before _ c.small-record.ensures
+returns-then-h-le256 : tie.Need-returns-then-h-le256
+returns-then-h-le256 c = after_limits c.before.before.before.before.before _ c.small_record.ensures
 
-large-record-requires : tie.Need-large-record-requires
-large-record-requires c κs = sizes c.before.before
+large_record-requires : tie.Need-large_record-requires
+large_record-requires c κs = sizes c.before.before
 
-returns_4 : tie.Need-returns-4
-returns_4 c = after_limits c.before.before.before _ c.large-record.ensures
+returns : tie.Need-returns
+returns c = after_limits c.before.before.before _ c.large_record.ensures
 
 pub first_refusal_spec : {M : Type 1} → statement M
 first_refusal_spec =
     tie.close
     (tie.spec
     hold-requires
-    returns
+    returns-then-not-hold
     few-requires
-    returns_2
-    row-count-requires
-    small-record-requires
-    returns_3
-    large-record-requires
-    returns_4)
+    returns-then-not-few
+    row_count-requires
+    small_record-requires
+    returns-then-h-le256
+    large_record-requires
+    returns)

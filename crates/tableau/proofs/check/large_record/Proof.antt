@@ -6,65 +6,65 @@ use Rattle.tableau.specs.Passes.{later_refusal}
 use Rattle.tableau.proofs.check.large_record.Statement.{statement}
 use Rattle.tableau.proofs.check.large_record.Tie as tie
 
-slice-aggregate-passes : tie.Need-slice-aggregate-passes
-slice-aggregate-passes c = search rules
+slice_bounds-passes-end : tie.Need-slice_bounds-passes-end
+slice_bounds-passes-end c = search rules
 
-passes-requires : tie.Need-passes-requires
-passes-requires c κs = search rules
+passes-found-requires : tie.Need-passes-found-requires
+passes-found-requires c κs = search rules
 
-enum_told : tie.Need-enum-told
-enum_told c = search rules
+enum_told-1 : tie.Need-enum_told-1
+enum_told-1 c = search rules
 
-enum-told-2 : tie.Need-enum-told-2
-enum-told-2 c = search rules
+enum_told-in_default : tie.Need-enum_told-in_default
+enum_told-in_default c = search rules
 
-returns : tie.Need-returns
+returns-in_default : tie.Need-returns-in_default
 unfolding later_refusal
-returns c = stays _ _ _ _ _ c.before.before.before.passes.ensures.0 c.enum-told2.given.1
+returns-in_default c = stays _ _ _ _ _ c.passes-found.ensures.0 c.in_default.is
 
-slice-aggregate-single-steps : tie.Need-slice-aggregate-single-steps
-slice-aggregate-single-steps c = search rules
+slice_bounds-single_steps-end : tie.Need-slice_bounds-single_steps-end
+slice_bounds-single_steps-end c = search rules
 
-slice-aggregate-single-steps-2 : tie.Need-slice-aggregate-single-steps-2
-slice-aggregate-single-steps-2 c = search rules
+slice_bounds-single_steps-end-2 : tie.Need-slice_bounds-single_steps-end-2
+slice_bounds-single_steps-end-2 c = search rules
 
-slice-aggregate-single-steps-3 : tie.Need-slice-aggregate-single-steps-3
-slice-aggregate-single-steps-3 c = search rules
+slice_bounds-single_steps-end-3 : tie.Need-slice_bounds-single_steps-end-3
+slice_bounds-single_steps-end-3 c = search rules
 
-slice-aggregate-single-steps-4 : tie.Need-slice-aggregate-single-steps-4
-slice-aggregate-single-steps-4 c = search rules
+slice_bounds-single_steps-end-4 : tie.Need-slice_bounds-single_steps-end-4
+slice_bounds-single_steps-end-4 c = search rules
 
-slice-aggregate-single-steps-5 : tie.Need-slice-aggregate-single-steps-5
-slice-aggregate-single-steps-5 c = search rules
+slice_bounds-single_steps-end-5 : tie.Need-slice_bounds-single_steps-end-5
+slice_bounds-single_steps-end-5 c = search rules
 
-single-steps-requires : tie.Need-single-steps-requires
-single-steps-requires c κs =
-    let p = c.before.before.before.before.before.before.before.before.before.before.requires in
-    let k = c.before.before.before.before.before.before.before.before.passes.ensures in
-    let n = c.before.before.before.before.before.enum_told.given.1 in (
+single_steps-requires : tie.Need-single_steps-requires
+single_steps-requires c κs =
+    let p = c.requires in
+    let k = c.passes-found.ensures in
+    let n = c.in-Nothing.is in (
       (omega (arith, p.0), omega (arith, p.0), omega (arith, p.0), omega (arith, p.1), p.2, p.3, p.4, omega (arith, p.1)),
       ((k.1.0 n, k.1.1 n), (nothing_found _ _ k.0 n, (nothing_agreed _ 1024, omega (arith, p.0)))),
     )
 
-returns_2 : tie.Need-returns-2
+returns : tie.Need-returns
 unfolding later_refusal
-returns_2 c =
-    let found = c.before.before.before.before.before.before.before.before.before.before.before.before.before.passes.ensures.0 in
-    later _ _ _ (nothing_found _ _ found c.before.before.before.before.before.before.before.before.before.before.enum_told.given.1) c.before.before.before.before.single-steps.ensures
+returns c =
+    let found = c.passes-found.ensures.0 in
+    later _ _ _ (nothing_found _ _ found c.in-Nothing.is) c.single_steps.ensures
 
 pub large_record_spec : {M : Type 1} → statement M
 large_record_spec =
     tie.close
     (tie.spec
-    slice-aggregate-passes
-    passes-requires
-    enum_told
-    enum-told-2
-    returns
-    slice-aggregate-single-steps
-    slice-aggregate-single-steps-2
-    slice-aggregate-single-steps-3
-    slice-aggregate-single-steps-4
-    slice-aggregate-single-steps-5
-    single-steps-requires
-    returns_2)
+    slice_bounds-passes-end
+    passes-found-requires
+    enum_told-1
+    enum_told-in_default
+    returns-in_default
+    slice_bounds-single_steps-end
+    slice_bounds-single_steps-end-2
+    slice_bounds-single_steps-end-3
+    slice_bounds-single_steps-end-4
+    slice_bounds-single_steps-end-5
+    single_steps-requires
+    returns)

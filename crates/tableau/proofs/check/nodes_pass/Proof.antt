@@ -1,3 +1,4 @@
+use mathlib.Core.Bool.{not}
 use Prim.Native.Nat.{ℕ}
 use mathlib.Core.Path.{◌≡◌, ◌∙◌, ap}
 use lib.IntN.{ℤ}
@@ -24,71 +25,69 @@ abbrev Lent : tie.Start → Tableau
 Lent s = lent s.args.schema.now s.args.proof.now s.args.nodes.now s.args.members.now s.args.h
 
 -- what the pass over sets found
-sets_found : (c : tie.After-sets) → c.sets.result ≡ scan (set_refusal (Lent c.before.before.before)) c.before.before.before.args.h.node_rows
+sets_found : (c : tie.After-sets-found) → c.sets-found.result ≡ scan (set_refusal (Lent c.before.before.before)) c.args.h.node_rows
 sets_found c =
-    let start = c.before.before.before in
-    let a = start.args in
-    c.sets.ensures
-    ∙ ap (λ (n : ℕ). scan (set_fault a.facts.now n a.nodes.now a.h.node_rows a.members.now a.h.member_count) a.h.node_rows) c.before.row_count.ensures
-    ∙ sets_refusal (Lent start) _ start.requires.1 a.h.node_rows
+    let a = c.args in
+    c.sets-found.ensures
+    ∙ ap (λ (n : ℕ). scan (set_fault a.facts.now n a.nodes.now a.h.node_rows a.members.now a.h.member_count) a.h.node_rows) c.row_count.ensures
+    ∙ sets_refusal (Lent c.before.before.before) _ c.requires.1 a.h.node_rows
 
-row-count-requires : tie.Need-row-count-requires
-row-count-requires c κs = search rules
+row_count-requires : tie.Need-row_count-requires
+row_count-requires c κs = search rules
 
-sets-requires : tie.Need-sets-requires
-sets-requires c κs = search rules
+sets-found-requires : tie.Need-sets-found-requires
+sets-found-requires c κs = search rules
 
-enum_told : tie.Need-enum-told
-enum_told c = search rules
+enum_told-1 : tie.Need-enum_told-1
+enum_told-1 c = search rules
 
 -- it found nothing
-sets_passed : (c : tie.After-enum-told) → scan (set_refusal (Lent c.before.before.before.before.before)) c.before.before.before.before.before.args.h.node_rows ≡ Nothing
-sets_passed c = nothing_found _ _ (sets_found c.before.before) c.enum_told.given.1
+sets_passed : (c : tie.In-Nothing) → scan (set_refusal (Lent c.before.before.before.before)) c.args.h.node_rows ≡ Nothing
+sets_passed c = nothing_found _ _ (sets_found c.before) c.in-Nothing.is
 
-enum-told-2 : tie.Need-enum-told-2
-enum-told-2 c = search rules
+enum_told-in_default : tie.Need-enum_told-in_default
+enum_told-in_default c = search rules
 
-returns : tie.Need-returns
+returns-in_default : tie.Need-returns-in_default
 unfolding nodes_refusal
-returns c = stays _ _ _ _ _ (sets_found c.before.before) c.enum-told2.given.1
+returns-in_default c = stays _ _ _ _ _ (sets_found c.before) c.in_default.is
 
 enough-requires : tie.Need-enough-requires
 enough-requires c κs = search rules
 
-returns_2 : tie.Need-returns-2
+returns-then-not-enough : tie.Need-returns-then-not-enough
 unfolding nodes_refusal enough_nodes
-returns_2 c =
-    let a = c.before.before.before.before.before.before.before.args in
-    later _ _ _ (sets_passed c.before.before) (whole_found (a.whole implies ltb 0 a.h.node_rows) Parent _ (asked_false c.before.enough.ensures c.if1.true))
+returns-then-not-enough c =
+    let a = c.args in
+    later _ _ _ (sets_passed c.before.before) (whole_found (a.whole implies ltb 0 a.h.node_rows) Parent _ (asked_false c.enough.ensures (ap not c.if-not-enough.true)))
 
 parents-requires : tie.Need-parents-requires
 parents-requires c κs =
-    let start = c.before.before.before.before.before.before.before.before in (
-      start.requires.0.2,
-      λ j l. set_within (Lent start) j (sets_known (Lent start) start.args.h.node_rows (sets_passed c.before.before.before) j l) start.requires.0.3,
+    (
+      c.requires.0.2,
+      λ j l. set_within (Lent c.before.before.before.before.before.before.before) j (sets_known (Lent c.before.before.before.before.before.before.before) c.args.h.node_rows (sets_passed c.before.before.before) j l) c.requires.0.3,
     )
 
-returns_3 : tie.Need-returns-3
+returns : tie.Need-returns
 unfolding nodes_refusal enough_nodes
-returns_3 c =
-    let start = c.before.before.before.before.before.before.before.before.before in
-    let a = start.args in
+returns c =
+    let a = c.args in
     later _ _ _ (sets_passed c.before.before.before.before)
-    (later _ _ _ (whole_passes (a.whole implies ltb 0 a.h.node_rows) Parent (asked_true c.before.before.before.enough.ensures c.before.before.if1.false))
+    (later _ _ _ (whole_passes (a.whole implies ltb 0 a.h.node_rows) Parent (asked_true c.enough.ensures (ap not c.if-not-enough.false)))
     (c.parents.ensures
-    ∙ ap (λ (r : ℤ). scan (parent_fault a.nodes.now a.members.now r) a.h.node_rows) (read_back a.h.root c.before.struct_told.given.1.1.0.1)
-    ∙ parents_refusal (Lent start) a.h.node_rows))
+    ∙ ap (λ (r : ℤ). scan (parent_fault a.nodes.now a.members.now r) a.h.node_rows) (read_back a.h.root c.struct_told-1.given.1.1.0.1)
+    ∙ parents_refusal (Lent c.before.before.before.before.before.before.before.before) a.h.node_rows))
 
 pub nodes_pass_spec : {M : Type 1} → statement M
 nodes_pass_spec =
     tie.close
     (tie.spec
-    row-count-requires
-    sets-requires
-    enum_told
-    enum-told-2
-    returns
+    row_count-requires
+    sets-found-requires
+    enum_told-1
+    enum_told-in_default
+    returns-in_default
     enough-requires
-    returns_2
+    returns-then-not-enough
     parents-requires
-    returns_3)
+    returns)

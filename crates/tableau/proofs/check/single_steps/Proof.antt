@@ -28,53 +28,52 @@ unfolding passes_refusal
 nodes_passed s = otherwise_second (rows_refusal s.args.m.older (Lent s)) _ s.requires.1.1.0
 
 -- the least value as it is passed on
-least_is : (c : tie.After-struct-told) → to_z w32 (of_z w32 c.before.before.before.before.before.before.before.args.h.least) ≡ c.before.before.before.before.before.before.before.args.h.least
-least_is c = read_back c.before.before.before.before.before.before.before.args.h.least c.struct_told.given.1.1.1.0.1
+least_is : (c : tie.After-struct_told-1) → to_z w32 (of_z w32 c.args.h.least) ≡ c.args.h.least
+least_is c = read_back c.args.h.least c.struct_told-1.given.1.1.1.0.1
 
-work-out-requires : tie.Need-work-out-requires
-work-out-requires c κs =
-    let start = c.before.before.before.before.before.before.before in (
-      start.requires.0.3,
-      start.requires.0.7,
-      ap (within (pos 0) (pos 9999)) (least_is c) ∙ least_fits (Lent start) _ (rows_passed start),
-      parents_known (Lent start) start.args.h.node_rows (nodes_parents (Lent start) _ (nodes_passed start)),
+work_out-requires : tie.Need-work_out-requires
+work_out-requires c κs =
+    (
+      c.requires.0.3,
+      c.requires.0.7,
+      ap (within (pos 0) (pos 9999)) (least_is c) ∙ least_fits (Lent c.before.before.before.before.before.before.before) _ (rows_passed c.before.before.before.before.before.before.before),
+      parents_known (Lent c.before.before.before.before.before.before.before) c.args.h.node_rows (nodes_parents (Lent c.before.before.before.before.before.before.before) _ (nodes_passed c.before.before.before.before.before.before.before)),
     )
 
 classify-requires : tie.Need-classify-requires
 classify-requires c κs = search rules
 
-each-node-requires : tie.Need-each-node-requires
+each_node-requires : tie.Need-each_node-requires
 unfolding rows row_count
-each-node-requires c κs =
-    let start = c.before.before.before.before.before.before.before.before.before.before.before.before.before.before.before.before.before.before.before.before in
-    let T = Lent start in
-    let w = c.before.before.before.before.before.before.before.before.before.before.before.before in (
+each_node-requires c κs =
+    let T = Lent c.before.before.before.before.before.before.before.before.before.before.before.before.before.before.before.before.before.before in
+    (
       record {
-        node_limit = start.requires.0.3;
-        member_limit = start.requires.0.4;
-        nodes_held = start.requires.0.5;
-        members_held = start.requires.0.6;
-        least_fits = least_fits T _ (rows_passed start);
-        known = start.requires.1.0.0;
-        compared = record { few = start.requires.0.0; formed = start.requires.1.0.1; worked = c.before.before.before.before.before.before.before.classify.ensures };
-        sets = set_fits_lem T _ (nodes_passed start);
-        parents = parent_fits_lem T _ (nodes_passed start);
-        worked = subst (λ (z : ℤ). AllWorked T.nodes z T.node_rows w.work-out.new.1.1.1.0 T.node_rows) (least_is w.before) w.work-out.ensures.0;
+        node_limit = c.requires.0.3;
+        member_limit = c.requires.0.4;
+        nodes_held = c.requires.0.5;
+        members_held = c.requires.0.6;
+        least_fits = least_fits T _ (rows_passed c.before.before.before.before.before.before.before.before.before.before.before.before.before.before.before.before.before.before);
+        known = c.requires.1.0.0;
+        compared = record { few = c.requires.0.0; formed = c.requires.1.0.1; worked = c.classify.ensures };
+        sets = set_fits_lem T _ (nodes_passed c.before.before.before.before.before.before.before.before.before.before.before.before.before.before.before.before.before.before);
+        parents = parent_fits_lem T _ (nodes_passed c.before.before.before.before.before.before.before.before.before.before.before.before.before.before.before.before.before.before);
+        worked = subst (λ (z : ℤ). AllWorked T.nodes z T.node_rows c.work_out.new.work T.node_rows) (least_is c.before.before.before.before.before.before.before.before.before.before.before) c.work_out.ensures.0;
       },
-      start.requires.1.1.1,
+      c.requires.1.1.1,
     )
 
-same_length : tie.Need-same-length
-same_length c = search rules
+shape_of-forms : tie.Need-shape_of-forms
+shape_of-forms c = search rules
 
-same_length_2 : tie.Need-same-length-2
-same_length_2 c = search rules
+shape_of-sides : tie.Need-shape_of-sides
+shape_of-sides c = search rules
 
-same_length_3 : tie.Need-same-length-3
-same_length_3 c = search rules
+shape_of-work : tie.Need-shape_of-work
+shape_of-work c = search rules
 
-same-length-4 : tie.Need-same-length-4
-same-length-4 c = search rules
+shape_of-agreed : tie.Need-shape_of-agreed
+shape_of-agreed c = search rules
 
 returns : tie.Need-returns
 returns c = search rules
@@ -83,11 +82,11 @@ pub single_steps_spec : {M : Type 1} → statement M
 single_steps_spec =
     tie.close
     (tie.spec
-    work-out-requires
+    work_out-requires
     classify-requires
-    each-node-requires
-    same_length
-    same_length_2
-    same_length_3
-    same-length-4
+    each_node-requires
+    shape_of-forms
+    shape_of-sides
+    shape_of-work
+    shape_of-agreed
     returns)

@@ -8,27 +8,27 @@ use Rattle.stab.specs.declared.Verdict.TheVariants.{Accepted}
 use Rattle.tableau.proofs.check.verdict_on.Statement.{statement}
 use Rattle.tableau.proofs.check.verdict_on.Tie as tie
 
-enum-known-found : tie.Need-enum-known-found
-enum-known-found c = search rules
+enum_known-found : tie.Need-enum_known-found
+enum_known-found c = search rules
 
-enum_told : tie.Need-enum-told
-enum_told c = search rules
+enum_told-1 : tie.Need-enum_told-1
+enum_told-1 c = search rules
 
 links-requires : tie.Need-links-requires
-links-requires c κs = c.before.before.requires c.enum_told.given.1
+links-requires c κs = c.requires c.in-Nothing.is
 
-returns : tie.Need-returns
+returns-in-Found : tie.Need-returns-in-Found
 unfolding verdict_on verdict
-returns c =
-    let a = c.before.before.before.args in
-    ap (λ (f : Finding). verdict_on f (lent [] [] a.nodes.now [] a.h)) (sym c.before.found.given.1)
+returns-in-Found c =
+    let a = c.args in
+    ap (λ (f : Finding). verdict_on f (lent [] [] a.nodes.now [] a.h)) (sym c.in-Found.is)
 
-returns_2 : tie.Need-returns-2
+returns-in-Nothing : tie.Need-returns-in-Nothing
 unfolding verdict_on verdict link_count
-returns_2 c =
-    let a = c.before.before.before.args in
+returns-in-Nothing c =
+    let a = c.args in
     ap (Accepted a.h.node_rows) c.links.ensures
-    ∙ ap (λ (f : Finding). verdict_on f (lent [] [] a.nodes.now [] a.h)) (sym c.before.enum_told.given.1)
+    ∙ ap (λ (f : Finding). verdict_on f (lent [] [] a.nodes.now [] a.h)) (sym c.in-Nothing.is)
 
 pub verdict_on_spec : {M : Type 1} → statement M
-verdict_on_spec = tie.close (tie.spec enum-known-found enum_told links-requires returns returns_2)
+verdict_on_spec = tie.close (tie.spec enum_known-found enum_told-1 links-requires returns-in-Found returns-in-Nothing)
