@@ -40,13 +40,17 @@ came n (wrote text) bytes e =
     (text, refl, take_at text _ bytes size)
 came n (refused why place) bytes e = let z : ◌≡◌ {A = ℕ} 0 1 = cc in absurd (omega arith)
 
-pub bytes_within : (n : ℕ) (w : Writing) (bytes : ℕ) → written w ≡ Text bytes → bytes ≤ length (output n w)
+bytes_within : (n : ℕ) (w : Writing) (bytes : ℕ) → written w ≡ Text bytes → bytes ≤ length (output n w)
 unfolding written output padded
 bytes_within n (wrote text) bytes e =
     let f : Text (length text) ≡ Text bytes = e in
     let size : length text ≡ bytes = cc in
     omega (arith, length-append text (replicate (n - length text) 0))
 bytes_within n (refused why place) bytes e = let z : ◌≡◌ {A = ℕ} 0 1 = cc in absurd (omega arith)
+
+-- as the output holds it
+pub text_within : (n : ℕ) (w : Writing) (out : List ℕ) (bytes : ℕ) → out ≡ output n w → written w ≡ Text bytes → bytes ≤ length out
+text_within n w out bytes e h = subst (λ (l : List ℕ). bytes ≤ length l) (sym e) (bytes_within n w bytes h)
 
 -- a table under its full size
 not_full : {A : Type 0} (full : Bool) (reader : List Line → Reading A) (text : List ℕ) → length text ≤ 65536 → full ≡ false → read_text full reader text ≡ stopped TableTooShort 0
