@@ -7,17 +7,17 @@ use Rattle.jointrefusal.proofs.fault.Tie as tie
 check-requires : tie.Need-check-requires
 check-requires c κs = search rules
 
-enum-known-why : tie.Need-enum-known-why
-enum-known-why c = search rules
+enum_known-why : tie.Need-enum_known-why
+enum_known-why c = search rules
 
-enum_told : tie.Need-enum-told
-enum_told c = search rules
+enum_told-1 : tie.Need-enum_told-1
+enum_told-1 c = search rules
 
-returns : tie.Need-returns
-returns c = let w = c.before in sym (refused_finds _ _ _ (sym w.before.before.check.ensures.0 ∙ w.why.given.1))
+returns-in-Refused : tie.Need-returns-in-Refused
+returns-in-Refused c = sym (refused_finds _ _ _ (sym c.check.ensures.0 ∙ c.in-Refused.is))
 
-returns_2 : tie.Need-returns-2
-returns_2 c = sym (accepted_finds _ _ _ (sym c.before.before.check.ensures.0 ∙ c.enum_told.given.1))
+returns-in-Accepted : tie.Need-returns-in-Accepted
+returns-in-Accepted c = sym (accepted_finds _ _ _ (sym c.check.ensures.0 ∙ c.in-Accepted.is))
 
 pub fault_spec : {M : Type 1} → statement M
-fault_spec = tie.close (tie.spec check-requires enum-known-why enum_told returns returns_2)
+fault_spec = tie.close (tie.spec check-requires enum_known-why enum_told-1 returns-in-Refused returns-in-Accepted)

@@ -18,30 +18,27 @@ clear-requires-3 c κs = search rules
 clear-requires-4 : tie.Need-clear-requires-4
 clear-requires-4 c κs = search rules
 
-same_length : tie.Need-same-length
-same_length c = search rules
+shape_of-out_schema : tie.Need-shape_of-out_schema
+shape_of-out_schema c = search rules
 
-same_length_2 : tie.Need-same-length-2
-same_length_2 c = search rules
+shape_of-out_proof : tie.Need-shape_of-out_proof
+shape_of-out_proof c = search rules
 
-same_length_3 : tie.Need-same-length-3
-same_length_3 c = search rules
+shape_of-out_nodes : tie.Need-shape_of-out_nodes
+shape_of-out_nodes c = search rules
 
-same-length-4 : tie.Need-same-length-4
-same-length-4 c = search rules
+shape_of-out_members : tie.Need-shape_of-out_members
+shape_of-out_members c = search rules
 
 returns : tie.Need-returns
 returns c =
-    let d = c.before in
-    let k = d.before.before.before in
-    let l = k.before.before.before in
-    let m = l.before.before.before in (
+    (
       refl,
       (
-        m.clear.ensures ∙ cleared_all _ ∙ padded_empty (pos 0) _,
+        c.clear.ensures ∙ cleared_all _ ∙ padded_empty (pos 0) _,
         (
-          l.clear2.ensures ∙ cleared_all _ ∙ padded_empty (pos 0) _,
-          (k.clear3.ensures ∙ cleared_all _ ∙ padded_empty (pos 0) _, d.clear4.ensures ∙ cleared_all _ ∙ padded_empty (pos 0) _),
+          c.clear-2.ensures ∙ cleared_all _ ∙ padded_empty (pos 0) _,
+          (c.clear-3.ensures ∙ cleared_all _ ∙ padded_empty (pos 0) _, c.clear-4.ensures ∙ cleared_all _ ∙ padded_empty (pos 0) _),
         ),
       ),
     )
@@ -54,8 +51,8 @@ refuse_spec =
     clear-requires-2
     clear-requires-3
     clear-requires-4
-    same_length
-    same_length_2
-    same_length_3
-    same-length-4
+    shape_of-out_schema
+    shape_of-out_proof
+    shape_of-out_nodes
+    shape_of-out_members
     returns)

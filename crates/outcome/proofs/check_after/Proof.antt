@@ -8,74 +8,68 @@ use borrow.Author.Rules.{rules}
 use Rattle.outcome.proofs.check_after.Statement.{statement}
 use Rattle.outcome.proofs.check_after.Tie as tie
 
-slice-aggregate-read-proof : tie.Need-slice-aggregate-read-proof
-slice-aggregate-read-proof c = search rules
+slice_bounds-read_proof-end : tie.Need-slice_bounds-read_proof-end
+slice_bounds-read_proof-end c = search rules
 
-slice-aggregate-read-proof-2 : tie.Need-slice-aggregate-read-proof-2
-slice-aggregate-read-proof-2 c = search rules
+slice_bounds-read_proof-end-2 : tie.Need-slice_bounds-read_proof-end-2
+slice_bounds-read_proof-end-2 c = search rules
 
-slice-aggregate-read-proof-3 : tie.Need-slice-aggregate-read-proof-3
-slice-aggregate-read-proof-3 c = search rules
+slice_bounds-read_proof-end-3 : tie.Need-slice_bounds-read_proof-end-3
+slice_bounds-read_proof-end-3 c = search rules
 
-read-proof-requires : tie.Need-read-proof-requires
-read-proof-requires c κs = search rules
+read_proof-requires : tie.Need-read_proof-requires
+read_proof-requires c κs = search rules
 
-enum-known-p : tie.Need-enum-known-p
-enum-known-p c = search rules
+enum_known-p : tie.Need-enum_known-p
+enum_known-p c = search rules
 
-slice-aggregate-check-as : tie.Need-slice-aggregate-check-as
-slice-aggregate-check-as c = search rules
+slice_bounds-check_as-end : tie.Need-slice_bounds-check_as-end
+slice_bounds-check_as-end c = search rules
 
-slice-aggregate-check-as-2 : tie.Need-slice-aggregate-check-as-2
-slice-aggregate-check-as-2 c = search rules
+slice_bounds-check_as-end-in-Proof : tie.Need-slice_bounds-check_as-end-in-Proof
+slice_bounds-check_as-end-in-Proof c = search rules
 
-slice-aggregate-check-as-3 : tie.Need-slice-aggregate-check-as-3
-slice-aggregate-check-as-3 c = search rules
+slice_bounds-check_as-end-in-Proof-2 : tie.Need-slice_bounds-check_as-end-in-Proof-2
+slice_bounds-check_as-end-in-Proof-2 c = search rules
 
-check-as-requires : tie.Need-check-as-requires
-check-as-requires c κs = search rules
+check_as-requires : tie.Need-check_as-requires
+check_as-requires c κs = search rules
 
-enum-known-why : tie.Need-enum-known-why
-enum-known-why c = search rules
+enum_known-why : tie.Need-enum_known-why
+enum_known-why c = search rules
 
-returns : tie.Need-returns
-returns c =
-    let told = c.before.struct_told.given in
-    let t = c.before.before.before.before.before.before in
-    let b = t.before.before.before.before.before in
-    let a = b.before.before.before.before.before.args in
-    let g = t.p.given.0 in
-    let e = b.read-proof.ensures in
-    let root = read_back a.h.root told.1.0.1 in
-    let least = read_back a.h.least told.1.1.0.1 in
-    let rows = b.read-proof.new.1.0 in
-    let nodes = b.read-proof.new.1.1.0 in
-    let members = b.read-proof.new.1.1.1.0 in
-    ap (λ (v : Verdict). Judged v a.h.rows g.0) c.check-as.ensures
-    ∙ (λ i. judged_tableau a.older a.table.now a.h (root i) (least i) rows nodes members g.0 g.1.0 g.1.1.0)
-    ∙ proof_read_lem a.older (read_proof 4096 9216 8192 a.proof.now) a.table.now a.h rows nodes members g.0 g.1.0 g.1.1.0
-    (sym t.p.given.1 ∙ e.0) e.1.0 e.1.1.0 e.1.1.1
+returns-in-Proof : tie.Need-returns-in-Proof
+returns-in-Proof c =
+    let a = c.args in
+    let e = c.read_proof.ensures in
+    let root = read_back a.h.root c.struct_told-1.given.1.0.1 in
+    let least = read_back a.h.least c.struct_told-1.given.1.1.0.1 in
+    let rows = c.read_proof.new.table in
+    let nodes = c.read_proof.new.nodes in
+    let members = c.read_proof.new.members in
+    ap (λ (v : Verdict). Judged v a.h.rows c.in-Proof.p) c.check_as.ensures
+    ∙ (λ i. judged_tableau a.older a.table.now a.h (root i) (least i) rows nodes members c.in-Proof.p c.in-Proof.k c.in-Proof.m)
+    ∙ proof_read_lem a.older (read_proof 4096 9216 8192 a.proof.now) a.table.now a.h rows nodes members c.in-Proof.p c.in-Proof.k c.in-Proof.m
+    (sym c.in-Proof.is ∙ e.0) e.1.0 e.1.1.0 e.1.1.1
 
-returns_2 : tie.Need-returns-2
-returns_2 c =
-    let b = c.before.before.before.before.before.before in
-    let a = b.before.before.before.before.before.args in
-    let g = c.before.why.given in
-    proof_refused a.older (read_proof 4096 9216 8192 a.proof.now) a.table.now a.h g.0.0 g.0.1.0 (sym g.1 ∙ b.read-proof.ensures.0)
+returns-in-Refused : tie.Need-returns-in-Refused
+returns-in-Refused c =
+    let a = c.args in
+    proof_refused a.older (read_proof 4096 9216 8192 a.proof.now) a.table.now a.h c.in-Refused.why c.in-Refused.place (sym c.in-Refused.is ∙ c.read_proof.ensures.0)
 
 pub check_after_spec : {M : Type 1} → statement M
 check_after_spec =
     tie.close
     (tie.spec
-    slice-aggregate-read-proof
-    slice-aggregate-read-proof-2
-    slice-aggregate-read-proof-3
-    read-proof-requires
-    enum-known-p
-    slice-aggregate-check-as
-    slice-aggregate-check-as-2
-    slice-aggregate-check-as-3
-    check-as-requires
-    enum-known-why
-    returns
-    returns_2)
+    slice_bounds-read_proof-end
+    slice_bounds-read_proof-end-2
+    slice_bounds-read_proof-end-3
+    read_proof-requires
+    enum_known-p
+    slice_bounds-check_as-end
+    slice_bounds-check_as-end-in-Proof
+    slice_bounds-check_as-end-in-Proof-2
+    check_as-requires
+    enum_known-why
+    returns-in-Proof
+    returns-in-Refused)

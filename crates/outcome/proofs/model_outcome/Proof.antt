@@ -9,56 +9,51 @@ use borrow.Author.Rules.{rules}
 use Rattle.outcome.proofs.model_outcome.Statement.{statement}
 use Rattle.outcome.proofs.model_outcome.Tie as tie
 
-slice-aggregate-read-schema : tie.Need-slice-aggregate-read-schema
-slice-aggregate-read-schema c = search rules
+slice_bounds-read_schema-end : tie.Need-slice_bounds-read_schema-end
+slice_bounds-read_schema-end c = search rules
 
-read-schema-requires : tie.Need-read-schema-requires
-read-schema-requires c κs = search rules
+read_schema-requires : tie.Need-read_schema-requires
+read_schema-requires c κs = search rules
 
-enum-known-root : tie.Need-enum-known-root
-enum-known-root c = search rules
+enum_known-root : tie.Need-enum_known-root
+enum_known-root c = search rules
 
-slice-aggregate-model-after : tie.Need-slice-aggregate-model-after
-slice-aggregate-model-after c = search rules
+slice_bounds-model_after-end : tie.Need-slice_bounds-model_after-end
+slice_bounds-model_after-end c = search rules
 
-model-after-requires : tie.Need-model-after-requires
-model-after-requires c κs = search rules
+model_after-requires : tie.Need-model_after-requires
+model_after-requires c κs = search rules
 
-enum-known-why : tie.Need-enum-known-why
-enum-known-why c = search rules
+enum_known-why : tie.Need-enum_known-why
+enum_known-why c = search rules
 
-returns : tie.Need-returns
+returns-in-Schema : tie.Need-returns-in-Schema
 unfolding model_outcome
-returns c =
-    let t = c.before.before.before in
-    let b = t.before.before.before in
-    let a = b.before.before.before.before.args in
-    let g = t.root.given.0 in
-    let e = b.read-schema.ensures in
-    let told = sym t.root.given.1 ∙ e.0 in
-    let back = schema_back a.schema.now g.0 g.1.0 g.1.1.0 told in
+returns-in-Schema c =
+    let a = c.args in
+    let e = c.read_schema.ensures in
+    let told = sym c.in-Schema.is ∙ e.0 in
+    let back = schema_back a.schema.now c.in-Schema.root c.in-Schema.least c.in-Schema.rows told in
     let second = read_model 8192 a.model.now in
-    c.model-after.ensures
-    ∙ ap₂ (λ (x y : ℤ). model_after second b.read-schema.new.1.0 (schema_header g.1.1.0 x y)) back.0 back.1
-    ∙ schema_read_lem (model_after second) (read_schema 4096 a.schema.now) b.read-schema.new.1.0 g.1.1.0 g.0 g.1.0 told e.1
+    c.model_after.ensures
+    ∙ ap₂ (λ (x y : ℤ). model_after second c.read_schema.new.table (schema_header c.in-Schema.rows x y)) back.0 back.1
+    ∙ schema_read_lem (model_after second) (read_schema 4096 a.schema.now) c.read_schema.new.table c.in-Schema.rows c.in-Schema.root c.in-Schema.least told e.1
 
-returns_2 : tie.Need-returns-2
+returns-in-Refused : tie.Need-returns-in-Refused
 unfolding model_outcome
-returns_2 c =
-    let b = c.before.before.before.before in
-    let a = b.before.before.before.before.args in
-    let g = c.before.why.given in
-    schema_refused (model_after (read_model 8192 a.model.now)) (read_schema 4096 a.schema.now) g.0.0 g.0.1.0 (sym g.1 ∙ b.read-schema.ensures.0)
+returns-in-Refused c =
+    let a = c.args in
+    schema_refused (model_after (read_model 8192 a.model.now)) (read_schema 4096 a.schema.now) c.in-Refused.why c.in-Refused.place (sym c.in-Refused.is ∙ c.read_schema.ensures.0)
 
 pub model_outcome_spec : {M : Type 1} → statement M
 model_outcome_spec =
     tie.close
     (tie.spec
-    slice-aggregate-read-schema
-    read-schema-requires
-    enum-known-root
-    slice-aggregate-model-after
-    model-after-requires
-    enum-known-why
-    returns
-    returns_2)
+    slice_bounds-read_schema-end
+    read_schema-requires
+    enum_known-root
+    slice_bounds-model_after-end
+    model_after-requires
+    enum_known-why
+    returns-in-Schema
+    returns-in-Refused)

@@ -8,7 +8,7 @@ use Rattle.tidy.proofs.Nodes.{tidies_none}
 use Rattle.tidy.proofs.each_node.Statement.{statement}
 use Rattle.tidy.proofs.each_node.Tie as tie
 
-abbrev invariant_loop : tie.invariant-loop
+abbrev invariant_loop : tie.invariant-loop-j
 invariant_loop nodes k members numbers s out-nodes₀ out-members₀ m₀ j₀ out-nodes out-members m j =
     (j ≤ k)
     × (length out-nodes ≡ length out-nodes₀)
@@ -16,56 +16,53 @@ invariant_loop nodes k members numbers s out-nodes₀ out-members₀ m₀ j₀ o
     × Tidies nodes members (new_number s numbers) j m out-nodes out-members
     × (m ≤ 8192)
 
-abbrev decreases_loop : tie.decreases-loop
+abbrev decreases_loop : tie.decreases-loop-j
 decreases_loop nodes k members numbers s out-nodes₀ out-members₀ m₀ j₀ out-nodes out-members m j = k - j
 
 -- in a turn of the loop
-abbrev start : tie.In-loop invariant_loop decreases_loop → tie.Start invariant_loop decreases_loop
+abbrev start : tie.In-loop-j invariant_loop decreases_loop → tie.Start invariant_loop decreases_loop
 start c = c.before.before.before
 
-loop_holds : tie.Need-loop-init invariant_loop decreases_loop
-loop_holds c =
-    let a = c.before.args in
-    (omega arith, refl, refl, tidies_none a.nodes.now a.members.now (new_number a.s a.numbers.now) a.out-nodes.now a.out-members.now, omega arith)
+loop-j-init : tie.Need-loop-j-init invariant_loop decreases_loop
+loop-j-init c =
+    let a = c.args in
+    (omega arith, refl, refl, tidies_none a.nodes.now a.members.now (new_number a.s a.numbers.now) a.out_nodes.now a.out_members.now, omega arith)
 
-one-node-requires : tie.Need-one-node-requires invariant_loop decreases_loop
-one-node-requires c κs =
-    let t = c.before.before in
-    let b = start t in
-    let l = t.before.loop in (
-      (omega (arith, b.pre.0.0, t.loop-test.true), omega (arith, b.pre.0.1, l.invariant.1, t.loop-test.true), omega (arith, b.pre.0.2, l.invariant.2), b.pre.0.3),
-      (b.pre.1 l.j t.loop-test.true, l.invariant.3),
+one_node-m-requires : tie.Need-one_node-m-requires invariant_loop decreases_loop
+one_node-m-requires c κs =
+    let b = start c.before.before in
+    let l = c.loop-j in (
+      (omega (arith, b.requires.0.0, c.loop-j-test.true), omega (arith, b.requires.0.1, l.invariant.1, c.loop-j-test.true), omega (arith, b.requires.0.2, l.invariant.2), b.requires.0.3),
+      (b.requires.1 l.j c.loop-j-test.true, l.invariant.3),
     )
 
-add-m : tie.Need-overflow-add-m invariant_loop decreases_loop
-add-m c = omega (arith, c.before.before.one-node.ensures.1)
+overflow_add-m : tie.Need-overflow_add-m invariant_loop decreases_loop
+overflow_add-m c = omega (arith, c.one_node-m.ensures.1)
 
-add-j : tie.Need-overflow-add-j invariant_loop decreases_loop
-add-j c = let t = c.before.before.before.before.before in omega (arith, (start t).requires.0.0, t.loop-test.true)
+overflow_add-j : tie.Need-overflow_add-j invariant_loop decreases_loop
+overflow_add-j c = omega (arith, (start c.before.before.before.before.before).requires.0.0, c.loop-j-test.true)
 
-loop_less : tie.Need-loop-smaller invariant_loop decreases_loop
-loop_less c = let t = c.before.before.before.before.before in omega (arith, t.loop-test.true)
+loop-j-smaller : tie.Need-loop-j-smaller invariant_loop decreases_loop
+loop-j-smaller c = omega (arith, c.loop-j-test.true)
 
-loop_again : tie.Need-loop-preserved invariant_loop decreases_loop
-loop_again c =
-    let d = c.before.before in
-    let t = d.before.before.before in
-    let i = t.before.loop.invariant in
-    let same = d.one-node.auto.1.1.1.1.1.1 in
-    (omega (arith, t.loop-test.true), same.0 ∙ i.1, same.1.0 ∙ i.2, d.one-node.ensures.0, d.one-node.ensures.1)
+loop-j-preserved : tie.Need-loop-j-preserved invariant_loop decreases_loop
+loop-j-preserved c =
+    let i = c.loop-j.invariant in
+    let same = c.one_node-m.auto in
+    (omega (arith, c.loop-j-test.true), same.out_nodes ∙ i.1, same.out_members ∙ i.2, c.one_node-m.ensures.0, c.one_node-m.ensures.1)
 
-same_length : tie.Need-same-length invariant_loop decreases_loop
-same_length c = c.before.loop.invariant.1
+shape_of-out_nodes : tie.Need-shape_of-out_nodes invariant_loop decreases_loop
+shape_of-out_nodes c = c.loop-j.invariant.1
 
-same_length_2 : tie.Need-same-length-2 invariant_loop decreases_loop
-same_length_2 c = c.before.loop.invariant.2
+shape_of-out_members : tie.Need-shape_of-out_members invariant_loop decreases_loop
+shape_of-out_members c = c.loop-j.invariant.2
 
 returns : tie.Need-returns invariant_loop decreases_loop
 returns c =
-    let l = c.before.loop in
-    let a = c.before.before.before.args in
-    let e : l.j ≡ a.k = omega (arith, c.loop-test.false, l.invariant.0) in
-    (subst (λ (n : ℕ). Tidies a.nodes.now a.members.now (new_number a.s a.numbers.now) n l.m l.out-nodes l.out-members) e l.invariant.3, l.invariant.4)
+    let l = c.loop-j in
+    let a = c.args in
+    let e : l.j ≡ a.k = omega (arith, c.loop-j-test.false, l.invariant.0) in
+    (subst (λ (n : ℕ). Tidies a.nodes.now a.members.now (new_number a.s a.numbers.now) n l.m l.out_nodes l.out_members) e l.invariant.3, l.invariant.4)
 
 pub each_node_spec : {M : Type 1} → statement M
 each_node_spec =
@@ -73,12 +70,12 @@ each_node_spec =
     (tie.spec
     invariant_loop
     decreases_loop
-    loop_holds
-    one-node-requires
-    add-m
-    add-j
-    loop_less
-    loop_again
-    same_length
-    same_length_2
+    loop-j-init
+    one_node-m-requires
+    overflow_add-m
+    overflow_add-j
+    loop-j-smaller
+    loop-j-preserved
+    shape_of-out_nodes
+    shape_of-out_members
     returns)

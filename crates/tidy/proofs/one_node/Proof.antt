@@ -15,7 +15,7 @@ use Rattle.tidy.proofs.one_node.Statement.{statement}
 use Rattle.tidy.proofs.one_node.Tie as tie
 
 -- where the set is put: the set, and the new numbers
-abbrev start : tie.After-put → tie.Start
+abbrev start : tie.After-put-n → tie.Start
 start c = c.before.before.before.before.before
 
 abbrev new : tie.Start → ℕ → ℕ
@@ -24,19 +24,17 @@ new b = let a = b.args in new_number a.s a.numbers.now
 abbrev xs : tie.Start → List ℤ
 xs b = let a = b.args in take (nat (node_at a.nodes.now a.j).size) (drop (nat (node_at a.nodes.now a.j).start) a.members.now)
 
-same_set : (c : tie.After-put) →
+same_set : (c : tie.After-put-n) →
     let b = start c in
-    let d = c.before.before in
-    tidy_set (new b) (take d.natural-of2.result (drop d.before.natural-of.result b.args.members.now)) ≡ tidy_set (new b) (xs b)
+    tidy_set (new b) (take c.natural_of-size.result (drop c.natural_of-start.result b.args.members.now)) ≡ tidy_set (new b) (xs b)
 same_set c =
     let b = start c in
-    let d = c.before.before in
-    ap₂ (λ (n k : ℕ). tidy_set (new b) (take n (drop k b.args.members.now))) d.natural-of2.ensures.0 d.before.natural-of.ensures.0
+    ap₂ (λ (n k : ℕ). tidy_set (new b) (take n (drop k b.args.members.now))) c.natural_of-size.ensures.0 c.natural_of-start.ensures.0
 
-size : (c : tie.After-put) → c.put.result ≡ length (tidy_set (new (start c)) (xs (start c)))
-size c = c.put.ensures.0 ∙ ap length (same_set c)
+size : (c : tie.After-put-n) → c.put-n.result ≡ length (tidy_set (new (start c)) (xs (start c)))
+size c = c.put-n.ensures.0 ∙ ap length (same_set c)
 
-few : (c : tie.After-put) → let b = start c in b.args.m + c.put.result ≤ 8192
+few : (c : tie.After-put-n) → let b = start c in b.args.m + c.put-n.result ≤ 8192
 few c =
     let b = start c in
     let a = b.args in
@@ -46,66 +44,63 @@ few c =
       size c,
       tidy_length (new b) (xs b),
       length-take n (drop (nat (node_at a.nodes.now a.j).start) a.members.now),
-      b.pre.1.0.room,
-      b.pre.1.1.counted,
+      b.requires.1.0.room,
+      b.requires.1.1.counted,
     )
 
-natural-of-requires : tie.Need-natural-of-requires
-natural-of-requires c κs = search rules
+natural_of-start-requires : tie.Need-natural_of-start-requires
+natural_of-start-requires c κs = search rules
 
-natural-of-requires-2 : tie.Need-natural-of-requires-2
-natural-of-requires-2 c κs = search rules
+natural_of-size-requires : tie.Need-natural_of-size-requires
+natural_of-size-requires c κs = search rules
 
-mul-put : tie.Need-overflow-mul-put
-mul-put c = search rules
+offset_bounds-out_members-m : tie.Need-offset_bounds-out_members-m
+offset_bounds-out_members-m c = search rules
 
-sub-put : tie.Need-overflow-sub-put
-sub-put c = search rules
+slice_bounds-put-count : tie.Need-slice_bounds-put-count
+slice_bounds-put-count c = search rules
 
-part-put-start : tie.Need-slice-bounds-put-start
-part-put-start c = search rules
+slice_bounds-put-start : tie.Need-slice_bounds-put-start
+slice_bounds-put-start c = search rules
 
-part-put-end : tie.Need-slice-bounds-put-end
-part-put-end c = search rules
+slice_bounds-put-end : tie.Need-slice_bounds-put-end
+slice_bounds-put-end c = search rules
+
+put-n-requires : tie.Need-put-n-requires
+put-n-requires c κs = search rules
 
 put-requires : tie.Need-put-requires
-put-requires c κs = search rules
+put-requires c κs =
+    let b = start c.before.before in
+    (b.requires.0.0, b.requires.0.1, omega (arith, few c.before.before), omega (arith, few c.before.before), b.requires.0.3)
 
-put-requires-2 : tie.Need-put-requires-2
-put-requires-2 c κs =
-    let p = c.before.before in
-    let b = start p in
-    (b.pre.0.0, b.pre.0.1, omega (arith, few p), omega (arith, few p), b.pre.0.3)
+shape_of-out_nodes : tie.Need-shape_of-out_nodes
+shape_of-out_nodes c = search rules
 
-same_length : tie.Need-same-length
-same_length c = search rules
-
-same_length_2 : tie.Need-same-length-2
-same_length_2 c = search rules
+shape_of-out_members : tie.Need-shape_of-out_members
+shape_of-out_members c = search rules
 
 returns : tie.Need-returns
 returns c =
-    let q = c.before in
-    let p = q.before.before.before in
-    let b = start p in
+    let b = start c.before.before.before.before in
     let a = b.args in (
-      tidies_more a.nodes.now a.members.now (new b) a.j a.m a.out-nodes.now a.out-members.now b.pre.1.1 (omega (arith, few p, b.pre.0.2)) b.pre.0.1
-          p.put.result _ (size p) (front_set _ _ _ p.put.result p.put.ensures.0 p.put.ensures.1 ∙ same_set p) q.put2.ensures (lent_back a.m a.out-members.now _),
-      few p,
+      tidies_more a.nodes.now a.members.now (new b) a.j a.m a.out_nodes.now a.out_members.now b.requires.1.1 (omega (arith, few c.before.before.before.before, b.requires.0.2)) b.requires.0.1
+          c.put-n.result _ (size c.before.before.before.before) (front_set _ _ _ c.put-n.result c.put-n.ensures.0 c.put-n.ensures.1 ∙ same_set c.before.before.before.before) c.put.ensures (lent_back a.m a.out_members.now _),
+      few c.before.before.before.before,
     )
 
 pub one_node_spec : {M : Type 1} → statement M
 one_node_spec =
     tie.close
     (tie.spec
-    natural-of-requires
-    natural-of-requires-2
-    mul-put
-    sub-put
-    part-put-start
-    part-put-end
+    natural_of-start-requires
+    natural_of-size-requires
+    offset_bounds-out_members-m
+    slice_bounds-put-count
+    slice_bounds-put-start
+    slice_bounds-put-end
+    put-n-requires
     put-requires
-    put-requires-2
-    same_length
-    same_length_2
+    shape_of-out_nodes
+    shape_of-out_members
     returns)

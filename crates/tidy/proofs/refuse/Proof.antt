@@ -15,24 +15,22 @@ clear-requires-2 c κs = search rules
 clear-requires-3 : tie.Need-clear-requires-3
 clear-requires-3 c κs = search rules
 
-same_length : tie.Need-same-length
-same_length c = search rules
+shape_of-out_proof : tie.Need-shape_of-out_proof
+shape_of-out_proof c = search rules
 
-same_length_2 : tie.Need-same-length-2
-same_length_2 c = search rules
+shape_of-out_nodes : tie.Need-shape_of-out_nodes
+shape_of-out_nodes c = search rules
 
-same_length_3 : tie.Need-same-length-3
-same_length_3 c = search rules
+shape_of-out_members : tie.Need-shape_of-out_members
+shape_of-out_members c = search rules
 
 returns : tie.Need-returns
 returns c =
-    let k = c.before in
-    let l = k.before.before.before in
-    let m = l.before.before.before in (
+    (
       refl,
       (
-        m.clear.ensures ∙ cleared_all _ ∙ padded_empty (pos 0) _,
-        (l.clear2.ensures ∙ cleared_all _ ∙ padded_empty (pos 0) _, k.clear3.ensures ∙ cleared_all _ ∙ padded_empty (pos 0) _),
+        c.clear.ensures ∙ cleared_all _ ∙ padded_empty (pos 0) _,
+        (c.clear-2.ensures ∙ cleared_all _ ∙ padded_empty (pos 0) _, c.clear-3.ensures ∙ cleared_all _ ∙ padded_empty (pos 0) _),
       ),
     )
 
@@ -43,7 +41,7 @@ refuse_spec =
     clear-requires
     clear-requires-2
     clear-requires-3
-    same_length
-    same_length_2
-    same_length_3
+    shape_of-out_proof
+    shape_of-out_nodes
+    shape_of-out_members
     returns)

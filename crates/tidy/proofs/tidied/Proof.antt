@@ -19,86 +19,81 @@ use Rattle.tidy.proofs.tidied.Statement.{statement}
 use Rattle.tidy.proofs.tidied.Tie as tie
 
 -- where the rows are folded: the new numbers
-abbrev start : tie.After-fold → tie.Start
+abbrev start : tie.After-fold-rows → tie.Start
 start c = c.before.before.before
 
-abbrev numbers : tie.After-fold → List ℕ
-numbers c = c.fold.new.1.1.1.1.1.0
+abbrev numbers : tie.After-fold-rows → List ℕ
+numbers c = c.fold-rows.new.numbers
 
 abbrev Lent : tie.Start → Tableau
 Lent b = let a = b.args in lent a.schema.now a.proof.now a.nodes.now a.members.now a.h
 
-same_numbers : (c : tie.After-fold) → new_number (start c).args.h.schema_rows (numbers c) ≡ new_of (Lent (start c))
+same_numbers : (c : tie.After-fold-rows) → new_number (start c).args.h.schema_rows (numbers c) ≡ new_of (Lent (start c))
 unfolding new_of folding_of
-same_numbers c = ap (new_number (start c).args.h.schema_rows) c.fold.ensures.1.1.0 ∙ new_padded (start c).args.h.schema_rows _ _
+same_numbers c = ap (new_number (start c).args.h.schema_rows) c.fold-rows.ensures.1.1.0 ∙ new_padded (start c).args.h.schema_rows _ _
 
 -- where the nodes are put
-abbrev fold_of : tie.After-each-node → tie.After-fold
+abbrev fold_of : tie.After-each_node-m → tie.After-fold-rows
 fold_of c = c.before.before.before.before.before.before
 
-kept : (c : tie.After-each-node) →
+kept : (c : tie.After-each_node-m) →
     let b = start (fold_of c) in
-    Tidies b.args.nodes.now b.args.members.now (new_of (Lent b)) b.args.h.node_rows c.each-node.result c.each-node.new.1.1.1.1.1.0 c.each-node.new.1.1.1.1.1.1.0
+    Tidies b.args.nodes.now b.args.members.now (new_of (Lent b)) b.args.h.node_rows c.each_node-m.result c.each_node-m.new.out_nodes c.each_node-m.new.out_members
 kept c =
     let f = fold_of c in
     let b = start f in
-    subst (λ (g : ℕ → ℕ). Tidies b.args.nodes.now b.args.members.now g b.args.h.node_rows c.each-node.result c.each-node.new.1.1.1.1.1.0 c.each-node.new.1.1.1.1.1.1.0) (same_numbers f) c.each-node.ensures.0
+    subst (λ (g : ℕ → ℕ). Tidies b.args.nodes.now b.args.members.now g b.args.h.node_rows c.each_node-m.result c.each_node-m.new.out_nodes c.each_node-m.new.out_members) (same_numbers f) c.each_node-m.ensures.0
 
-slice-aggregate-fold : tie.Need-slice-aggregate-fold
-slice-aggregate-fold c = search rules
+slice_bounds-fold-end : tie.Need-slice_bounds-fold-end
+slice_bounds-fold-end c = search rules
 
-fold-requires : tie.Need-fold-requires
-fold-requires c κs = search rules
+fold-rows-requires : tie.Need-fold-rows-requires
+fold-rows-requires c κs = search rules
 
-slice-aggregate-each-node : tie.Need-slice-aggregate-each-node
-slice-aggregate-each-node c = search rules
+slice_bounds-each_node-end : tie.Need-slice_bounds-each_node-end
+slice_bounds-each_node-end c = search rules
 
-each-node-requires : tie.Need-each-node-requires
-each-node-requires c κs =
-    let f = c.before.before.before.before.before in
-    let b = start f in (
-      (b.pre.0.1, b.pre.0.3, b.pre.0.4, f.fold.ensures.1.1.1),
-      subst (λ (g : ℕ → ℕ). AllFit b.args.nodes.now b.args.members.now g b.args.h.node_rows) (sym (same_numbers f)) b.pre.1,
+each_node-m-requires : tie.Need-each_node-m-requires
+each_node-m-requires c κs =
+    let b = start c.before.before.before.before.before in (
+      (b.requires.0.1, b.requires.0.3, b.requires.0.4, c.fold-rows.ensures.1.1.1),
+      subst (λ (g : ℕ → ℕ). AllFit b.args.nodes.now b.args.members.now g b.args.h.node_rows) (sym (same_numbers c.before.before.before.before.before)) b.requires.1,
     )
 
-mul-clear : tie.Need-overflow-mul-clear
-mul-clear c = search rules
+overflow_mul-k : tie.Need-overflow_mul-k
+overflow_mul-k c = search rules
 
 clear-requires : tie.Need-clear-requires
 clear-requires c κs = search rules
 
 clear-requires-2 : tie.Need-clear-requires-2
 clear-requires-2 c κs =
-    let d = c.before.before.before.before.before.before in
-    omega (arith, d.each-node.ensures.1, d.each-node.auto.1.1.1.1.1.1.0, (start (fold_of d)).requires.0.4)
+    omega (arith, c.each_node-m.ensures.1, c.each_node-m.auto.out_members, (start (fold_of c.before.before.before.before.before.before)).requires.0.4)
 
-same_length : tie.Need-same-length
-same_length c = search rules
+shape_of-out_proof : tie.Need-shape_of-out_proof
+shape_of-out_proof c = search rules
 
-same_length_2 : tie.Need-same-length-2
-same_length_2 c = search rules
+shape_of-out_nodes : tie.Need-shape_of-out_nodes
+shape_of-out_nodes c = search rules
 
-same_length_3 : tie.Need-same-length-3
-same_length_3 c = search rules
+shape_of-out_members : tie.Need-shape_of-out_members
+shape_of-out_members c = search rules
 
 returns : tie.Need-returns
 unfolding tidy_answer tidied folding_of
 returns c =
-    let q = c.before in
-    let p = q.before.before.before in
-    let d = p.before.before.before.before in
-    let f = fold_of d in
+    let f = fold_of c.before.before.before.before.before.before.before.before in
     let b = start f in
     let k = b.args.h.node_rows in
-    let same = d.each-node.auto.1.1.1.1.1 in
-    let i = kept d in
+    let same = c.each_node-m.auto in
+    let i = kept c.before.before.before.before.before.before.before.before in
     let members = bare_members (Lent b) (new_of (Lent b)) k in (
-      ap₂ (λ (n m : ℕ). Proof n k m) f.fold.ensures.0 (i.counted ∙ ap length members),
+      ap₂ (λ (n m : ℕ). Proof n k m) f.fold-rows.ensures.0 (i.counted ∙ ap length members),
       (
-        f.fold.ensures.1.0,
+        f.fold-rows.ensures.1.0,
         (
-          p.clear.ensures ∙ cleared_padded _ (9 * k) (length b.args.out-nodes.now) (omega (arith, same.0, b.pre.0.3)) same.0 ∙ ap (padded (pos 0) (length b.args.out-nodes.now)) (i.rows ∙ bare_nodes (Lent b) (new_of (Lent b)) k),
-          q.clear2.ensures ∙ cleared_padded _ d.each-node.result (length b.args.out-members.now) (omega (arith, d.each-node.ensures.1, same.1.0, b.pre.0.4)) same.1.0 ∙ ap (padded (pos 0) (length b.args.out-members.now)) (i.sets ∙ members),
+          c.clear.ensures ∙ cleared_padded _ (9 * k) (length b.args.out_nodes.now) (omega (arith, same.out_nodes, b.requires.0.3)) same.out_nodes ∙ ap (padded (pos 0) (length b.args.out_nodes.now)) (i.rows ∙ bare_nodes (Lent b) (new_of (Lent b)) k),
+          c.clear-2.ensures ∙ cleared_padded _ c.each_node-m.result (length b.args.out_members.now) (omega (arith, c.each_node-m.ensures.1, same.out_members, b.requires.0.4)) same.out_members ∙ ap (padded (pos 0) (length b.args.out_members.now)) (i.sets ∙ members),
         ),
       ),
     )
@@ -107,14 +102,14 @@ pub tidied_spec : {M : Type 1} → statement M
 tidied_spec =
     tie.close
     (tie.spec
-    slice-aggregate-fold
-    fold-requires
-    slice-aggregate-each-node
-    each-node-requires
-    mul-clear
+    slice_bounds-fold-end
+    fold-rows-requires
+    slice_bounds-each_node-end
+    each_node-m-requires
+    overflow_mul-k
     clear-requires
     clear-requires-2
-    same_length
-    same_length_2
-    same_length_3
+    shape_of-out_proof
+    shape_of-out_nodes
+    shape_of-out_members
     returns)

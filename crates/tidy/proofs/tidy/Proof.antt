@@ -1,8 +1,8 @@
 use borrow.Author.Rules.{rules}
 use native.Mathlib.Omega.{arith}
 use Prim.Native.Nat.{◌≤◌}
-use mathlib.Core.Path.{◌≡◌, sym, ◌∙◌}
-use mathlib.Core.Bool.{true}
+use mathlib.Core.Path.{◌≡◌, sym, ◌∙◌, ap}
+use mathlib.Core.Bool.{true, not}
 use lib.Dec.{leb}
 use lib.ListN.{length}
 use borrow.Author.Tests.{leb-true}
@@ -27,24 +27,23 @@ abbrev T : tie.Start → Tableau
 T b = let a = b.args in lent a.schema.now a.proof.now a.nodes.now a.members.now a.h
 
 abbrev R : tie.Start → Rooms
-R b = let a = b.args in rooms a.out-proof.now a.out-nodes.now a.out-members.now
+R b = let a = b.args in rooms a.out_proof.now a.out_nodes.now a.out_members.now
 
 -- where the verdict of the older check is known
-abbrev start : tie.After-check-older → tie.Start
-start c = c.before.before.before.before.before.before
+abbrev start : tie.After-check_older → tie.Start
+start c = c.before.before.before
 
-full : (c : tie.After-check-older) → let R = R (start c) in (leb 4096 R.rows and leb 9216 R.nodes and leb 8192 R.members) ≡ true
-full c = asked_true c.before.before.full.ensures c.before.if1.false
+full : (c : tie.After-check_older) → let R = R (start c) in (leb 4096 R.rows and leb 9216 R.nodes and leb 8192 R.members) ≡ true
+full c = asked_true c.full.ensures (ap not c.if-not-full.false)
 
-verdict_is : (c : tie.After-check-older) → c.check-older.result ≡ check_older (T (start c))
-verdict_is c = c.check-older.ensures.0
+verdict_is : (c : tie.After-check_older) → c.check_older.result ≡ check_older (T (start c))
+verdict_is c = c.check_older.ensures.0
 
-accepted : (c : tie.After-enum-told) →
-    let v = c.enum_told.given.0 in
-    check_older (T (start c.before.before)) ≡ Accepted v.0 v.1.0
-accepted c = sym (verdict_is c.before.before) ∙ c.enum_told.given.1
+accepted : (c : tie.In-Accepted) →
+    check_older (T (start c.before)) ≡ Accepted c.in-Accepted.nodes c.in-Accepted.links
+accepted c = sym (verdict_is c.before) ∙ c.in-Accepted.is
 
-keeps : (c : tie.After-enum-told) → KeepsOlder (T (start c.before.before))
+keeps : (c : tie.In-Accepted) → KeepsOlder (T (start c.before))
 keeps c = ((older_accepts_exactly _ _ _).0 (accepted c)).0
 
 full-requires : tie.Need-full-requires
@@ -53,81 +52,72 @@ full-requires c κs = search rules
 refuse-requires : tie.Need-refuse-requires
 refuse-requires c κs = search rules
 
-same_length : tie.Need-same-length
-same_length c = search rules
+shape_of-out_proof-then-not-full : tie.Need-shape_of-out_proof-then-not-full
+shape_of-out_proof-then-not-full c = search rules
 
-same_length_2 : tie.Need-same-length-2
-same_length_2 c = search rules
+shape_of-out_nodes-then-not-full : tie.Need-shape_of-out_nodes-then-not-full
+shape_of-out_nodes-then-not-full c = search rules
 
-same_length_3 : tie.Need-same-length-3
-same_length_3 c = search rules
+shape_of-out_members-then-not-full : tie.Need-shape_of-out_members-then-not-full
+shape_of-out_members-then-not-full c = search rules
 
-returns : tie.Need-returns
-returns c =
-    let r = c.before.before.before in
-    let i = r.before.before.before.before in
-    let b = i.before.before.before.before.before in
-    let e = r.refuse.ensures in
-    answers_short (R b) (T b) (asked_false i.before.full.ensures i.if1.true) e.0 e.1.0 e.1.1.0 e.1.1.1
+returns-then-not-full : tie.Need-returns-then-not-full
+returns-then-not-full c =
+    let e = c.refuse.ensures in
+    answers_short (R c.before.before.before.before.before.before.before.before.before) (T c.before.before.before.before.before.before.before.before.before) (asked_false c.full.ensures (ap not c.if-not-full.true)) e.0 e.1.0 e.1.1.0 e.1.1.1
 
-check-older-requires : tie.Need-check-older-requires
-check-older-requires c κs = search rules
+check_older-requires : tie.Need-check_older-requires
+check_older-requires c κs = search rules
 
-enum-known-why : tie.Need-enum-known-why
-enum-known-why c = search rules
+enum_known-why : tie.Need-enum_known-why
+enum_known-why c = search rules
 
-refuse-requires-2 : tie.Need-refuse-requires-2
-refuse-requires-2 c κs = search rules
+refuse-requires-in-Refused : tie.Need-refuse-requires-in-Refused
+refuse-requires-in-Refused c κs = search rules
 
-enum_told : tie.Need-enum-told
-enum_told c = search rules
+enum_told-1 : tie.Need-enum_told-1
+enum_told-1 c = search rules
 
 tidied-requires : tie.Need-tidied-requires
 unfolding row_count
 tidied-requires c κs =
-    let d = c.before.before.before in
-    let k = keeps d in
-    let f = full d.before.before in
+    let k = keeps c.before.before.before in
+    let f = full c.before.before.before.before in
     let g = and_right _ _ f in
-    let n : 4096 ≤ length (start d.before.before).args.out-proof.now = leb-true _ _ (and_left _ _ f) in
-    let o : 9216 ≤ length (start d.before.before).args.out-nodes.now = leb-true _ _ (and_left _ _ g) in
-    let p : 8192 ≤ length (start d.before.before).args.out-members.now = leb-true _ _ (and_right _ _ g) in
-    ((k.tables.row_limit, k.tables.node_limit, omega (arith, k.tables.row_limit, n), omega (arith, k.tables.node_limit, o), p), sets_fit (T (start d.before.before)) k (new_of (T (start d.before.before))))
+    let n : 4096 ≤ length (start c.before.before.before.before).args.out_proof.now = leb-true _ _ (and_left _ _ f) in
+    let o : 9216 ≤ length (start c.before.before.before.before).args.out_nodes.now = leb-true _ _ (and_left _ _ g) in
+    let p : 8192 ≤ length (start c.before.before.before.before).args.out_members.now = leb-true _ _ (and_right _ _ g) in
+    ((k.tables.row_limit, k.tables.node_limit, omega (arith, k.tables.row_limit, n), omega (arith, k.tables.node_limit, o), p), sets_fit (T (start c.before.before.before.before)) k (new_of (T (start c.before.before.before.before))))
 
-same-length-4 : tie.Need-same-length-4
-same-length-4 c = search rules
+shape_of-out_proof-in-Refused : tie.Need-shape_of-out_proof-in-Refused
+shape_of-out_proof-in-Refused c = search rules
 
-same-length-5 : tie.Need-same-length-5
-same-length-5 c = search rules
+shape_of-out_nodes-in-Refused : tie.Need-shape_of-out_nodes-in-Refused
+shape_of-out_nodes-in-Refused c = search rules
 
-same-length-6 : tie.Need-same-length-6
-same-length-6 c = search rules
+shape_of-out_members-in-Refused : tie.Need-shape_of-out_members-in-Refused
+shape_of-out_members-in-Refused c = search rules
 
-returns_2 : tie.Need-returns-2
-returns_2 c =
-    let r = c.before.before.before in
-    let w = r.before.before.before.before.before in
-    let d = w.before.before in
-    let b = start d in
-    let e = r.refuse2.ensures in
-    answers_refused (R b) (T b) e.0 e.1.0 e.1.1.0 e.1.1.1 (full d) (sym (verdict_is d) ∙ w.why.given.1)
+returns-in-Refused : tie.Need-returns-in-Refused
+returns-in-Refused c =
+    let b = start c.before.before.before.before.before.before.before.before in
+    let e = c.refuse-in-Refused.ensures in
+    answers_refused (R b) (T b) e.0 e.1.0 e.1.1.0 e.1.1.1 (full c.before.before.before.before.before.before.before.before) (sym (verdict_is c.before.before.before.before.before.before.before.before) ∙ c.in-Refused.is)
 
-same-length-7 : tie.Need-same-length-7
-same-length-7 c = search rules
+shape_of-out_proof-in-Accepted : tie.Need-shape_of-out_proof-in-Accepted
+shape_of-out_proof-in-Accepted c = search rules
 
-same-length-8 : tie.Need-same-length-8
-same-length-8 c = search rules
+shape_of-out_nodes-in-Accepted : tie.Need-shape_of-out_nodes-in-Accepted
+shape_of-out_nodes-in-Accepted c = search rules
 
-same-length-9 : tie.Need-same-length-9
-same-length-9 c = search rules
+shape_of-out_members-in-Accepted : tie.Need-shape_of-out_members-in-Accepted
+shape_of-out_members-in-Accepted c = search rules
 
-returns_3 : tie.Need-returns-3
-returns_3 c =
-    let t = c.before.before.before in
-    let d = t.before.before.before.before in
-    let b = start d.before.before in
-    let e = t.tidied.ensures in
-    answers_tidied (R b) (T b) (full d.before.before) (accepted d) e.0 e.1.0 e.1.1.0 e.1.1.1
+returns-in-Accepted : tie.Need-returns-in-Accepted
+returns-in-Accepted c =
+    let b = start c.before.before.before.before.before.before.before.before in
+    let e = c.tidied.ensures in
+    answers_tidied (R b) (T b) (full c.before.before.before.before.before.before.before.before) (accepted c.before.before.before.before.before.before.before) e.0 e.1.0 e.1.1.0 e.1.1.1
 
 pub tidy_spec : {M : Type 1} → statement M
 tidy_spec =
@@ -135,20 +125,20 @@ tidy_spec =
     (tie.spec
     full-requires
     refuse-requires
-    same_length
-    same_length_2
-    same_length_3
-    returns
-    check-older-requires
-    enum-known-why
-    refuse-requires-2
-    enum_told
+    shape_of-out_proof-then-not-full
+    shape_of-out_nodes-then-not-full
+    shape_of-out_members-then-not-full
+    returns-then-not-full
+    check_older-requires
+    enum_known-why
+    refuse-requires-in-Refused
+    enum_told-1
     tidied-requires
-    same-length-4
-    same-length-5
-    same-length-6
-    returns_2
-    same-length-7
-    same-length-8
-    same-length-9
-    returns_3)
+    shape_of-out_proof-in-Refused
+    shape_of-out_nodes-in-Refused
+    shape_of-out_members-in-Refused
+    returns-in-Refused
+    shape_of-out_proof-in-Accepted
+    shape_of-out_nodes-in-Accepted
+    shape_of-out_members-in-Accepted
+    returns-in-Accepted)

@@ -23,62 +23,59 @@ rows b = let a = b.args in a.first.schema_rows + a.second.schema_rows
 abbrev nodes : tie.Start → ℕ
 nodes b = let a = b.args in a.first.node_rows + a.second.node_rows
 
-few_schema : (c : tie.Else1) → ltb (rows c.before.before.before) 1024 ≡ true
-few_schema c = lt-ltb (rows c.before.before.before) 1024 (omega (arith, c.if1.false))
+few_schema : (c : tie.Else-first-second-ge1024) → ltb (rows c.before.before.before) 1024 ≡ true
+few_schema c = lt-ltb (rows c.before.before.before) 1024 (omega (arith, c.if-first-second-ge1024.false))
 
-few_nodes_lem : (c : tie.Else2) → ltb (nodes c.before.before.before.before.before.before) 1024 ≡ true
-few_nodes_lem c = lt-ltb (nodes c.before.before.before.before.before.before) 1024 (omega (arith, c.if2.false))
+few_nodes_lem : (c : tie.Else-first-second-ge1024-2) → ltb (nodes c.before.before.before.before.before.before) 1024 ≡ true
+few_nodes_lem c = lt-ltb (nodes c.before.before.before.before.before.before) 1024 (omega (arith, c.if-first-second-ge1024-2.false))
 
-add-if1 : tie.Need-overflow-add-if1
-add-if1 c = search rules
+overflow_add-first : tie.Need-overflow_add-first
+overflow_add-first c = search rules
 
-returns : tie.Need-returns
+returns-then-first-second-ge1024 : tie.Need-returns-then-first-second-ge1024
 unfolding sizes_fit
-returns c = sym (and_first_false _ _ (le-ltb _ 1024 c.if1.true))
+returns-then-first-second-ge1024 c = sym (and_first_false _ _ (le-ltb _ 1024 c.if-first-second-ge1024.true))
 
-add-if2 : tie.Need-overflow-add-if2
-add-if2 c = search rules
+overflow_add-first-2 : tie.Need-overflow_add-first-2
+overflow_add-first-2 c = search rules
 
-returns_2 : tie.Need-returns-2
+returns-then-first-second-ge1024-2 : tie.Need-returns-then-first-second-ge1024-2
 unfolding sizes_fit
-returns_2 c =
-    let e = c.before.before.before in
-    sym (and_first_true (ltb (rows e.before.before.before) 1024) _ (few_schema e) ∙ and_first_false _ _ (le-ltb _ 1024 c.if2.true))
+returns-then-first-second-ge1024-2 c =
+    sym (and_first_true (ltb (rows c.before.before.before.before.before.before) 1024) _ (few_schema c.before.before.before) ∙ and_first_false _ _ (le-ltb _ 1024 c.if-first-second-ge1024-2.true))
 
-schema-header-requires : tie.Need-schema-header-requires
-schema-header-requires c κs = search rules
+schema_header-requires : tie.Need-schema_header-requires
+schema_header-requires c κs = search rules
 
-schema-header-requires-2 : tie.Need-schema-header-requires-2
-schema-header-requires-2 c κs = search rules
+schema_header-requires-2 : tie.Need-schema_header-requires-2
+schema_header-requires-2 c κs = search rules
 
-abbrev start : tie.After-schema-header2 → tie.Start
+abbrev start : tie.After-schema_header-2 → tie.Start
 start c = c.before.before.before.before.before.before.before.before
 
-or-fits-requires : tie.Need-or-fits-requires
-or-fits-requires c κs =
+or_fits-requires : tie.Need-or_fits-requires
+or_fits-requires c κs =
     let b = start c in
-    let p = b.pre in
-    let f = sym c.before.schema-header.ensures in
-    let s = sym c.schema-header2.ensures in (
-      subst (λ (h : SchemaHeader). (h.rows ≤ 1024) × (4 * h.rows ≤ length b.args.first-schema.now)) f (p.0.0, p.0.2),
+    let p = b.requires in
+    let f = sym c.schema_header.ensures in
+    let s = sym c.schema_header-2.ensures in (
+      subst (λ (h : SchemaHeader). (h.rows ≤ 1024) × (4 * h.rows ≤ length b.args.first_schema.now)) f (p.0.0, p.0.2),
       (
-        subst (λ (h : SchemaHeader). (h.rows ≤ 1024) × (4 * h.rows ≤ length b.args.second-schema.now)) s (p.1.0.0, p.1.0.2),
+        subst (λ (h : SchemaHeader). (h.rows ≤ 1024) × (4 * h.rows ≤ length b.args.second_schema.now)) s (p.1.0.0, p.1.0.2),
         (
-          subst (λ (h : SchemaHeader). schema_refusal (lent_schema b.args.first-schema.now h) ≡ Nothing) f p.1.1.0,
-          subst (λ (h : SchemaHeader). schema_refusal (lent_schema b.args.second-schema.now h) ≡ Nothing) s p.1.1.1,
+          subst (λ (h : SchemaHeader). schema_refusal (lent_schema b.args.first_schema.now h) ≡ Nothing) f p.1.1.0,
+          subst (λ (h : SchemaHeader). schema_refusal (lent_schema b.args.second_schema.now h) ≡ Nothing) s p.1.1.1,
         ),
       ),
     )
 
-returns_3 : tie.Need-returns-3
+returns : tie.Need-returns
 unfolding sizes_fit
-returns_3 c =
-    let o = c.before in
-    let b = start o in
-    let e = o.before.before in
-    c.or-fits.ensures
-    ∙ ap₂ (λ (h k : SchemaHeader). or_small (schema_formula (lent_schema b.args.first-schema.now h)) (schema_formula (lent_schema b.args.second-schema.now k))) o.before.schema-header.ensures o.schema-header2.ensures
-    ∙ sym (and_first_true (ltb (rows b) 1024) _ (few_schema e.before.before.before) ∙ and_first_true (ltb (nodes b) 1024) _ (few_nodes_lem e))
+returns c =
+    let b = start c.before in
+    c.or_fits.ensures
+    ∙ ap₂ (λ (h k : SchemaHeader). or_small (schema_formula (lent_schema b.args.first_schema.now h)) (schema_formula (lent_schema b.args.second_schema.now k))) c.schema_header.ensures c.schema_header-2.ensures
+    ∙ sym (and_first_true (ltb (rows b) 1024) _ (few_schema c.before.before.before.before.before.before) ∙ and_first_true (ltb (nodes b) 1024) _ (few_nodes_lem c.before.before.before))
 
 pub both_fit_spec : {M : Type 1} → statement M
-both_fit_spec = tie.close (tie.spec add-if1 returns add-if2 returns_2 schema-header-requires schema-header-requires-2 or-fits-requires returns_3)
+both_fit_spec = tie.close (tie.spec overflow_add-first returns-then-first-second-ge1024 overflow_add-first-2 returns-then-first-second-ge1024-2 schema_header-requires schema_header-requires-2 or_fits-requires returns)

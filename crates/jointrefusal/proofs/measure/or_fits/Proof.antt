@@ -15,66 +15,62 @@ use Rattle.jointrefusal.proofs.measure.or_fits.Statement.{statement}
 use Rattle.jointrefusal.proofs.measure.or_fits.Tie as tie
 
 -- where both roots are known
-abbrev start : tie.After-root-facts2 → tie.Start
+abbrev start : tie.After-root_facts-g → tie.Start
 start c = c.before.before
 
 abbrev first : tie.Start → Formula
-first b = schema_formula (lent_schema b.args.first-schema.now b.args.first)
+first b = schema_formula (lent_schema b.args.first_schema.now b.args.first)
 
 abbrev second : tie.Start → Formula
-second b = schema_formula (lent_schema b.args.second-schema.now b.args.second)
+second b = schema_formula (lent_schema b.args.second_schema.now b.args.second)
 
-first_size : (c : tie.After-root-facts2) → c.before.root-facts.result.size ≡ F.size (first (start c))
-first_size c = c.before.root-facts.ensures.0
+first_size : (c : tie.After-root_facts-g) → c.root_facts-f.result.size ≡ F.size (first (start c))
+first_size c = c.root_facts-f.ensures.0
 
-second_size : (c : tie.After-root-facts2) → c.root-facts2.result.size ≡ F.size (second (start c))
-second_size c = c.root-facts2.ensures.0
+second_size : (c : tie.After-root_facts-g) → c.root_facts-g.result.size ≡ F.size (second (start c))
+second_size c = c.root_facts-g.ensures.0
 
-root-facts-requires : tie.Need-root-facts-requires
-root-facts-requires c κs = search rules
+root_facts-f-requires : tie.Need-root_facts-f-requires
+root_facts-f-requires c κs = search rules
 
-root-facts-requires-2 : tie.Need-root-facts-requires-2
-root-facts-requires-2 c κs = search rules
+root_facts-g-requires : tie.Need-root_facts-g-requires
+root_facts-g-requires c κs = search rules
 
-add-if1 : tie.Need-overflow-add-if1
-add-if1 c = search rules
+overflow_add-f : tie.Need-overflow_add-f
+overflow_add-f c = search rules
 
-add-if1-2 : tie.Need-overflow-add-if1-2
-add-if1-2 c = search rules
+overflow_add-f-2 : tie.Need-overflow_add-f-2
+overflow_add-f-2 c = search rules
 
-returns : tie.Need-returns
+returns-then-f-g-gt4096 : tie.Need-returns-then-f-g-gt4096
 unfolding or_small F.size
-returns c =
-    let g = c.before.before.before in
-    let b = start g in
-    sym (and_first_false _ _ (lt-leb (F.size (F.join disj (first b) (second b))) 4096 (omega (arith, c.if1.true, first_size g, second_size g))))
+returns-then-f-g-gt4096 c =
+    let b = start c.before.before.before in
+    sym (and_first_false _ _ (lt-leb (F.size (F.join disj (first b) (second b))) 4096 (omega (arith, c.if-f-g-gt4096.true, first_size c.before.before.before, second_size c.before.before.before))))
 
 larger-requires : tie.Need-larger-requires
 larger-requires c κs = search rules
 
-add-result : tie.Need-overflow-add-result
-add-result c = search rules
+overflow_add-result : tie.Need-overflow_add-result
+overflow_add-result c = search rules
 
-returns_2 : tie.Need-returns-2
+returns : tie.Need-returns
 unfolding or_small F.size F.depth ◌and◌
-returns_2 c =
-    let i = c.before in
-    let g = i.before.before.before in
-    let b = start g in
-    let f = g.before in
+returns c =
+    let b = start c.before.before.before.before in
     ap (λ (d : ℕ). leb (1 + d) 64)
-    (c.larger.ensures ∙ ap₂ max f.root-facts.ensures.1.0 g.root-facts2.ensures.1.0)
-    ∙ sym (ap (λ (x : Bool). x and leb (F.depth (F.join disj (first b) (second b))) 64) (le-leb (F.size (F.join disj (first b) (second b))) 4096 (omega (arith, i.if1.false, first_size g, second_size g))))
+    (c.larger.ensures ∙ ap₂ max c.root_facts-f.ensures.1.0 c.root_facts-g.ensures.1.0)
+    ∙ sym (ap (λ (x : Bool). x and leb (F.depth (F.join disj (first b) (second b))) 64) (le-leb (F.size (F.join disj (first b) (second b))) 4096 (omega (arith, c.if-f-g-gt4096.false, first_size c.before.before.before.before, second_size c.before.before.before.before))))
 
 pub or_fits_spec : {M : Type 1} → statement M
 or_fits_spec =
     tie.close
     (tie.spec
-    root-facts-requires
-    root-facts-requires-2
-    add-if1
-    add-if1-2
-    returns
+    root_facts-f-requires
+    root_facts-g-requires
+    overflow_add-f
+    overflow_add-f-2
+    returns-then-f-g-gt4096
     larger-requires
-    add-result
-    returns_2)
+    overflow_add-result
+    returns)

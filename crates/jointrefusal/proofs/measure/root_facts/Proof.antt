@@ -26,59 +26,58 @@ root_below b =
     below_nat h.rows h.root (and_left (below h.rows h.root) _ (unless_nothing (root_fits h.rows h.root h.least) _ _ (otherwise_first _ _ b.requires.1)))
 
 -- where the rows are passed
-abbrev start : tie.After-schema-formulas → tie.Start
+abbrev start : tie.After-schema_formulas → tie.Start
 start c = c.before.before
 
-abbrev facts : tie.After-schema-formulas → List ℕ
-facts c = c.schema-formulas.new.1.1.0
+abbrev facts : tie.After-schema_formulas → List ℕ
+facts c = c.schema_formulas.new.facts
 
-passed : (c : tie.After-schema-formulas) → let a = (start c).args in Passed (row_at a.schema.now) (facts c) a.h.rows
-passed c = c.schema-formulas.ensures.1.0 (start c).requires.1
+passed : (c : tie.After-schema_formulas) → let a = (start c).args in Passed (row_at a.schema.now) (facts c) a.h.rows
+passed c = c.schema_formulas.ensures.1.0 (start c).requires.1
 
-slice-aggregate-schema-formulas : tie.Need-slice-aggregate-schema-formulas
-slice-aggregate-schema-formulas c = search rules
+slice_bounds-schema_formulas-end : tie.Need-slice_bounds-schema_formulas-end
+slice_bounds-schema_formulas-end c = search rules
 
-schema-formulas-requires : tie.Need-schema-formulas-requires
-schema-formulas-requires c κs = search rules
+schema_formulas-requires : tie.Need-schema_formulas-requires
+schema_formulas-requires c κs = search rules
 
-slice-aggregate-known : tie.Need-slice-aggregate-known
-slice-aggregate-known c = search rules
+slice_bounds-known-end : tie.Need-slice_bounds-known-end
+slice_bounds-known-end c = search rules
 
-natural_requires : tie.Need-natural-requires
-natural_requires c κs = search rules
+natural-requires : tie.Need-natural-requires
+natural-requires c κs = search rules
 
 root_is : (c : tie.After-natural) → c.natural.result ≡ nat (start c.before.before.before.before).args.h.root
 root_is c =
-    c.natural.ensures ∙ ap nat (read_back (start c.before.before.before.before).args.h.root c.before.struct_told.given.1.0.1)
+    c.natural.ensures ∙ ap nat (read_back (start c.before.before.before.before).args.h.root c.struct_told-1.given.1.0.1)
 
 known-requires : tie.Need-known-requires
 known-requires c κs =
     let b = start c.before.before.before.before in
-    omega (arith, root_is c, root_below b, b.pre.0.0)
+    omega (arith, root_is c, root_below b, b.requires.0.0)
 
 returns : tie.Need-returns
 unfolding facts_at small_enough
 returns c =
-    let f = c.before.before.before.before.before in
-    let b = start f in
+    let b = start c.before.before.before.before.before in
     let n = root_is c.before in
-    let p = passed f in
+    let p = passed c.before.before.before.before.before in
     let r = nat b.args.h.root in
     let l = root_below b in
     let k = p.known r l in
     let s = p.small r l in
     let t = schema_formula (lent_schema b.args.schema.now b.args.h) in
-    let e = ap (λ (x : Facts). x.size) c.known.ensures ∙ ap (λ (m : ℕ). get_or (facts f) (4 * m) 0) n ∙ k.size in
-    let d = ap (λ (x : Facts). x.depth) c.known.ensures ∙ ap (λ (m : ℕ). get_or (facts f) (4 * m + 1) 0) n ∙ k.depth in
+    let e = ap (λ (x : Facts). x.size) c.known.ensures ∙ ap (λ (m : ℕ). get_or (facts c.before.before.before.before.before) (4 * m) 0) n ∙ k.size in
+    let d = ap (λ (x : Facts). x.depth) c.known.ensures ∙ ap (λ (m : ℕ). get_or (facts c.before.before.before.before.before) (4 * m + 1) 0) n ∙ k.depth in
     (e, (d, (omega (arith, e, leb-true (F.size t) 4096 (and_left _ (leb (F.depth t) 64) s)), omega (arith, d, leb-true (F.depth t) 64 (and_right (leb (F.size t) 4096) _ s)))))
 
 pub root_facts_spec : {M : Type 1} → statement M
 root_facts_spec =
     tie.close
     (tie.spec
-    slice-aggregate-schema-formulas
-    schema-formulas-requires
-    slice-aggregate-known
-    natural_requires
+    slice_bounds-schema_formulas-end
+    schema_formulas-requires
+    slice_bounds-known-end
+    natural-requires
     known-requires
     returns)

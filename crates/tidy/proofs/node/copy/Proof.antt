@@ -12,57 +12,56 @@ use Rattle.tidy.proofs.Nodes.{sets_next, sets_all}
 use Rattle.tidy.proofs.node.copy.Statement.{statement}
 use Rattle.tidy.proofs.node.copy.Tie as tie
 
-abbrev invariant_loop : tie.invariant-loop
+abbrev invariant_loop : tie.invariant-loop-k
 invariant_loop table₀ at row k₀ table k =
     (k ≤ length row) × (length table ≡ length table₀) × (table ≡ sets table₀ at (take k row))
 
-abbrev decreases_loop : tie.decreases-loop
+abbrev decreases_loop : tie.decreases-loop-k
 decreases_loop table₀ at row k₀ table k = length row - k
 
-loop_holds : tie.Need-loop-init invariant_loop decreases_loop
-loop_holds c = (omega arith, refl, refl)
+loop-k-init : tie.Need-loop-k-init invariant_loop decreases_loop
+loop-k-init c = (omega arith, refl, refl)
 
-mul-table : tie.Need-overflow-mul-table invariant_loop decreases_loop
-mul-table c = omega (arith, c.loop-test.true, c.before.before.well-formed.1.1.0.1)
+offset_bounds-row-k : tie.Need-offset_bounds-row-k invariant_loop decreases_loop
+offset_bounds-row-k c = omega (arith, c.loop-k-test.true, c.well_formed.1.1.0.1)
 
-shared-slice-copy-out-table : tie.Need-shared-slice-copy-out-table invariant_loop decreases_loop
-shared-slice-copy-out-table c = omega arith
+bounds-row-k : tie.Need-bounds-row-k invariant_loop decreases_loop
+bounds-row-k c = omega arith
 
-add-t9 : tie.Need-overflow-add-t9 invariant_loop decreases_loop
-add-t9 c = omega (arith, c.before.before.before.requires, c.before.before.before.well-formed.0.0)
+overflow_add-at : tie.Need-overflow_add-at invariant_loop decreases_loop
+overflow_add-at c = omega (arith, c.requires, c.well_formed.0.0)
 
-mul-t10 : tie.Need-overflow-mul-t10 invariant_loop decreases_loop
-mul-t10 c = omega (arith, c.before.before.before.requires, c.before.before.before.well-formed.0.1)
+offset_bounds-table-at : tie.Need-offset_bounds-table-at invariant_loop decreases_loop
+offset_bounds-table-at c = omega (arith, c.requires, c.well_formed.0.1)
 
-slice-set-from-table : tie.Need-slice-set-from-table invariant_loop decreases_loop
-slice-set-from-table c = omega (arith, c.before.before.before.requires, c.before.before.loop.invariant.1)
+bounds-table-at : tie.Need-bounds-table-at invariant_loop decreases_loop
+bounds-table-at c = omega (arith, c.requires, c.loop-k.invariant.1)
 
-add_k : tie.Need-overflow-add-k invariant_loop decreases_loop
-add_k c = omega arith
+overflow_add-k : tie.Need-overflow_add-k invariant_loop decreases_loop
+overflow_add-k c = omega arith
 
-loop_less : tie.Need-loop-smaller invariant_loop decreases_loop
-loop_less c = omega arith
+loop-k-smaller : tie.Need-loop-k-smaller invariant_loop decreases_loop
+loop-k-smaller c = omega arith
 
-loop_again : tie.Need-loop-preserved invariant_loop decreases_loop
-loop_again c =
-    let l = c.before.before.loop in
-    let b = c.before.before.before in
-    let a = b.args in
+loop-k-preserved : tie.Need-loop-k-preserved invariant_loop decreases_loop
+loop-k-preserved c =
+    let l = c.loop-k in
+    let a = c.args in
     let z = to_z w32 (of_z w32 (get_or a.row.now l.k (pos 0))) in (
       omega arith,
       length-set l.table (a.at + l.k) z ∙ l.invariant.1,
       ap (λ (t : List ℤ). set t (a.at + l.k) z) l.invariant.2
-          ∙ sets_next a.table.now a.at a.row.now l.k c.before.loop-test.true z (read_back _ c.table.given),
+          ∙ sets_next a.table.now a.at a.row.now l.k c.loop-k-test.true z (read_back _ c.table-1.given),
     )
 
-same_length : tie.Need-same-length invariant_loop decreases_loop
-same_length c = c.before.loop.invariant.1
+shape_of-table : tie.Need-shape_of-table invariant_loop decreases_loop
+shape_of-table c = c.loop-k.invariant.1
 
 returns : tie.Need-returns invariant_loop decreases_loop
 returns c =
-    let l = c.before.loop in
-    let a = c.before.before.args in
-    l.invariant.2 ∙ sets_all a.table.now a.at a.row.now l.k c.loop-test.false
+    let l = c.loop-k in
+    let a = c.args in
+    l.invariant.2 ∙ sets_all a.table.now a.at a.row.now l.k c.loop-k-test.false
 
 pub copy_spec : {M : Type 1} → statement M
 copy_spec =
@@ -70,14 +69,14 @@ copy_spec =
     (tie.spec
     invariant_loop
     decreases_loop
-    loop_holds
-    mul-table
-    shared-slice-copy-out-table
-    add-t9
-    mul-t10
-    slice-set-from-table
-    add_k
-    loop_less
-    loop_again
-    same_length
+    loop-k-init
+    offset_bounds-row-k
+    bounds-row-k
+    overflow_add-at
+    offset_bounds-table-at
+    bounds-table-at
+    overflow_add-k
+    loop-k-smaller
+    loop-k-preserved
+    shape_of-table
     returns)

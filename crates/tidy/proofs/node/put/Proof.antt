@@ -8,11 +8,11 @@ use Rattle.signed.proofs.Signs.{read_back}
 use Rattle.tidy.proofs.node.put.Statement.{statement}
 use Rattle.tidy.proofs.node.put.Tie as tie
 
-number-of-requires : tie.Need-number-of-requires
-number-of-requires c κs = search rules
+number_of-requires : tie.Need-number_of-requires
+number_of-requires c κs = search rules
 
-number-of-requires-2 : tie.Need-number-of-requires-2
-number-of-requires-2 c κs = search rules
+number_of-requires-2 : tie.Need-number_of-requires-2
+number_of-requires-2 c κs = search rules
 
 field-requires : tie.Need-field-requires
 field-requires c κs = search rules
@@ -23,11 +23,11 @@ field-requires-2 c κs = search rules
 field-requires-3 : tie.Need-field-requires-3
 field-requires-3 c κs = search rules
 
-number-of-requires-3 : tie.Need-number-of-requires-3
-number-of-requires-3 c κs = search rules
+number_of-requires-3 : tie.Need-number_of-requires-3
+number_of-requires-3 c κs = search rules
 
-number-of-requires-4 : tie.Need-number-of-requires-4
-number-of-requires-4 c κs = search rules
+number_of-requires-4 : tie.Need-number_of-requires-4
+number_of-requires-4 c κs = search rules
 
 of-requires : tie.Need-of-requires
 of-requires c κs = search rules
@@ -35,61 +35,51 @@ of-requires c κs = search rules
 of-requires-2 : tie.Need-of-requires-2
 of-requires-2 c κs = search rules
 
-mul-copy : tie.Need-overflow-mul-copy
-mul-copy c = search rules
+overflow_mul-j : tie.Need-overflow_mul-j
+overflow_mul-j c = search rules
 
-slice-aggregate-copy : tie.Need-slice-aggregate-copy
-slice-aggregate-copy c = search rules
+slice_bounds-copy-end : tie.Need-slice_bounds-copy-end
+slice_bounds-copy-end c = search rules
 
 copy-requires : tie.Need-copy-requires
 copy-requires c κs = search rules
 
-same_length : tie.Need-same-length
-same_length c = search rules
+shape_of-table : tie.Need-shape_of-table
+shape_of-table c = search rules
 
 returns : tie.Need-returns
 unfolding tidy_node
 returns c =
-    let k = c.before in
-    let i = k.before.before.before in
-    let h = i.before in
-    let g = h.before in
-    let f = g.before in
-    let e = f.before in
-    let d = e.before in
-    let u = d.before in
-    let v = u.before in
-    let w = v.before in
-    let a = w.before.before.args in
-    k.copy.ensures
+    let a = c.args in
+    c.copy.ensures
     ∙ ap (sets a.table.now (9 * a.j))
     (λ x.
-    (read_back _ w.number_of.type-inv ∙ w.number_of.ensures) x
-    ∷ (read_back _ v.number-of2.type-inv ∙ v.number-of2.ensures) x
-    ∷ (read_back _ u.field.type-inv ∙ u.field.ensures) x
-    ∷ (read_back _ d.field2.type-inv ∙ d.field2.ensures) x
-    ∷ (read_back _ e.field3.type-inv ∙ e.field3.ensures) x
-    ∷ (read_back _ f.number-of3.type-inv ∙ f.number-of3.ensures) x
-    ∷ (read_back _ g.number-of4.type-inv ∙ g.number-of4.ensures) x
-    ∷ (read_back _ h.of.type-inv ∙ h.of.ensures) x
-    ∷ (read_back _ i.of2.type-inv ∙ i.of2.ensures) x
+    (read_back _ c.number_of.type_inv ∙ c.number_of.ensures) x
+    ∷ (read_back _ c.number_of-2.type_inv ∙ c.number_of-2.ensures) x
+    ∷ (read_back _ c.field.type_inv ∙ c.field.ensures) x
+    ∷ (read_back _ c.field-2.type_inv ∙ c.field-2.ensures) x
+    ∷ (read_back _ c.field-3.type_inv ∙ c.field-3.ensures) x
+    ∷ (read_back _ c.number_of-3.type_inv ∙ c.number_of-3.ensures) x
+    ∷ (read_back _ c.number_of-4.type_inv ∙ c.number_of-4.ensures) x
+    ∷ (read_back _ c.of.type_inv ∙ c.of.ensures) x
+    ∷ (read_back _ c.of-2.type_inv ∙ c.of-2.ensures) x
     ∷ [])
 
 pub put_spec : {M : Type 1} → statement M
 put_spec =
     tie.close
     (tie.spec
-    number-of-requires
-    number-of-requires-2
+    number_of-requires
+    number_of-requires-2
     field-requires
     field-requires-2
     field-requires-3
-    number-of-requires-3
-    number-of-requires-4
+    number_of-requires-3
+    number_of-requires-4
     of-requires
     of-requires-2
-    mul-copy
-    slice-aggregate-copy
+    overflow_mul-j
+    slice_bounds-copy-end
     copy-requires
-    same_length
+    shape_of-table
     returns)
