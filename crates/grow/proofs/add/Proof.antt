@@ -4,18 +4,18 @@ use Rattle.growing.specs.Growing.{tried}
 use Rattle.grow.proofs.add.Statement.{statement}
 use Rattle.grow.proofs.add.Tie as tie
 
-try-row-requires : tie.Need-try-row-requires
-try-row-requires c κs = search rules
+try_row-requires : tie.Need-try_row-requires
+try_row-requires c κs = search rules
 
-same_length : tie.Need-same-length
-same_length c = search rules
+shape_of-nodes : tie.Need-shape_of-nodes
+shape_of-nodes c = search rules
 
-same_length_2 : tie.Need-same-length-2
-same_length_2 c = search rules
+shape_of-members : tie.Need-shape_of-members
+shape_of-members c = search rules
 
 returns : tie.Need-returns
 unfolding tried if◌then◌else◌
-returns c = c.before.before.try-row.ensures
+returns c = c.try_row.ensures
 
 pub add_spec : {M : Type 1} → statement M
-add_spec = tie.close (tie.spec try-row-requires same_length same_length_2 returns)
+add_spec = tie.close (tie.spec try_row-requires shape_of-nodes shape_of-members returns)

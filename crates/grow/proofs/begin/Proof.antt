@@ -20,83 +20,77 @@ here c = let a = c.args in lent a.schema.now a.proof.now a.nodes.now a.members.n
 hold-requires : tie.Need-hold-requires
 hold-requires c κs = (omega arith, omega arith, omega arith)
 
-holding-requires : tie.Need-holding-requires
-holding-requires c κs = search rules
+holding-none-requires : tie.Need-holding-none-requires
+holding-none-requires c κs = search rules
 
 held-requires : tie.Need-held-requires
 held-requires c κs = search rules
 
 -- what is found once no node is held
-found : (c : tie.After-held) → c.held.result ≡ begin_refusal (here c.before.before.before.before.before.before.before.before.before)
+found : (c : tie.After-held) → c.held.result ≡ begin_refusal (here c.before.before.before.before.before.before.before)
 unfolding begin_refusal begun holding
 found c =
-    let n = c.before.before.before in
-    let h = n.before.before.before in
-    let a = h.before.before.before.args in
+    let a = c.args in
     c.held.ensures
-    ∙ (λ i. refusal held_mode (lent a.schema.now a.proof.now (h.hold.ensures.0 i) (h.hold.ensures.1 i) (n.holding.ensures i)))
+    ∙ (λ i. refusal held_mode (lent a.schema.now a.proof.now (c.hold.ensures.0 i) (c.hold.ensures.1 i) (c.holding-none.ensures i)))
 
 -- what is left
-left : (n : tie.After-holding) (r : Reply) (x : Growth) → r ≡ reply_of n.holding.result x →
-    let h = n.before.before.before in
-    let a = h.before.before.before.args in
-    lent a.schema.now a.proof.now h.hold.new.0 h.hold.new.1.1.0 (header_after a.h r) ≡ begun (here h.before.before.before)
+left : (n : tie.After-holding-none) (r : Reply) (x : Growth) → r ≡ reply_of n.holding-none.result x →
+    let a = n.args in
+    lent a.schema.now a.proof.now n.hold.new.nodes n.hold.new.members (header_after a.h r) ≡ begun (here n.before.before.before.before.before.before)
 unfolding begun holding
 left n r x e i =
-    let h = n.before.before.before in
-    let a = h.before.before.before.args in
-    lent a.schema.now a.proof.now (h.hold.ensures.0 i) (h.hold.ensures.1 i) (header_after a.h ((e ∙ ap (λ (k : Header). reply_of k x) n.holding.ensures) i))
+    let a = n.args in
+    lent a.schema.now a.proof.now (n.hold.ensures.0 i) (n.hold.ensures.1 i) (header_after a.h ((e ∙ ap (λ (k : Header). reply_of k x) n.holding-none.ensures) i))
 
-enum-known-why : tie.Need-enum-known-why
-enum-known-why c = search rules
+enum_known-why : tie.Need-enum_known-why
+enum_known-why c = search rules
 
 reply-requires : tie.Need-reply-requires
 reply-requires c κs = search rules
 
-enum_told : tie.Need-enum-told
-enum_told c = search rules
+enum_told-1 : tie.Need-enum_told-1
+enum_told-1 c = search rules
 
-reply-requires-2 : tie.Need-reply-requires-2
-reply-requires-2 c κs = search rules
+reply-requires-in-Nothing : tie.Need-reply-requires-in-Nothing
+reply-requires-in-Nothing c κs = search rules
 
-same_length : tie.Need-same-length
-same_length c = search rules
+shape_of-nodes-in-Found : tie.Need-shape_of-nodes-in-Found
+shape_of-nodes-in-Found c = search rules
 
-same_length_2 : tie.Need-same-length-2
-same_length_2 c = search rules
+shape_of-members-in-Found : tie.Need-shape_of-members-in-Found
+shape_of-members-in-Found c = search rules
 
-returns : tie.Need-returns
-returns c =
-    let f = c.before.before.before.before in
+returns-in-Found : tie.Need-returns-in-Found
+returns-in-Found c =
     let e = c.reply.ensures in
-    (ap (λ (r : Reply). r.answer) e ∙ sym (begun_refused _ _ _ (sym (found f) ∙ c.before.before.why.given.1)), left f.before.before.before _ _ e)
+    (ap (λ (r : Reply). r.answer) e ∙ sym (begun_refused _ _ _ (sym (found c.before.before) ∙ c.in-Found.is)), left c.before.before.before _ _ e)
 
-same_length_3 : tie.Need-same-length-3
-same_length_3 c = search rules
+shape_of-nodes-in-Nothing : tie.Need-shape_of-nodes-in-Nothing
+shape_of-nodes-in-Nothing c = search rules
 
-same-length-4 : tie.Need-same-length-4
-same-length-4 c = search rules
+shape_of-members-in-Nothing : tie.Need-shape_of-members-in-Nothing
+shape_of-members-in-Nothing c = search rules
 
-returns_2 : tie.Need-returns-2
-returns_2 c =
-    let f = c.before.before.before in
-    let e = c.reply2.ensures in
-    (ap (λ (r : Reply). r.answer) e ∙ sym (begun_answer _ (sym (found f) ∙ c.before.enum_told.given.1)), left f.before.before.before _ _ e)
+returns-in-Nothing : tie.Need-returns-in-Nothing
+returns-in-Nothing c =
+    let e = c.reply-in-Nothing.ensures in
+    (ap (λ (r : Reply). r.answer) e ∙ sym (begun_answer _ (sym (found c.before.before) ∙ c.in-Nothing.is)), left c.before.before.before _ _ e)
 
 pub begin_spec : {M : Type 1} → statement M
 begin_spec =
     tie.close
     (tie.spec
     hold-requires
-    holding-requires
+    holding-none-requires
     held-requires
-    enum-known-why
+    enum_known-why
     reply-requires
-    enum_told
-    reply-requires-2
-    same_length
-    same_length_2
-    returns
-    same_length_3
-    same-length-4
-    returns_2)
+    enum_told-1
+    reply-requires-in-Nothing
+    shape_of-nodes-in-Found
+    shape_of-members-in-Found
+    returns-in-Found
+    shape_of-nodes-in-Nothing
+    shape_of-members-in-Nothing
+    returns-in-Nothing)

@@ -9,13 +9,13 @@ use Rattle.grow.proofs.place_of.Tie as tie
 number-requires : tie.Need-number-requires
 number-requires c κs = search rules
 
-returns : tie.Need-returns
+returns-then-number-eq17 : tie.Need-returns-then-number-eq17
 unfolding placed
-returns c = sym (if_true _ _ _ (eq-eqb _ 17 (sym c.before.number.ensures ∙ c.if1.true)))
+returns-then-number-eq17 c = sym (if_true _ _ _ (eq-eqb _ 17 (sym c.number.ensures ∙ c.if-number-eq17.true)))
 
-returns_2 : tie.Need-returns-2
+returns-else-number-eq17 : tie.Need-returns-else-number-eq17
 unfolding placed
-returns_2 c = sym (if_false _ _ _ (ne_eqb _ 17 (λ e. c.if1.false (c.before.number.ensures ∙ e))))
+returns-else-number-eq17 c = sym (if_false _ _ _ (ne_eqb _ 17 (λ e. c.if-number-eq17.false (c.number.ensures ∙ e))))
 
 pub place_of_spec : {M : Type 1} → statement M
-place_of_spec = tie.close (tie.spec number-requires returns returns_2)
+place_of_spec = tie.close (tie.spec number-requires returns-then-number-eq17 returns-else-number-eq17)

@@ -33,71 +33,69 @@ here c = let a = c.args in lent a.schema.now a.proof.now a.nodes.now a.members.n
 abbrev with_reply : tie.Start → List ℤ → List ℤ → Reply → Tableau
 with_reply c nodes members r = let a = c.args in lent a.schema.now a.proof.now nodes members (header_after a.h r)
 
-turn-away-requires : tie.Need-turn-away-requires
-turn-away-requires c κs = search rules
+turn_away-requires : tie.Need-turn_away-requires
+turn_away-requires c κs = search rules
 
-same_length : tie.Need-same-length
-same_length c = search rules
+shape_of-nodes-then-n-eq0 : tie.Need-shape_of-nodes-then-n-eq0
+shape_of-nodes-then-n-eq0 c = search rules
 
-same_length_2 : tie.Need-same-length-2
-same_length_2 c = search rules
+shape_of-members-then-n-eq0 : tie.Need-shape_of-members-then-n-eq0
+shape_of-members-then-n-eq0 c = search rules
 
 -- there is no row
-returns : tie.Need-returns
-returns c =
-    let t = c.before.before.before in
-    let b = t.before in
-    let e = no_row (here b) t.if1.true in (
-      ap (λ (r : Reply). r.answer) c.turn-away.ensures ∙ turned_answer (here b) NoRow Whole take_back e,
-      ap (with_reply b _ _) c.turn-away.ensures ∙ sym (turned_left (here b) NoRow Whole take_back e),
+returns-then-n-eq0 : tie.Need-returns-then-n-eq0
+returns-then-n-eq0 c =
+    let e = no_row (here c.before.before) c.if-n-eq0.true in (
+      ap (λ (r : Reply). r.answer) c.turn_away.ensures ∙ turned_answer (here c.before.before) NoRow Whole take_back e,
+      ap (with_reply c.before.before _ _) c.turn_away.ensures ∙ sym (turned_left (here c.before.before) NoRow Whole take_back e),
     )
 
 held-requires : tie.Need-held-requires
 held-requires c κs = search rules
 
-enum-known-why : tie.Need-enum-known-why
-enum-known-why c = search rules
+enum_known-why : tie.Need-enum_known-why
+enum_known-why c = search rules
 
 reply-requires : tie.Need-reply-requires
 reply-requires c κs = search rules
 
-enum_told : tie.Need-enum-told
-enum_told c = search rules
+enum_told-1 : tie.Need-enum_told-1
+enum_told-1 c = search rules
 
 -- where the rows held have passed
-abbrev begun : tie.After-enum-told → tie.Start
-begun c = c.before.before.before.before.before.before
+abbrev begun : tie.In-Nothing → tie.Start
+begun c = c.before.before.before
 
-nothing : (c : tie.After-enum-told) → refusal held_mode (here (begun c)) ≡ Nothing
-nothing c = sym c.before.before.held.ensures ∙ c.enum_told.given.1
+nothing : (c : tie.In-Nothing) → refusal held_mode (here (begun c)) ≡ Nothing
+nothing c = sym c.held.ensures ∙ c.in-Nothing.is
 
-holds : (c : tie.After-enum-told) → Holds (here (begun c))
+holds : (c : tie.In-Nothing) → Holds (here (begun c))
 holds c = (held_clears (here (begun c))).0 (nothing c)
 
-some_row : (c : tie.After-enum-told) → 0 < (here (begun c)).node_rows
-some_row c = omega (arith, c.before.before.before.before.before.if1.false)
+some_row : (c : tie.In-Nothing) → 0 < (here (begun c)).node_rows
+some_row c = omega (arith, c.if-n-eq0.false)
 
-sub-natural-of : tie.Need-overflow-sub-natural-of
-sub-natural-of c = search rules
+overflow_sub-n : tie.Need-overflow_sub-n
+overflow_sub-n c = search rules
 
-natural-of-requires : tie.Need-natural-of-requires
-natural-of-requires c κs = (omega (arith, (holds c.before).tables.node_limit), omega arith)
+natural_of-start-requires : tie.Need-natural_of-start-requires
+natural_of-start-requires c κs = (omega (arith, (holds c).tables.node_limit), omega arith)
 
-sub-holding : tie.Need-overflow-sub-holding
-sub-holding c = search rules
+overflow_sub-n-in-Nothing : tie.Need-overflow_sub-n-in-Nothing
+overflow_sub-n-in-Nothing c = search rules
 
 holding-requires : tie.Need-holding-requires
 holding-requires c κs = search rules
 
 -- the numbers of the rows without the last
-abbrev told : tie.After-holding → tie.After-enum-told
-told c = c.before.before.before.before.before
+abbrev told : tie.After-holding → tie.In-Nothing
+told c = c.before.before.before.before
 
 fewer : (c : tie.After-holding) → c.holding.result ≡ header_of (shortened (here (begun (told c))))
 unfolding shortened holding
 fewer c =
     let a = (begun (told c)).args in
-    c.holding.ensures ∙ ap (holding_in a.h (a.h.node_rows - 1)) c.before.before.before.natural-of.ensures.0
+    c.holding.ensures ∙ ap (holding_in a.h (a.h.node_rows - 1)) c.natural_of-start.ensures.0
 
 settle-requires : tie.Need-settle-requires
 unfolding shortened holding node
@@ -113,43 +111,39 @@ settle-requires c κs =
       countable (shortened T) (holds_shortened T H (some_row e)),
     )
 
-same_length_3 : tie.Need-same-length-3
-same_length_3 c = search rules
+shape_of-nodes-in-Found : tie.Need-shape_of-nodes-in-Found
+shape_of-nodes-in-Found c = search rules
 
-same-length-4 : tie.Need-same-length-4
-same-length-4 c = search rules
+shape_of-members-in-Found : tie.Need-shape_of-members-in-Found
+shape_of-members-in-Found c = search rules
 
 -- they are refused
-returns_2 : tie.Need-returns-2
-returns_2 c =
-    let f = c.before.before.before.before in
-    let b = f.before.before.before.before in
-    let h = sym f.held.ensures ∙ c.before.before.why.given.1 in
-    let e = back_refused (here b) _ _ h in (
-      ap (λ (r : Reply). r.answer) c.reply.ensures ∙ refused_answer (here b) take_back _ _ h e,
-      ap (with_reply b _ _) c.reply.ensures ∙ sym (refused_leaves (here b) take_back _ _ e),
+returns-in-Found : tie.Need-returns-in-Found
+returns-in-Found c =
+    let h = sym c.held.ensures ∙ c.in-Found.is in
+    let e = back_refused (here c.before.before.before.before) _ _ h in (
+      ap (λ (r : Reply). r.answer) c.reply.ensures ∙ refused_answer (here c.before.before.before.before) take_back _ _ h e,
+      ap (with_reply c.before.before.before.before _ _) c.reply.ensures ∙ sym (refused_leaves (here c.before.before.before.before) take_back _ _ e),
     )
 
-same-length-5 : tie.Need-same-length-5
-same-length-5 c = search rules
+shape_of-nodes-in-Nothing : tie.Need-shape_of-nodes-in-Nothing
+shape_of-nodes-in-Nothing c = search rules
 
-same-length-6 : tie.Need-same-length-6
-same-length-6 c = search rules
+shape_of-members-in-Nothing : tie.Need-shape_of-members-in-Nothing
+shape_of-members-in-Nothing c = search rules
 
-returns_3 : tie.Need-returns-3
+returns-in-Nothing : tie.Need-returns-in-Nothing
 unfolding changed shortened holding
-returns_3 c =
-    let s = c.before.before in
-    let k = s.before in
-    let b = begun (told k) in
+returns-in-Nothing c =
+    let b = begun (told c.before.before.before) in
     let a = b.args in
     let T = here b in
-    let M = fewer k in
-    let ok = back_accepted T (nothing (told k)) (some_row (told k)) in
-    let nodes = s.settle.ensures.1.0 ∙ ap (λ (h : Header). padded (pos 0) (length T.nodes) (take (9 * h.node_rows) T.nodes)) M in
-    let members = s.settle.ensures.1.1 ∙ ap (λ (h : Header). padded (pos 0) (length T.members) (take h.member_count T.members)) M in (
-      ap (λ (r : Reply). r.answer) s.settle.ensures.0 ∙ (λ i. shown (nodes i) (M i).node_rows) ∙ accepted_answer T take_back ok,
-      ap (with_reply b _ _) s.settle.ensures.0
+    let M = fewer c.before.before.before in
+    let ok = back_accepted T (nothing (told c.before.before.before)) (some_row (told c.before.before.before)) in
+    let nodes = c.settle.ensures.1.0 ∙ ap (λ (h : Header). padded (pos 0) (length T.nodes) (take (9 * h.node_rows) T.nodes)) M in
+    let members = c.settle.ensures.1.1 ∙ ap (λ (h : Header). padded (pos 0) (length T.members) (take h.member_count T.members)) M in (
+      ap (λ (r : Reply). r.answer) c.settle.ensures.0 ∙ (λ i. shown (nodes i) (M i).node_rows) ∙ accepted_answer T take_back ok,
+      ap (with_reply b _ _) c.settle.ensures.0
           ∙ (λ i. lent a.schema.now a.proof.now (nodes i) (members i) (holding_in a.h (M i).node_rows (M i).member_count))
           ∙ sym (accepted_left T take_back ok),
     )
@@ -158,22 +152,22 @@ pub take_back_spec : {M : Type 1} → statement M
 take_back_spec =
     tie.close
     (tie.spec
-    turn-away-requires
-    same_length
-    same_length_2
-    returns
+    turn_away-requires
+    shape_of-nodes-then-n-eq0
+    shape_of-members-then-n-eq0
+    returns-then-n-eq0
     held-requires
-    enum-known-why
+    enum_known-why
     reply-requires
-    enum_told
-    sub-natural-of
-    natural-of-requires
-    sub-holding
+    enum_told-1
+    overflow_sub-n
+    natural_of-start-requires
+    overflow_sub-n-in-Nothing
     holding-requires
     settle-requires
-    same_length_3
-    same-length-4
-    returns_2
-    same-length-5
-    same-length-6
-    returns_3)
+    shape_of-nodes-in-Found
+    shape_of-members-in-Found
+    returns-in-Found
+    shape_of-nodes-in-Nothing
+    shape_of-members-in-Nothing
+    returns-in-Nothing)

@@ -18,41 +18,38 @@ here c = let a = c.args in lent a.schema.now a.proof.now a.nodes.now a.members.n
 held-requires : tie.Need-held-requires
 held-requires c κs = search rules
 
-enum-known-w : tie.Need-enum-known-w
-enum-known-w c = search rules
+enum_known-w : tie.Need-enum_known-w
+enum_known-w c = search rules
 
 reply-requires : tie.Need-reply-requires
 reply-requires c κs = search rules
 
-enum_told : tie.Need-enum-told
-enum_told c = search rules
+enum_told-1 : tie.Need-enum_told-1
+enum_told-1 c = search rules
 
 -- the rows held have passed
-passes : (c : tie.After-enum-told) → refusal held_mode (here c.before.before.before) ≡ Nothing
-passes c = sym c.before.before.held.ensures ∙ c.enum_told.given.1
+passes : (c : tie.In-Nothing) → refusal held_mode (here c.before.before) ≡ Nothing
+passes c = sym c.held.ensures ∙ c.in-Nothing.is
 
-complete-requires : tie.Need-complete-requires
-complete-requires c κs = let T = here c.before.before.before in countable T ((held_clears T).0 (passes c))
+complete-closed-requires : tie.Need-complete-closed-requires
+complete-closed-requires c κs = let T = here c.before.before in countable T ((held_clears T).0 (passes c))
 
-reply-requires-2 : tie.Need-reply-requires-2
-reply-requires-2 c κs = search rules
+reply-requires-in-Nothing : tie.Need-reply-requires-in-Nothing
+reply-requires-in-Nothing c κs = search rules
 
-returns : tie.Need-returns
-returns c =
-    let f = c.before.before.before.before in
-    let a = f.before.args in
+returns-in-Found : tie.Need-returns-in-Found
+returns-in-Found c =
+    let a = c.args in
     c.reply.ensures
-    ∙ ap (reply_of a.h) (refused_turned (here f.before) a.why a.place _ _ (sym f.held.ensures ∙ c.before.before.w.given.1))
+    ∙ ap (reply_of a.h) (refused_turned (here c.before.before.before) a.why a.place _ _ (sym c.held.ensures ∙ c.in-Found.is))
 
-returns_2 : tie.Need-returns-2
-returns_2 c =
-    let e = c.before.before in
-    let b = e.before.before.before in
-    let a = b.args in
-    c.reply2.ensures
-    ∙ ap (reply_of a.h) (ap (GrowthRefused a.why a.place) c.before.complete.ensures ∙ passed_turned (here b) a.why a.place (passes e))
+returns-in-Nothing : tie.Need-returns-in-Nothing
+returns-in-Nothing c =
+    let a = c.args in
+    c.reply-in-Nothing.ensures
+    ∙ ap (reply_of a.h) (ap (GrowthRefused a.why a.place) c.complete-closed.ensures ∙ passed_turned (here c.before.before.before.before) a.why a.place (passes c.before.before))
 
 pub turn_away_spec : {M : Type 1} → statement M
 turn_away_spec =
     tie.close
-    (tie.spec held-requires enum-known-w reply-requires enum_told complete-requires reply-requires-2 returns returns_2)
+    (tie.spec held-requires enum_known-w reply-requires enum_told-1 complete-closed-requires reply-requires-in-Nothing returns-in-Found returns-in-Nothing)

@@ -16,116 +16,97 @@ use Rattle.jointnodes.proofs.fill_nodes.Statement.{statement}
 use Rattle.jointnodes.proofs.fill_nodes.Tie as tie
 
 -- where all nodes are put
-abbrev start : tie.After-each-node2 → tie.Start
+abbrev start : tie.After-each_node-n → tie.Start
 start c = c.before.before.before.before.before.before.before.before.before.before.before.before.before.before.before
 
-node_lengths : (c : tie.After-each-node2) → length c.each-node2.new.1.1.1.1.1.1.0 ≡ length (start c).args.out-nodes.now
+node_lengths : (c : tie.After-each_node-n) → length c.each_node-n.new.out_nodes ≡ length (start c).args.out_nodes.now
 node_lengths c =
-    let d = c.before.before.before.before.before in
-    let f = d.before.before.before.before.before in
-    c.each-node2.auto.1.1.1.1.1.1.0 ∙ d.each-node.auto.1.1.1.1.1.1.0 ∙ f.put_first.auto.1.0
+    c.each_node-n.auto.out_nodes ∙ c.each_node-m.auto.out_nodes ∙ c.put_first.auto.out_nodes
 
-member_lengths : (c : tie.After-each-node2) → length c.each-node2.new.1.1.1.1.1.1.1.0 ≡ length (start c).args.out-members.now
+member_lengths : (c : tie.After-each_node-n) → length c.each_node-n.new.out_members ≡ length (start c).args.out_members.now
 member_lengths c =
-    let d = c.before.before.before.before.before in
-    let f = d.before.before.before.before.before in
-    c.each-node2.auto.1.1.1.1.1.1.1.0 ∙ d.each-node.auto.1.1.1.1.1.1.1.0 ∙ f.put_first.auto.1.1.0
+    c.each_node-n.auto.out_members ∙ c.each_node-m.auto.out_members ∙ c.put_first.auto.out_members
 
-counted : (c : tie.After-each-node2) →
+counted : (c : tie.After-each_node-n) →
     let a = (start c).args in
-    c.each-node2.result ≡ length (both_sets a.or-row a.first-nodes.now a.first-members.now (new_number 0 a.first-numbers.now) a.first-node-rows a.second-nodes.now a.second-members.now (new_number 0 a.second-numbers.now) a.second-node-rows)
+    c.each_node-n.result ≡ length (both_sets a.or_row a.first_nodes.now a.first_members.now (new_number 0 a.first_numbers.now) a.first_node_rows a.second_nodes.now a.second_members.now (new_number 0 a.second_numbers.now) a.second_node_rows)
 counted c =
     let a = (start c).args in
-    let d = c.before.before.before.before.before in
-    both_counted a.or-row a.first-nodes.now a.first-members.now (new_number 0 a.first-numbers.now) a.first-node-rows a.second-nodes.now a.second-members.now (new_number 0 a.second-numbers.now) a.second-node-rows _ _ _ _ _ _ _ _ d.each-node.ensures.0 c.each-node2.ensures.0
+    both_counted a.or_row a.first_nodes.now a.first_members.now (new_number 0 a.first_numbers.now) a.first_node_rows a.second_nodes.now a.second_members.now (new_number 0 a.second_numbers.now) a.second_node_rows _ _ _ _ _ _ _ _ c.each_node-m.ensures.0 c.each_node-n.ensures.0
 
-put-first-requires : tie.Need-put-first-requires
-put-first-requires c κs = search rules
+put_first-requires : tie.Need-put_first-requires
+put_first-requires c κs = search rules
 
-each-node-requires : tie.Need-each-node-requires
-each-node-requires c κs =
-    let f = c.before.before.before.before in
-    let b = f.before.before.before.before.before in
-    ((omega (arith, b.requires.0.1), omega arith, omega (arith, f.put_first.auto.1.0, b.requires.0.2), omega (arith, f.put_first.auto.1.1.0, b.requires.0.3), b.requires.0.4), b.requires.1.0)
+each_node-m-requires : tie.Need-each_node-m-requires
+each_node-m-requires c κs =
+    ((omega (arith, c.requires.0.1), omega arith, omega (arith, c.put_first.auto.out_nodes, c.requires.0.2), omega (arith, c.put_first.auto.out_members, c.requires.0.3), c.requires.0.4), c.requires.1.0)
 
-add-d : tie.Need-overflow-add-d
-add-d c = search rules
+overflow_add-d : tie.Need-overflow_add-d
+overflow_add-d c = search rules
 
-each-node-requires-2 : tie.Need-each-node-requires-2
-each-node-requires-2 c κs =
-    let e = c.before.before.before.before in
-    let f = e.before.before.before.before.before in
-    let b = f.before.before.before.before.before in
-    let same = e.each-node.auto.1.1.1.1.1.1 in
-    ((omega (arith, b.requires.0.1), e.each-node.ensures.1, omega (arith, same.0, f.put_first.auto.1.0, b.requires.0.2), omega (arith, same.1.0, f.put_first.auto.1.1.0, b.requires.0.3), b.requires.0.5), b.requires.1.1)
+each_node-n-requires : tie.Need-each_node-n-requires
+each_node-n-requires c κs =
+    let same = c.each_node-m.auto in
+    ((omega (arith, c.requires.0.1), c.each_node-m.ensures.1, omega (arith, same.out_nodes, c.put_first.auto.out_nodes, c.requires.0.2), omega (arith, same.out_members, c.put_first.auto.out_members, c.requires.0.3), c.requires.0.5), c.requires.1.1)
 
-add-clear : tie.Need-overflow-add-clear
-add-clear c = search rules
+overflow_add-d-then-n-le8192 : tie.Need-overflow_add-d-then-n-le8192
+overflow_add-d-then-n-le8192 c = search rules
 
-mul-clear : tie.Need-overflow-mul-clear
-mul-clear c = search rules
+overflow_mul-d : tie.Need-overflow_mul-d
+overflow_mul-d c = search rules
 
 clear-requires : tie.Need-clear-requires
 clear-requires c κs = search rules
 
-clear-requires-2 : tie.Need-clear-requires-2
-clear-requires-2 c κs = search rules
+clear-requires-then-n-le8192 : tie.Need-clear-requires-then-n-le8192
+clear-requires-then-n-le8192 c κs = search rules
 
-clear-requires-3 : tie.Need-clear-requires-3
-clear-requires-3 c κs = search rules
+clear-requires-else-n-le8192 : tie.Need-clear-requires-else-n-le8192
+clear-requires-else-n-le8192 c κs = search rules
 
-clear-requires-4 : tie.Need-clear-requires-4
-clear-requires-4 c κs = search rules
+clear-requires-else-n-le8192-2 : tie.Need-clear-requires-else-n-le8192-2
+clear-requires-else-n-le8192-2 c κs = search rules
 
-same_length : tie.Need-same-length
-same_length c = search rules
+shape_of-out_nodes-then-n-le8192 : tie.Need-shape_of-out_nodes-then-n-le8192
+shape_of-out_nodes-then-n-le8192 c = search rules
 
-same_length_2 : tie.Need-same-length-2
-same_length_2 c = search rules
+shape_of-out_members-then-n-le8192 : tie.Need-shape_of-out_members-then-n-le8192
+shape_of-out_members-then-n-le8192 c = search rules
 
-returns : tie.Need-returns
-returns c =
-    let w = c.before in
-    let y = w.before.before.before in
-    let i = y.before.before in
-    let e = i.before.before.before in
-    let h = i.if1.true in
-    let q = node_lengths e in
-    let b = start e in
+returns-then-n-le8192 : tie.Need-returns-then-n-le8192
+returns-then-n-le8192 c =
+    let h = c.if-n-le8192.true in
+    let q = node_lengths c.before.before.before.before.before.before.before.before.before in
+    let b = start c.before.before.before.before.before.before.before.before.before in
     let a = b.args in
-    let d = e.before.before.before.before.before in
-    let f = d.before.before.before.before.before in (
-      counted e,
+    (
+      counted c.before.before.before.before.before.before.before.before.before,
       (
-        y.clear.ensures
-            ∙ cleared_padded _ (9 * (1 + a.first-node-rows + a.second-node-rows)) (length a.out-nodes.now) (omega (arith, b.pre.0.1, b.pre.0.2, q)) q
-            ∙ ap (padded (pos 0) (length a.out-nodes.now))
-            (both_rows_lem a.or-row a.first-nodes.now a.first-members.now (new_number 0 a.first-numbers.now) a.first-node-rows a.second-nodes.now a.second-members.now (new_number 0 a.second-numbers.now) a.second-node-rows _ _ _ _ _ _ _ _ d.each-node.ensures.0 e.each-node2.ensures.0 h f.put_first.ensures.0 ∙ sym (if_true _ _ [] (le-leb _ 8192 h))),
-        w.clear2.ensures
-            ∙ cleared_padded _ e.each-node2.result (length a.out-members.now) (omega (arith, h, b.pre.0.3, member_lengths e)) (member_lengths e)
-            ∙ ap (padded (pos 0) (length a.out-members.now))
-            (both_sets_lem a.or-row a.first-nodes.now a.first-members.now (new_number 0 a.first-numbers.now) a.first-node-rows a.second-nodes.now a.second-members.now (new_number 0 a.second-numbers.now) a.second-node-rows _ _ _ _ _ _ _ _ d.each-node.ensures.0 e.each-node2.ensures.0 h f.put_first.ensures.1 ∙ sym (if_true _ _ [] (le-leb _ 8192 h))),
+        c.clear.ensures
+            ∙ cleared_padded _ (9 * (1 + a.first_node_rows + a.second_node_rows)) (length a.out_nodes.now) (omega (arith, b.requires.0.1, b.requires.0.2, q)) q
+            ∙ ap (padded (pos 0) (length a.out_nodes.now))
+            (both_rows_lem a.or_row a.first_nodes.now a.first_members.now (new_number 0 a.first_numbers.now) a.first_node_rows a.second_nodes.now a.second_members.now (new_number 0 a.second_numbers.now) a.second_node_rows _ _ _ _ _ _ _ _ c.each_node-m.ensures.0 c.each_node-n.ensures.0 h c.put_first.ensures.0 ∙ sym (if_true _ _ [] (le-leb _ 8192 h))),
+        c.clear-then-n-le8192.ensures
+            ∙ cleared_padded _ c.each_node-n.result (length a.out_members.now) (omega (arith, h, b.requires.0.3, member_lengths c.before.before.before.before.before.before.before.before.before)) (member_lengths c.before.before.before.before.before.before.before.before.before)
+            ∙ ap (padded (pos 0) (length a.out_members.now))
+            (both_sets_lem a.or_row a.first_nodes.now a.first_members.now (new_number 0 a.first_numbers.now) a.first_node_rows a.second_nodes.now a.second_members.now (new_number 0 a.second_numbers.now) a.second_node_rows _ _ _ _ _ _ _ _ c.each_node-m.ensures.0 c.each_node-n.ensures.0 h c.put_first.ensures.1 ∙ sym (if_true _ _ [] (le-leb _ 8192 h))),
       ),
     )
 
-same_length_3 : tie.Need-same-length-3
-same_length_3 c = search rules
+shape_of-out_nodes-else-n-le8192 : tie.Need-shape_of-out_nodes-else-n-le8192
+shape_of-out_nodes-else-n-le8192 c = search rules
 
-same-length-4 : tie.Need-same-length-4
-same-length-4 c = search rules
+shape_of-out_members-else-n-le8192 : tie.Need-shape_of-out_members-else-n-le8192
+shape_of-out_members-else-n-le8192 c = search rules
 
-returns_2 : tie.Need-returns-2
-returns_2 c =
-    let w = c.before in
-    let y = w.before.before.before in
-    let i = y.before.before in
-    let e = i.before.before.before in
-    let a = (start e).args in
-    let many = lt-leb _ 8192 i.if1.false in (
-      counted e,
+returns-else-n-le8192 : tie.Need-returns-else-n-le8192
+returns-else-n-le8192 c =
+    let a = (start c.before.before.before.before.before.before.before.before.before).args in
+    let many = lt-leb _ 8192 c.if-n-le8192.false in (
+      counted c.before.before.before.before.before.before.before.before.before,
       (
-        y.clear3.ensures ∙ cleared_padded _ 0 (length a.out-nodes.now) (omega arith) (node_lengths e) ∙ ap (padded (pos 0) (length a.out-nodes.now)) (sym (if_false _ _ [] many)),
-        w.clear4.ensures ∙ cleared_padded _ 0 (length a.out-members.now) (omega arith) (member_lengths e) ∙ ap (padded (pos 0) (length a.out-members.now)) (sym (if_false _ _ [] many)),
+        c.clear-else-n-le8192.ensures ∙ cleared_padded _ 0 (length a.out_nodes.now) (omega arith) (node_lengths c.before.before.before.before.before.before.before.before.before) ∙ ap (padded (pos 0) (length a.out_nodes.now)) (sym (if_false _ _ [] many)),
+        c.clear-else-n-le8192-2.ensures ∙ cleared_padded _ 0 (length a.out_members.now) (omega arith) (member_lengths c.before.before.before.before.before.before.before.before.before) ∙ ap (padded (pos 0) (length a.out_members.now)) (sym (if_false _ _ [] many)),
       ),
     )
 
@@ -133,19 +114,19 @@ pub fill_nodes_spec : {M : Type 1} → statement M
 fill_nodes_spec =
     tie.close
     (tie.spec
-    put-first-requires
-    each-node-requires
-    add-d
-    each-node-requires-2
-    add-clear
-    mul-clear
+    put_first-requires
+    each_node-m-requires
+    overflow_add-d
+    each_node-n-requires
+    overflow_add-d-then-n-le8192
+    overflow_mul-d
     clear-requires
-    clear-requires-2
-    clear-requires-3
-    clear-requires-4
-    same_length
-    same_length_2
-    returns
-    same_length_3
-    same-length-4
-    returns_2)
+    clear-requires-then-n-le8192
+    clear-requires-else-n-le8192
+    clear-requires-else-n-le8192-2
+    shape_of-out_nodes-then-n-le8192
+    shape_of-out_members-then-n-le8192
+    returns-then-n-le8192
+    shape_of-out_nodes-else-n-le8192
+    shape_of-out_members-else-n-le8192
+    returns-else-n-le8192)

@@ -10,33 +10,31 @@ use Rattle.growing.specs.Complete.{complete}
 use Rattle.grow.proofs.children.complete.Statement.{statement}
 use Rattle.grow.proofs.children.complete.Tie as tie
 
+returns-then-h-eq0 : tie.Need-returns-then-h-eq0
+unfolding complete
+returns-then-h-eq0 c = sym (and_first_false _ _ (le-ltb 0 c.args.h.node_rows (omega arith)))
+
+slice_bounds-work_out-end : tie.Need-slice_bounds-work_out-end
+slice_bounds-work_out-end c = search rules
+
+work_out-requires : tie.Need-work_out-requires
+work_out-requires c κs =
+    let k = c.requires in
+    (k.few, omega (arith, k.few), ap (within (pos 0) (pos 9999)) (read_back c.args.h.least c.struct_told-1.given.1.1.1.0.1) ∙ k.least_fits, k.parents)
+
+slice_bounds-all_fit-end : tie.Need-slice_bounds-all_fit-end
+slice_bounds-all_fit-end c = search rules
+
+all_fit-requires : tie.Need-all_fit-requires
+all_fit-requires c κs =
+    let k = c.requires in
+    ((k.few, k.rules), λ j l. (c.work_out.ensures.0 j l).children)
+
 returns : tie.Need-returns
 unfolding complete
-returns c = sym (and_first_false _ _ (le-ltb 0 c.before.before.args.h.node_rows (omega arith)))
-
-slice-aggregate-work-out : tie.Need-slice-aggregate-work-out
-slice-aggregate-work-out c = search rules
-
-work-out-requires : tie.Need-work-out-requires
-work-out-requires c κs =
-    let b = c.before.before.before.before in
-    let k = b.requires in
-    (k.few, omega (arith, k.few), ap (within (pos 0) (pos 9999)) (read_back b.args.h.least c.struct_told.given.1.1.1.0.1) ∙ k.least_fits, k.parents)
-
-slice-aggregate-all-fit : tie.Need-slice-aggregate-all-fit
-slice-aggregate-all-fit c = search rules
-
-all-fit-requires : tie.Need-all-fit-requires
-all-fit-requires c κs =
-    let k = c.before.before.before.before.before.before.before.requires in
-    ((k.few, k.rules), λ j l. (c.before.before.work-out.ensures.0 j l).children)
-
-returns_2 : tie.Need-returns-2
-unfolding complete
-returns_2 c =
-    let e = c.before.before.before.before.before.before in
-    c.all_fit.ensures ∙ sym (and_first_true _ _ (lt-ltb 0 e.before.before.args.h.node_rows (omega (arith, e.if1.false))))
+returns c =
+    c.all_fit.ensures ∙ sym (and_first_true _ _ (lt-ltb 0 c.args.h.node_rows (omega (arith, c.if-h-eq0.false))))
 
 pub complete_spec : {M : Type 1} → statement M
 complete_spec =
-    tie.close (tie.spec returns slice-aggregate-work-out work-out-requires slice-aggregate-all-fit all-fit-requires returns_2)
+    tie.close (tie.spec returns-then-h-eq0 slice_bounds-work_out-end work_out-requires slice_bounds-all_fit-end all_fit-requires returns)

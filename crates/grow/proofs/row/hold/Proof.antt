@@ -6,8 +6,8 @@ use Rattle.signed.proofs.Tables.{cleared_padded}
 use Rattle.grow.proofs.row.hold.Statement.{statement}
 use Rattle.grow.proofs.row.hold.Tie as tie
 
-mul-clear : tie.Need-overflow-mul-clear
-mul-clear c = search rules
+overflow_mul-k : tie.Need-overflow_mul-k
+overflow_mul-k c = search rules
 
 clear-requires : tie.Need-clear-requires
 clear-requires c κs = search rules
@@ -15,22 +15,20 @@ clear-requires c κs = search rules
 clear-requires-2 : tie.Need-clear-requires-2
 clear-requires-2 c κs = search rules
 
-same_length : tie.Need-same-length
-same_length c = search rules
+shape_of-nodes : tie.Need-shape_of-nodes
+shape_of-nodes c = search rules
 
-same_length_2 : tie.Need-same-length-2
-same_length_2 c = search rules
+shape_of-members : tie.Need-shape_of-members
+shape_of-members c = search rules
 
 returns : tie.Need-returns
 returns c =
-    let q = c.before in
-    let p = q.before.before.before in
-    let b = p.before.before in (
-      p.clear.ensures ∙ cleared_padded b.args.nodes.now (9 * b.args.k) (length b.args.nodes.now) b.requires.1 refl,
-      q.clear2.ensures ∙ cleared_padded b.args.members.now b.args.m (length b.args.members.now) b.requires.2 refl,
+    (
+      c.clear.ensures ∙ cleared_padded c.args.nodes.now (9 * c.args.k) (length c.args.nodes.now) c.requires.1 refl,
+      c.clear-2.ensures ∙ cleared_padded c.args.members.now c.args.m (length c.args.members.now) c.requires.2 refl,
     )
 
 pub hold_spec : {M : Type 1} → statement M
 hold_spec =
     tie.close
-    (tie.spec mul-clear clear-requires clear-requires-2 same_length same_length_2 returns)
+    (tie.spec overflow_mul-k clear-requires clear-requires-2 shape_of-nodes shape_of-members returns)

@@ -36,49 +36,39 @@ of-requires c κs = search rules
 of-requires-2 : tie.Need-of-requires-2
 of-requires-2 c κs = search rules
 
-mul-lay-numbers : tie.Need-overflow-mul-lay-numbers
-mul-lay-numbers c = search rules
+overflow_mul-n : tie.Need-overflow_mul-n
+overflow_mul-n c = search rules
 
-slice-aggregate-lay-numbers : tie.Need-slice-aggregate-lay-numbers
-slice-aggregate-lay-numbers c = search rules
+slice_bounds-lay_numbers-end : tie.Need-slice_bounds-lay_numbers-end
+slice_bounds-lay_numbers-end c = search rules
 
-lay-numbers-requires : tie.Need-lay-numbers-requires
-lay-numbers-requires c κs = search rules
+lay_numbers-requires : tie.Need-lay_numbers-requires
+lay_numbers-requires c κs = search rules
 
-same_length : tie.Need-same-length
-same_length c = search rules
+shape_of-nodes : tie.Need-shape_of-nodes
+shape_of-nodes c = search rules
 
-same_length_2 : tie.Need-same-length-2
-same_length_2 c = search rules
+shape_of-saved : tie.Need-shape_of-saved
+shape_of-saved c = search rules
 
 returns : tie.Need-returns
 unfolding node_numbers row_from
 returns c =
-    let k = c.before.before in
-    let i = k.before.before.before.before in
-    let h = i.before in
-    let g = h.before in
-    let f = g.before in
-    let e = f.before in
-    let d = e.before in
-    let u = d.before in
-    let v = u.before in
-    let w = v.before in
-    let a = w.before.args in (
-      k.lay-numbers.ensures.0
+    let a = c.args in (
+      c.lay_numbers.ensures.0
           ∙ ap (sets a.nodes.now (9 * a.n))
           (λ x.
-          (read_back _ w.at.type-inv ∙ w.at.ensures) x
-          ∷ (read_back _ v.at2.type-inv ∙ v.at2.ensures) x
-          ∷ (read_back _ u.at3.type-inv ∙ u.at3.ensures) x
-          ∷ (read_back _ d.at4.type-inv ∙ d.at4.ensures) x
-          ∷ (read_back _ e.at5.type-inv ∙ e.at5.ensures) x
-          ∷ (read_back _ f.at6.type-inv ∙ f.at6.ensures) x
-          ∷ (read_back _ g.at7.type-inv ∙ g.at7.ensures) x
-          ∷ (read_back _ h.of.type-inv ∙ h.of.ensures) x
-          ∷ (read_back _ i.of2.type-inv ∙ i.of2.ensures) x
+          (read_back _ c.at.type_inv ∙ c.at.ensures) x
+          ∷ (read_back _ c.at-2.type_inv ∙ c.at-2.ensures) x
+          ∷ (read_back _ c.at-3.type_inv ∙ c.at-3.ensures) x
+          ∷ (read_back _ c.at-4.type_inv ∙ c.at-4.ensures) x
+          ∷ (read_back _ c.at-5.type_inv ∙ c.at-5.ensures) x
+          ∷ (read_back _ c.at-6.type_inv ∙ c.at-6.ensures) x
+          ∷ (read_back _ c.at-7.type_inv ∙ c.at-7.ensures) x
+          ∷ (read_back _ c.of.type_inv ∙ c.of.ensures) x
+          ∷ (read_back _ c.of-2.type_inv ∙ c.of-2.ensures) x
           ∷ []),
-      k.lay-numbers.ensures.1,
+      c.lay_numbers.ensures.1,
     )
 
 pub lay_node_spec : {M : Type 1} → statement M
@@ -94,9 +84,9 @@ lay_node_spec =
     at-requires-7
     of-requires
     of-requires-2
-    mul-lay-numbers
-    slice-aggregate-lay-numbers
-    lay-numbers-requires
-    same_length
-    same_length_2
+    overflow_mul-n
+    slice_bounds-lay_numbers-end
+    lay_numbers-requires
+    shape_of-nodes
+    shape_of-saved
     returns)

@@ -7,20 +7,20 @@ use Rattle.grow.proofs.Lists.{kept_front}
 use Rattle.grow.proofs.row.lay_numbers.Statement.{statement}
 use Rattle.grow.proofs.row.lay_numbers.Tie as tie
 
-add-copy : tie.Need-overflow-add-copy
-add-copy c = search rules
+overflow_add-at : tie.Need-overflow_add-at
+overflow_add-at c = search rules
 
-mul-copy : tie.Need-overflow-mul-copy
-mul-copy c = search rules
+offset_bounds-table-at : tie.Need-offset_bounds-table-at
+offset_bounds-table-at c = search rules
 
-sub-copy : tie.Need-overflow-sub-copy
-sub-copy c = search rules
+slice_bounds-copy-count : tie.Need-slice_bounds-copy-count
+slice_bounds-copy-count c = search rules
 
-part-copy-start : tie.Need-slice-bounds-copy-start
-part-copy-start c = search rules
+slice_bounds-copy-start : tie.Need-slice_bounds-copy-start
+slice_bounds-copy-start c = search rules
 
-part-copy-end : tie.Need-slice-bounds-copy-end
-part-copy-end c = search rules
+slice_bounds-copy-end : tie.Need-slice_bounds-copy-end
+slice_bounds-copy-end c = search rules
 
 copy-requires : tie.Need-copy-requires
 copy-requires c κs = search rules
@@ -28,32 +28,30 @@ copy-requires c κs = search rules
 copy-requires-2 : tie.Need-copy-requires-2
 copy-requires-2 c κs = search rules
 
-same_length : tie.Need-same-length
-same_length c = search rules
+shape_of-table : tie.Need-shape_of-table
+shape_of-table c = search rules
 
-same_length_2 : tie.Need-same-length-2
-same_length_2 c = search rules
+shape_of-saved : tie.Need-shape_of-saved
+shape_of-saved c = search rules
 
 returns : tie.Need-returns
 returns c =
-    let k = c.before.before.before.before in
-    let b = k.before.before.before.before in
-    let n = length b.args.numbers.now in (
-      c.before.copy2.ensures,
-      ap (take n) k.copy.ensures ∙ kept_front b.args.saved.now b.args.table.now b.args.at n (b.args.at + n - b.args.at) (omega arith) b.requires.0 b.requires.1,
+    let n = length c.args.numbers.now in (
+      c.copy-2.ensures,
+      ap (take n) c.copy.ensures ∙ kept_front c.args.saved.now c.args.table.now c.args.at n (c.args.at + n - c.args.at) (omega arith) c.requires.0 c.requires.1,
     )
 
 pub lay_numbers_spec : {M : Type 1} → statement M
 lay_numbers_spec =
     tie.close
     (tie.spec
-    add-copy
-    mul-copy
-    sub-copy
-    part-copy-start
-    part-copy-end
+    overflow_add-at
+    offset_bounds-table-at
+    slice_bounds-copy-count
+    slice_bounds-copy-start
+    slice_bounds-copy-end
     copy-requires
     copy-requires-2
-    same_length
-    same_length_2
+    shape_of-table
+    shape_of-saved
     returns)

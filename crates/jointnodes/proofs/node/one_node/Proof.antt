@@ -17,31 +17,29 @@ use Rattle.jointnodes.proofs.node.one_node.Statement.{statement}
 use Rattle.jointnodes.proofs.node.one_node.Tie as tie
 
 -- where the set is put
-abbrev start : tie.After-put → tie.Start
+abbrev start : tie.After-put-k → tie.Start
 start c = c.before.before.before.before.before
 
 abbrev new : tie.Start → ℕ → ℕ
 new b = new_number 0 b.args.numbers.now
 
-abbrev list : tie.After-put → List ℤ
-list c = c.put.new.1.1.1.1.1.0
+abbrev list : tie.After-put-k → List ℤ
+list c = c.put-k.new.list
 
-same_set : (c : tie.After-put) →
+same_set : (c : tie.After-put-k) →
     let b = start c in
-    let d = c.before.before in
-    tidy_set (new b) (take d.natural-of2.result (drop d.before.natural-of.result b.args.members.now)) ≡ tidy_set (new b) (set_at b.args.nodes.now b.args.members.now b.args.j)
+    tidy_set (new b) (take c.natural_of-size.result (drop c.natural_of-start.result b.args.members.now)) ≡ tidy_set (new b) (set_at b.args.nodes.now b.args.members.now b.args.j)
 unfolding set_at
 same_set c =
     let b = start c in
-    let d = c.before.before in
-    ap₂ (λ (n k : ℕ). tidy_set (new b) (take n (drop k b.args.members.now))) d.natural-of2.ensures.0 d.before.natural-of.ensures.0
+    ap₂ (λ (n k : ℕ). tidy_set (new b) (take n (drop k b.args.members.now))) c.natural_of-size.ensures.0 c.natural_of-start.ensures.0
 
-size : (c : tie.After-put) →
+size : (c : tie.After-put-k) →
     let b = start c in
-    c.put.result ≡ length (tidy_set (new b) (set_at b.args.nodes.now b.args.members.now b.args.j))
-size c = c.put.ensures.0 ∙ ap length (same_set c)
+    c.put-k.result ≡ length (tidy_set (new b) (set_at b.args.nodes.now b.args.members.now b.args.j))
+size c = c.put-k.ensures.0 ∙ ap length (same_set c)
 
-small : (c : tie.After-put) → c.put.result ≤ 1024
+small : (c : tie.After-put-k) → c.put-k.result ≤ 1024
 unfolding set_at
 small c =
     let b = start c in
@@ -51,91 +49,84 @@ small c =
       size c,
       tidy_length (new b) (set_at a.nodes.now a.members.now a.j),
       length-take (nat (node_at a.nodes.now a.j).size) (drop (nat (node_at a.nodes.now a.j).start) a.members.now),
-      b.pre.1.few,
+      b.requires.1.few,
     )
 
-held : (c : tie.After-put) → c.put.result ≤ length (list c)
-held c = omega (arith, small c, c.put.auto.1.1.1.1.1.0)
+held : (c : tie.After-put-k) → c.put-k.result ≤ length (list c)
+held c = omega (arith, small c, c.put-k.auto.list)
 
-natural-of-requires : tie.Need-natural-of-requires
-natural-of-requires c κs = search rules
+natural_of-start-requires : tie.Need-natural_of-start-requires
+natural_of-start-requires c κs = search rules
 
-natural-of-requires-2 : tie.Need-natural-of-requires-2
-natural-of-requires-2 c κs = search rules
+natural_of-size-requires : tie.Need-natural_of-size-requires
+natural_of-size-requires c κs = search rules
 
-slice-aggregate-put : tie.Need-slice-aggregate-put
-slice-aggregate-put c = search rules
+slice_bounds-put-end : tie.Need-slice_bounds-put-end
+slice_bounds-put-end c = search rules
+
+put-k-requires : tie.Need-put-k-requires
+put-k-requires c κs = search rules
+
+overflow_add-r : tie.Need-overflow_add-r
+overflow_add-r c = omega (arith, small c.before, (start c.before).requires.0.1)
+
+slice_bounds-list-end : tie.Need-slice_bounds-list-end
+slice_bounds-list-end c = held c.before.before.before
+
+slice_bounds-copy-end : tie.Need-slice_bounds-copy-end
+slice_bounds-copy-end c = sym (length-take-le c.put-k.result (list c.before.before.before.before) (held c.before.before.before.before))
+
+copy-requires : tie.Need-copy-requires
+copy-requires c κs =
+    omega (arith, length-take-le c.put-k.result (list c.before.before.before.before) (held c.before.before.before.before), c.if-r-le8192.true, (start c.before.before.before.before).requires.0.3)
 
 put-requires : tie.Need-put-requires
 put-requires c κs = search rules
 
-add_r : tie.Need-overflow-add-r
-add_r c = let p = c.before in omega (arith, small p, (start p).requires.0.1)
+shape_of-out_nodes : tie.Need-shape_of-out_nodes
+shape_of-out_nodes c = search rules
 
-array-share-prefix-list : tie.Need-array-share-prefix-list
-array-share-prefix-list c = held c.before.before.before
+shape_of-out_members : tie.Need-shape_of-out_members
+shape_of-out_members c = search rules
 
-slice-aggregate-copy : tie.Need-slice-aggregate-copy
-slice-aggregate-copy c = let p = c.before.before.before.before in sym (length-take-le p.put.result (list p) (held p))
-
-copy-requires : tie.Need-copy-requires
-copy-requires c κs =
-    let i = c.before.before in
-    let p = i.before.before in
-    omega (arith, length-take-le p.put.result (list p) (held p), i.if1.true, (start p).requires.0.3)
-
-put-requires-2 : tie.Need-put-requires-2
-put-requires-2 c κs = search rules
-
-same_length : tie.Need-same-length
-same_length c = search rules
-
-same_length_2 : tie.Need-same-length-2
-same_length_2 c = search rules
-
-returns : tie.Need-returns
-returns c =
-    let w = c.before in
-    let y = w.before.before.before in
-    let i = y.before.before.before in
-    let p = i.before.before in
-    let b = start p in
+returns-then-r-le8192 : tie.Need-returns-then-r-le8192
+returns-then-r-le8192 c =
+    let b = start c.before.before.before.before.before.before.before.before.before in
     let a = b.args in (
       record {
-        counted = ap (λ (k : ℕ). a.n + k) (size p);
-        row = λ h. node_put a.out-nodes.now _ (new b) (node_at a.nodes.now a.j) a.d a.j a.n p.put.result _ w.put2.ensures (omega (arith, b.pre.0.0, b.pre.0.2)) (size p);
-        set = λ h. set_put a.out-members.now _ (list p) _ a.n p.put.result y.copy.ensures (front_set _ _ _ p.put.result p.put.ensures.0 p.put.ensures.1 ∙ same_set p) (size p) (omega (arith, h, b.pre.0.3));
+        counted = ap (λ (k : ℕ). a.n + k) (size c.before.before.before.before.before.before.before.before.before);
+        row = λ h. node_put a.out_nodes.now _ (new b) (node_at a.nodes.now a.j) a.d a.j a.n c.put-k.result _ c.put.ensures (omega (arith, b.requires.0.0, b.requires.0.2)) (size c.before.before.before.before.before.before.before.before.before);
+        set = λ h. set_put a.out_members.now _ (list c.before.before.before.before.before.before.before.before.before) _ a.n c.put-k.result c.copy.ensures (front_set _ _ _ c.put-k.result c.put-k.ensures.0 c.put-k.ensures.1 ∙ same_set c.before.before.before.before.before.before.before.before.before) (size c.before.before.before.before.before.before.before.before.before) (omega (arith, h, b.requires.0.3));
       },
-      omega (arith, small p),
+      omega (arith, small c.before.before.before.before.before.before.before.before.before),
     )
 
-returns_2 : tie.Need-returns-2
-returns_2 c =
-    let p = c.before.before in
-    let b = start p in
+returns-else-r-le8192 : tie.Need-returns-else-r-le8192
+returns-else-r-le8192 c =
+    let b = start c.before.before in
     let a = b.args in (
       record {
-        counted = ap (λ (k : ℕ). a.n + k) (size p);
-        row = λ h. absurd (omega (arith, h, c.if1.false));
-        set = λ h. absurd (omega (arith, h, c.if1.false));
+        counted = ap (λ (k : ℕ). a.n + k) (size c.before.before);
+        row = λ h. absurd (omega (arith, h, c.if-r-le8192.false));
+        set = λ h. absurd (omega (arith, h, c.if-r-le8192.false));
       },
-      omega (arith, small p),
+      omega (arith, small c.before.before),
     )
 
 pub one_node_spec : {M : Type 1} → statement M
 one_node_spec =
     tie.close
     (tie.spec
-    natural-of-requires
-    natural-of-requires-2
-    slice-aggregate-put
-    put-requires
-    add_r
-    array-share-prefix-list
-    slice-aggregate-copy
+    natural_of-start-requires
+    natural_of-size-requires
+    slice_bounds-put-end
+    put-k-requires
+    overflow_add-r
+    slice_bounds-list-end
+    slice_bounds-copy-end
     copy-requires
-    put-requires-2
-    same_length
-    same_length_2
-    returns
-    returns_2)
+    put-requires
+    shape_of-out_nodes
+    shape_of-out_members
+    returns-then-r-le8192
+    returns-else-r-le8192)

@@ -11,36 +11,32 @@ use borrow.Author.Rules.{rules}
 use Rattle.jointnodes.proofs.node.onward.Statement.{statement}
 use Rattle.jointnodes.proofs.node.onward.Tie as tie
 
-named : (c : tie.After-natural) → c.natural.result ≡ nat c.before.before.before.args.z
-named c = c.natural.ensures ∙ ap nat (to_z-of_z c.before.before.before.ranges.z)
+named : (c : tie.After-natural) → c.natural.result ≡ nat c.args.z
+named c = c.natural.ensures ∙ ap nat (to_z-of_z c.ranges.z)
 
 less-requires : tie.Need-less-requires
 less-requires c κs = search rules
 
-returns : tie.Need-returns
-returns c =
-    let b = c.before.before in
-    let e = to_z-of_z b.ranges.z in
-    let h = sym (c.before.less.ensures ∙ ap (λ (z : ℤ). lt_z z (pos 0)) e) ∙ c.if1.true in
-    e ∙ further_none b.args.d b.args.z h
+returns-then-less : tie.Need-returns-then-less
+returns-then-less c =
+    let e = to_z-of_z c.ranges.z in
+    let h = sym (c.less.ensures ∙ ap (λ (z : ℤ). lt_z z (pos 0)) e) ∙ c.if-less.true in
+    e ∙ further_none c.args.d c.args.z h
 
-natural_requires : tie.Need-natural-requires
-natural_requires c κs = search rules
+natural-requires : tie.Need-natural-requires
+natural-requires c κs = search rules
 
-add-of : tie.Need-overflow-add-of
-add-of c = omega (arith, named c, c.before.before.before.requires)
+overflow_add-natural : tie.Need-overflow_add-natural
+overflow_add-natural c = omega (arith, named c, c.requires)
 
 of-requires : tie.Need-of-requires
-of-requires c κs = omega (arith, named c, c.before.before.before.requires)
+of-requires c κs = omega (arith, named c, c.requires)
 
-returns_2 : tie.Need-returns-2
-returns_2 c =
-    let n = c.before in
-    let i = n.before in
-    let b = i.before.before in
-    let h = sym (i.before.less.ensures ∙ ap (λ (z : ℤ). lt_z z (pos 0)) (to_z-of_z b.ranges.z)) ∙ i.if1.false in
-    read_back _ c.of.type-inv ∙ c.of.ensures ∙ ap (λ (k : ℕ). pos (k + b.args.d)) (named n) ∙ further_moved b.args.d b.args.z h
+returns : tie.Need-returns
+returns c =
+    let h = sym (c.less.ensures ∙ ap (λ (z : ℤ). lt_z z (pos 0)) (to_z-of_z c.ranges.z)) ∙ c.if-less.false in
+    read_back _ c.of.type_inv ∙ c.of.ensures ∙ ap (λ (k : ℕ). pos (k + c.args.d)) (named c.before) ∙ further_moved c.args.d c.args.z h
 
 pub onward_spec : {M : Type 1} → statement M
 onward_spec =
-    tie.close (tie.spec less-requires returns natural_requires add-of of-requires returns_2)
+    tie.close (tie.spec less-requires returns-then-less natural-requires overflow_add-natural of-requires returns)

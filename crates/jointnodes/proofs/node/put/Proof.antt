@@ -11,16 +11,15 @@ use borrow.Author.Rules.{rules}
 use Rattle.jointnodes.proofs.node.put.Statement.{statement}
 use Rattle.jointnodes.proofs.node.put.Tie as tie
 
-number-of-requires : tie.Need-number-of-requires
-number-of-requires c κs = search rules
+number_of-requires : tie.Need-number_of-requires
+number_of-requires c κs = search rules
 
 parent-requires : tie.Need-parent-requires
 parent-requires c κs =
-    let b = c.before.before in
-    (omega (arith, ap nat (read_back _ c.number_of.type-inv ∙ c.number_of.ensures), b.requires.5), omega (arith, b.requires.0))
+    (omega (arith, ap nat (read_back _ c.number_of.type_inv ∙ c.number_of.ensures), c.requires.5), omega (arith, c.requires.0))
 
-number-of-requires-2 : tie.Need-number-of-requires-2
-number-of-requires-2 c κs = search rules
+number_of-requires-2 : tie.Need-number_of-requires-2
+number_of-requires-2 c κs = search rules
 
 field-requires : tie.Need-field-requires
 field-requires c κs = search rules
@@ -31,16 +30,15 @@ field-requires-2 c κs = search rules
 field-requires-3 : tie.Need-field-requires-3
 field-requires-3 c κs = search rules
 
-number-of-requires-3 : tie.Need-number-of-requires-3
-number-of-requires-3 c κs = search rules
+number_of-requires-3 : tie.Need-number_of-requires-3
+number_of-requires-3 c κs = search rules
 
 onward-requires : tie.Need-onward-requires
 onward-requires c κs =
-    let b = c.before.before.before.before.before.before.before.before in
-    (omega (arith, ap nat (read_back _ c.number-of3.type-inv ∙ c.number-of3.ensures), b.requires.6), omega (arith, b.requires.0))
+    (omega (arith, ap nat (read_back _ c.number_of-3.type_inv ∙ c.number_of-3.ensures), c.requires.6), omega (arith, c.requires.0))
 
-number-of-requires-4 : tie.Need-number-of-requires-4
-number-of-requires-4 c κs = search rules
+number_of-requires-4 : tie.Need-number_of-requires-4
+number_of-requires-4 c κs = search rules
 
 of-requires : tie.Need-of-requires
 of-requires c κs = search rules
@@ -48,69 +46,57 @@ of-requires c κs = search rules
 of-requires-2 : tie.Need-of-requires-2
 of-requires-2 c κs = search rules
 
-add-copy : tie.Need-overflow-add-copy
-add-copy c = search rules
+overflow_add-d : tie.Need-overflow_add-d
+overflow_add-d c = search rules
 
-mul-copy : tie.Need-overflow-mul-copy
-mul-copy c = search rules
+overflow_mul-d : tie.Need-overflow_mul-d
+overflow_mul-d c = search rules
 
-slice-aggregate-copy : tie.Need-slice-aggregate-copy
-slice-aggregate-copy c = search rules
+slice_bounds-copy-end : tie.Need-slice_bounds-copy-end
+slice_bounds-copy-end c = search rules
 
 copy-requires : tie.Need-copy-requires
 copy-requires c κs = search rules
 
-same_length : tie.Need-same-length
-same_length c = search rules
+shape_of-table : tie.Need-shape_of-table
+shape_of-table c = search rules
 
 returns : tie.Need-returns
 unfolding placed_node
 returns c =
-    let k = c.before in
-    let i = k.before.before.before in
-    let h = i.before in
-    let g = h.before in
-    let o = g.before in
-    let f = o.before in
-    let e = f.before in
-    let d = e.before in
-    let u = d.before in
-    let v = u.before in
-    let p = v.before in
-    let w = p.before in
-    let a = w.before.before.args in
-    k.copy.ensures
+    let a = c.args in
+    c.copy.ensures
     ∙ ap (sets a.table.now (9 * (a.d + a.j)))
     (λ x.
-    (read_back _ p.parent.type-inv ∙ p.parent.ensures ∙ ap (parent_of a.d) (read_back _ w.number_of.type-inv ∙ w.number_of.ensures)) x
-    ∷ (read_back _ v.number-of2.type-inv ∙ v.number-of2.ensures) x
-    ∷ (read_back _ u.field.type-inv ∙ u.field.ensures) x
-    ∷ (read_back _ d.field2.type-inv ∙ d.field2.ensures) x
-    ∷ (read_back _ e.field3.type-inv ∙ e.field3.ensures) x
-    ∷ (read_back _ o.onward.type-inv ∙ o.onward.ensures ∙ ap (further a.d) (read_back _ f.number-of3.type-inv ∙ f.number-of3.ensures)) x
-    ∷ (read_back _ g.number-of4.type-inv ∙ g.number-of4.ensures) x
-    ∷ (read_back _ h.of.type-inv ∙ h.of.ensures) x
-    ∷ (read_back _ i.of2.type-inv ∙ i.of2.ensures) x
+    (read_back _ c.parent.type_inv ∙ c.parent.ensures ∙ ap (parent_of a.d) (read_back _ c.number_of.type_inv ∙ c.number_of.ensures)) x
+    ∷ (read_back _ c.number_of-2.type_inv ∙ c.number_of-2.ensures) x
+    ∷ (read_back _ c.field.type_inv ∙ c.field.ensures) x
+    ∷ (read_back _ c.field-2.type_inv ∙ c.field-2.ensures) x
+    ∷ (read_back _ c.field-3.type_inv ∙ c.field-3.ensures) x
+    ∷ (read_back _ c.onward.type_inv ∙ c.onward.ensures ∙ ap (further a.d) (read_back _ c.number_of-3.type_inv ∙ c.number_of-3.ensures)) x
+    ∷ (read_back _ c.number_of-4.type_inv ∙ c.number_of-4.ensures) x
+    ∷ (read_back _ c.of.type_inv ∙ c.of.ensures) x
+    ∷ (read_back _ c.of-2.type_inv ∙ c.of-2.ensures) x
     ∷ [])
 
 pub put_spec : {M : Type 1} → statement M
 put_spec =
     tie.close
     (tie.spec
-    number-of-requires
+    number_of-requires
     parent-requires
-    number-of-requires-2
+    number_of-requires-2
     field-requires
     field-requires-2
     field-requires-3
-    number-of-requires-3
+    number_of-requires-3
     onward-requires
-    number-of-requires-4
+    number_of-requires-4
     of-requires
     of-requires-2
-    add-copy
-    mul-copy
-    slice-aggregate-copy
+    overflow_add-d
+    overflow_mul-d
+    slice_bounds-copy-end
     copy-requires
-    same_length
+    shape_of-table
     returns)

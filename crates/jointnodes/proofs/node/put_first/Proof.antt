@@ -11,45 +11,42 @@ use borrow.Author.Rules.{rules}
 use Rattle.jointnodes.proofs.node.put_first.Statement.{statement}
 use Rattle.jointnodes.proofs.node.put_first.Tie as tie
 
-of-requires : tie.Need-of-requires
-of-requires c κs = search rules
+of-root-requires : tie.Need-of-root-requires
+of-root-requires c κs = search rules
 
-slice-aggregate-copy : tie.Need-slice-aggregate-copy
-slice-aggregate-copy c = search rules
+slice_bounds-copy-end : tie.Need-slice_bounds-copy-end
+slice_bounds-copy-end c = search rules
 
 copy-requires : tie.Need-copy-requires
 copy-requires c κs = search rules
 
-slice-set-from-root : tie.Need-slice-set-from-root
-slice-set-from-root c = search rules
+bounds-out_members-0 : tie.Need-bounds-out_members-0
+bounds-out_members-0 c = search rules
 
-same_length : tie.Need-same-length
-same_length c = search rules
+shape_of-out_nodes : tie.Need-shape_of-out_nodes
+shape_of-out_nodes c = search rules
 
-same_length_2 : tie.Need-same-length-2
-same_length_2 c = search rules
+shape_of-out_members : tie.Need-shape_of-out_members
+shape_of-out_members c = search rules
 
 returns : tie.Need-returns
 unfolding or_node
 returns c =
-    let k = c.before in
-    let f = k.before.before.before in
-    let b = f.before in
-    let a = b.args in
-    let e = read_back _ f.of.type-inv ∙ f.of.ensures in (
-      ap (take 9) (k.copy.ensures ∙ ap (sets a.out-nodes.now 0) (λ x. neg_ℤ (pos 1) ∷ pos 1 ∷ e x ∷ neg_ℤ (pos 1) ∷ neg_ℤ (pos 1) ∷ neg_ℤ (pos 1) ∷ pos 0 ∷ pos 0 ∷ pos 1 ∷ []))
-          ∙ sets_more a.out-nodes.now (or_node a.or-row) 0 (omega (arith, b.requires.1)),
-      take-suc-set a.out-members.now 0 _ (omega (arith, b.requires.2)) ∙ ap (λ (z : ℤ). z ∷ []) e,
+    let a = c.args in
+    let e = read_back _ c.of-root.type_inv ∙ c.of-root.ensures in (
+      ap (take 9) (c.copy.ensures ∙ ap (sets a.out_nodes.now 0) (λ x. neg_ℤ (pos 1) ∷ pos 1 ∷ e x ∷ neg_ℤ (pos 1) ∷ neg_ℤ (pos 1) ∷ neg_ℤ (pos 1) ∷ pos 0 ∷ pos 0 ∷ pos 1 ∷ []))
+          ∙ sets_more a.out_nodes.now (or_node a.or_row) 0 (omega (arith, c.requires.1)),
+      take-suc-set a.out_members.now 0 _ (omega (arith, c.requires.2)) ∙ ap (λ (z : ℤ). z ∷ []) e,
     )
 
 pub put_first_spec : {M : Type 1} → statement M
 put_first_spec =
     tie.close
     (tie.spec
-    of-requires
-    slice-aggregate-copy
+    of-root-requires
+    slice_bounds-copy-end
     copy-requires
-    slice-set-from-root
-    same_length
-    same_length_2
+    bounds-out_members-0
+    shape_of-out_nodes
+    shape_of-out_members
     returns)

@@ -10,23 +10,21 @@ use borrow.Author.Rules.{rules}
 use Rattle.jointrows.proofs.number.new_number.Statement.{statement}
 use Rattle.jointrows.proofs.number.new_number.Tie as tie
 
+returns-then-r-s : tie.Need-returns-then-r-s
+returns-then-r-s c =
+    let a = c.args in
+    (sym (new_schema a.s a.new.now a.r c.if-r-s.true), c.requires.0)
+
+kept_at-requires : tie.Need-kept_at-requires
+kept_at-requires c κs = search rules
+
 returns : tie.Need-returns
-returns c =
-    let b = c.before.before in
-    let a = b.args in
-    (sym (new_schema a.s a.new.now a.r c.if1.true), b.requires.0)
-
-kept_at_requires : tie.Need-kept-at-requires
-kept_at_requires c κs = search rules
-
-returns_2 : tie.Need-returns-2
 unfolding new_number
-returns_2 c =
-    let b = c.before.before.before in
-    let a = b.args in (
-      c.kept_at.ensures.0 ∙ sym (if_false (ltb a.r a.s) _ _ (le-ltb a.r a.s c.before.if1.false)),
-      omega (arith, c.kept_at.ensures.0, b.requires.1 (a.r - a.s)),
+returns c =
+    let a = c.args in (
+      c.kept_at.ensures.0 ∙ sym (if_false (ltb a.r a.s) _ _ (le-ltb a.r a.s c.if-r-s.false)),
+      omega (arith, c.kept_at.ensures.0, c.requires.1 (a.r - a.s)),
     )
 
 pub new_number_spec : {M : Type 1} → statement M
-new_number_spec = tie.close (tie.spec returns kept_at_requires returns_2)
+new_number_spec = tie.close (tie.spec returns-then-r-s kept_at-requires returns)

@@ -18,145 +18,131 @@ use Rattle.jointrows.proofs.row.fold_rows.Statement.{statement}
 use Rattle.jointrows.proofs.row.fold_rows.Tie as tie
 
 -- where the rows are folded
-abbrev start : tie.After-fold → tie.Start
+abbrev start : tie.After-fold-count → tie.Start
 start c = c.before.before.before.before.before.before.before.before.before.before.before.before.before
 
-abbrev proof : tie.After-fold → List ℤ
-proof c = c.before.before.before.before.before.put-rows2.new.1.1.1.0
+abbrev proof : tie.After-fold-count → List ℤ
+proof c = c.put_rows-2.new.table
 
-abbrev stay : tie.After-fold → List ℤ
-stay c = c.fold.new.1.1.1.1.0
+abbrev stay : tie.After-fold-count → List ℤ
+stay c = c.fold-count.new.out
 
 abbrev both : tie.Start → List ℤ
 both b =
     let a = b.args in
-    both_proofs (new_number 0 a.first-numbers.now) a.first.now a.first_rows (new_number 0 a.second-numbers.now) a.second.now a.second-rows
+    both_proofs (new_number 0 a.first_numbers.now) a.first.now a.first_rows (new_number 0 a.second_numbers.now) a.second.now a.second_rows
 
 -- what is folded is the rows of both
-same : (c : tie.After-fold) →
+same : (c : tie.After-fold-count) →
     let a = (start c).args in
-    folding a.schema.now a.s (proof c) (a.first_rows + a.second-rows) ≡ folding a.schema.now a.s (both (start c)) (a.first_rows + a.second-rows)
+    folding a.schema.now a.s (proof c) (a.first_rows + a.second_rows) ≡ folding a.schema.now a.s (both (start c)) (a.first_rows + a.second_rows)
 unfolding both_proofs
 same c =
-    let q = c.before.before.before.before.before in
-    let p = q.before.before.before in
     let a = (start c).args in
-    folding_agrees a.schema.now a.schema.now a.s (λ r l. refl) (proof c) (both (start c)) (a.first_rows + a.second-rows)
-    (row_at_front (proof c) (both (start c)) (a.first_rows + a.second-rows)
-    (two_blocks (replicate 8192 (pos 0)) p.put-rows.new.1.1.1.0 (proof c) _ _ a.first_rows a.second-rows p.put-rows.ensures q.put-rows2.ensures))
+    folding_agrees a.schema.now a.schema.now a.s (λ r l. refl) (proof c) (both (start c)) (a.first_rows + a.second_rows)
+    (row_at_front (proof c) (both (start c)) (a.first_rows + a.second_rows)
+    (two_blocks (replicate 8192 (pos 0)) c.put_rows.new.table (proof c) _ _ a.first_rows a.second_rows c.put_rows.ensures c.put_rows-2.ensures))
 
-count_few : (c : tie.After-fold) → let a = (start c).args in c.fold.result ≤ a.first_rows + a.second-rows
+count_few : (c : tie.After-fold-count) → let a = (start c).args in c.fold-count.result ≤ a.first_rows + a.second_rows
 count_few c =
     let a = (start c).args in
-    omega (arith, c.fold.ensures.0, few_stay a.schema.now a.s (proof c) (a.first_rows + a.second-rows))
+    omega (arith, c.fold-count.ensures.0, few_stay a.schema.now a.s (proof c) (a.first_rows + a.second_rows))
 
-held : (c : tie.After-fold) → 4 * c.fold.result ≤ length (stay c)
-held c = omega (arith, count_few c, (start c).requires.0.0, (start c).requires.0.1, c.fold.auto.1.1.1.1.0)
+held : (c : tie.After-fold-count) → 4 * c.fold-count.result ≤ length (stay c)
+held c = omega (arith, count_few c, (start c).requires.0.0, (start c).requires.0.1, c.fold-count.auto.out)
 
-table_length : (c : tie.After-fold) →
+table_length : (c : tie.After-fold-count) →
     let a = (start c).args in
-    length (folding a.schema.now a.s (proof c) (a.first_rows + a.second-rows)).table ≡ 4 * c.fold.result
+    length (folding a.schema.now a.s (proof c) (a.first_rows + a.second_rows)).table ≡ 4 * c.fold-count.result
 table_length c =
     let a = (start c).args in
-    held_stay a.schema.now a.s (proof c) (a.first_rows + a.second-rows) ∙ ap (λ (n : ℕ). 4 * n) (sym c.fold.ensures.0)
+    held_stay a.schema.now a.s (proof c) (a.first_rows + a.second_rows) ∙ ap (λ (n : ℕ). 4 * n) (sym c.fold-count.ensures.0)
 
-slice-aggregate-put-rows : tie.Need-slice-aggregate-put-rows
-slice-aggregate-put-rows c = search rules
+slice_bounds-put_rows-end : tie.Need-slice_bounds-put_rows-end
+slice_bounds-put_rows-end c = search rules
 
-put-rows-requires : tie.Need-put-rows-requires
-put-rows-requires c κs = search rules
+put_rows-requires : tie.Need-put_rows-requires
+put_rows-requires c κs = search rules
 
-slice-aggregate-put-rows-2 : tie.Need-slice-aggregate-put-rows-2
-slice-aggregate-put-rows-2 c = search rules
+slice_bounds-put_rows-end-2 : tie.Need-slice_bounds-put_rows-end-2
+slice_bounds-put_rows-end-2 c = search rules
 
-put-rows-requires-2 : tie.Need-put-rows-requires-2
-put-rows-requires-2 c κs = search rules
+put_rows-requires-2 : tie.Need-put_rows-requires-2
+put_rows-requires-2 c κs = search rules
 
-slice-aggregate-fold : tie.Need-slice-aggregate-fold
-slice-aggregate-fold c = search rules
+slice_bounds-fold-end : tie.Need-slice_bounds-fold-end
+slice_bounds-fold-end c = search rules
 
-add-fold : tie.Need-overflow-add-fold
-add-fold c = search rules
+overflow_add-first_rows : tie.Need-overflow_add-first_rows
+overflow_add-first_rows c = search rules
 
-slice-aggregate-fold-2 : tie.Need-slice-aggregate-fold-2
-slice-aggregate-fold-2 c = search rules
+slice_bounds-fold-end-2 : tie.Need-slice_bounds-fold-end-2
+slice_bounds-fold-end-2 c = search rules
 
-fold-requires : tie.Need-fold-requires
-fold-requires c κs =
-    let b = c.before.before.before.before.before.before.before.before.before.before.before.before in
-    ((b.requires.0.2, omega (arith, b.requires.0.0, b.requires.0.1), omega (arith, b.requires.0.0, b.requires.0.1, b.requires.0.4)), b.requires.1)
+fold-count-requires : tie.Need-fold-count-requires
+fold-count-requires c κs =
+    ((c.requires.0.2, omega (arith, c.requires.0.0, c.requires.0.1), omega (arith, c.requires.0.0, c.requires.0.1, c.requires.0.4)), c.requires.1)
 
-add-if1 : tie.Need-overflow-add-if1
-add-if1 c =
-    let f = c.before.before.before in
-    omega (arith, count_few f, (start f).requires.0.2)
+overflow_add-s : tie.Need-overflow_add-s
+overflow_add-s c =
+    omega (arith, count_few c.before.before.before, (start c.before.before.before).requires.0.2)
 
-mul-end : tie.Need-overflow-mul-end
-mul-end c = search rules
+overflow_mul-end : tie.Need-overflow_mul-end
+overflow_mul-end c = search rules
 
-array-share-prefix-stay : tie.Need-array-share-prefix-stay
-array-share-prefix-stay c = search rules
+slice_bounds-stay-end : tie.Need-slice_bounds-stay-end
+slice_bounds-stay-end c = search rules
 
-slice-aggregate-copy : tie.Need-slice-aggregate-copy
-slice-aggregate-copy c =
-    let f = c.before.before.before.before.before.before in
-    sym (length-take-le _ (stay f) (held f))
+slice_bounds-copy-end : tie.Need-slice_bounds-copy-end
+slice_bounds-copy-end c =
+    sym (length-take-le _ (stay c.before.before.before.before.before.before) (held c.before.before.before.before.before.before))
 
 copy-requires : tie.Need-copy-requires
 copy-requires c κs =
-    let i = c.before.before in
-    let f = i.before.before.before.before in
-    omega (arith, length-take-le (4 * f.fold.result) (stay f) (held f), i.if1.true, (start f).requires.0.3)
+    omega (arith, length-take-le (4 * c.fold-count.result) (stay c.before.before.before.before.before.before) (held c.before.before.before.before.before.before), c.if-s-count-le1024.true, (start c.before.before.before.before.before.before).requires.0.3)
 
 clear-requires : tie.Need-clear-requires
 clear-requires c κs = search rules
 
-clear-requires-2 : tie.Need-clear-requires-2
-clear-requires-2 c κs = search rules
+clear-requires-else-s-count-le1024 : tie.Need-clear-requires-else-s-count-le1024
+clear-requires-else-s-count-le1024 c κs = search rules
 
-same_length : tie.Need-same-length
-same_length c = search rules
+shape_of-numbers-then-s-count-le1024 : tie.Need-shape_of-numbers-then-s-count-le1024
+shape_of-numbers-then-s-count-le1024 c = search rules
 
-same_length_2 : tie.Need-same-length-2
-same_length_2 c = search rules
+shape_of-out-then-s-count-le1024 : tie.Need-shape_of-out-then-s-count-le1024
+shape_of-out-then-s-count-le1024 c = search rules
 
-returns : tie.Need-returns
-returns c =
-    let k = c.before in
-    let y = k.before.before.before in
-    let i = y.before.before.before in
-    let f = i.before.before.before.before in
-    let b = start f in
-    let fits = i.if1.true in
-    let e = same f in (
-      f.fold.ensures.0 ∙ ap (λ (F : Folding). F.count) e,
+returns-then-s-count-le1024 : tie.Need-returns-then-s-count-le1024
+returns-then-s-count-le1024 c =
+    let b = start c.before.before.before.before.before.before.before.before.before.before.before in
+    let fits = c.if-s-count-le1024.true in
+    let e = same c.before.before.before.before.before.before.before.before.before.before.before in (
+      c.fold-count.ensures.0 ∙ ap (λ (F : Folding). F.count) e,
       (
-        front_padded (stay f) b.args.out.now _ _ _ (4 * f.fold.result) 8192 (f.fold.ensures.1.0 ∙ ap (λ (F : Folding). padded (pos 0) 8192 F.table) e)
-            (ap (λ (F : Folding). length F.table) (sym e) ∙ table_length f) (omega (arith, fits, b.pre.0.3)) y.copy.ensures k.clear.ensures
+        front_padded (stay c.before.before.before.before.before.before.before.before.before.before.before) b.args.out.now _ _ _ (4 * c.fold-count.result) 8192 (c.fold-count.ensures.1.0 ∙ ap (λ (F : Folding). padded (pos 0) 8192 F.table) e)
+            (ap (λ (F : Folding). length F.table) (sym e) ∙ table_length c.before.before.before.before.before.before.before.before.before.before.before) (omega (arith, fits, b.requires.0.3)) c.copy.ensures c.clear.ensures
             ∙ ap (padded (pos 0) (length b.args.out.now)) (sym (if_true _ _ [] (le-leb _ 1024 fits))),
-        (f.fold.ensures.1.1.0 ∙ ap (λ (F : Folding). padded 0 (length b.args.numbers.now) F.numbers) e, f.fold.ensures.1.1.1),
+        (c.fold-count.ensures.1.1.0 ∙ ap (λ (F : Folding). padded 0 (length b.args.numbers.now) F.numbers) e, c.fold-count.ensures.1.1.1),
       ),
     )
 
-same_length_3 : tie.Need-same-length-3
-same_length_3 c = search rules
+shape_of-numbers-else-s-count-le1024 : tie.Need-shape_of-numbers-else-s-count-le1024
+shape_of-numbers-else-s-count-le1024 c = search rules
 
-same-length-4 : tie.Need-same-length-4
-same-length-4 c = search rules
+shape_of-out-else-s-count-le1024 : tie.Need-shape_of-out-else-s-count-le1024
+shape_of-out-else-s-count-le1024 c = search rules
 
-returns_2 : tie.Need-returns-2
-returns_2 c =
-    let k = c.before in
-    let i = k.before.before in
-    let f = i.before.before.before.before in
-    let b = start f in
-    let e = same f in (
-      f.fold.ensures.0 ∙ ap (λ (F : Folding). F.count) e,
+returns-else-s-count-le1024 : tie.Need-returns-else-s-count-le1024
+returns-else-s-count-le1024 c =
+    let b = start c.before.before.before.before.before.before.before in
+    let e = same c.before.before.before.before.before.before.before in (
+      c.fold-count.ensures.0 ∙ ap (λ (F : Folding). F.count) e,
       (
-        k.clear2.ensures
+        c.clear-else-s-count-le1024.ensures
             ∙ cleared_padded b.args.out.now 0 (length b.args.out.now) (omega arith) refl
-            ∙ ap (padded (pos 0) (length b.args.out.now)) (sym (if_false _ _ [] (lt-leb _ 1024 i.if1.false))),
-        (f.fold.ensures.1.1.0 ∙ ap (λ (F : Folding). padded 0 (length b.args.numbers.now) F.numbers) e, f.fold.ensures.1.1.1),
+            ∙ ap (padded (pos 0) (length b.args.out.now)) (sym (if_false _ _ [] (lt-leb _ 1024 c.if-s-count-le1024.false))),
+        (c.fold-count.ensures.1.1.0 ∙ ap (λ (F : Folding). padded 0 (length b.args.numbers.now) F.numbers) e, c.fold-count.ensures.1.1.1),
       ),
     )
 
@@ -164,24 +150,24 @@ pub fold_rows_spec : {M : Type 1} → statement M
 fold_rows_spec =
     tie.close
     (tie.spec
-    slice-aggregate-put-rows
-    put-rows-requires
-    slice-aggregate-put-rows-2
-    put-rows-requires-2
-    slice-aggregate-fold
-    add-fold
-    slice-aggregate-fold-2
-    fold-requires
-    add-if1
-    mul-end
-    array-share-prefix-stay
-    slice-aggregate-copy
+    slice_bounds-put_rows-end
+    put_rows-requires
+    slice_bounds-put_rows-end-2
+    put_rows-requires-2
+    slice_bounds-fold-end
+    overflow_add-first_rows
+    slice_bounds-fold-end-2
+    fold-count-requires
+    overflow_add-s
+    overflow_mul-end
+    slice_bounds-stay-end
+    slice_bounds-copy-end
     copy-requires
     clear-requires
-    clear-requires-2
-    same_length
-    same_length_2
-    returns
-    same_length_3
-    same-length-4
-    returns_2)
+    clear-requires-else-s-count-le1024
+    shape_of-numbers-then-s-count-le1024
+    shape_of-out-then-s-count-le1024
+    returns-then-s-count-le1024
+    shape_of-numbers-else-s-count-le1024
+    shape_of-out-else-s-count-le1024
+    returns-else-s-count-le1024)

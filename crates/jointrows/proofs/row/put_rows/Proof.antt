@@ -9,52 +9,47 @@ use native.Mathlib.Omega.{arith}
 use Rattle.jointrows.proofs.row.put_rows.Statement.{statement}
 use Rattle.jointrows.proofs.row.put_rows.Tie as tie
 
-abbrev invariant_loop : tie.invariant-loop
+abbrev invariant_loop : tie.invariant-loop-k
 invariant_loop rows n numbers table₀ at k₀ table k = (k ≤ n) × (length table ≡ length table₀) × (take (4 * (at + k)) table ≡ take (4 * at) table₀ ++ moved_rows (new_number 0 numbers) rows k)
 
-abbrev decreases_loop : tie.decreases-loop
+abbrev decreases_loop : tie.decreases-loop-k
 decreases_loop rows n numbers table₀ at k₀ table k = n - k
 
-loop_holds : tie.Need-loop-init invariant_loop decreases_loop
-loop_holds c =
-    let a = c.before.args in
+loop-k-init : tie.Need-loop-k-init invariant_loop decreases_loop
+loop-k-init c =
+    let a = c.args in
     (omega arith, refl, rows_none a.table.now a.rows.now a.at (new_number 0 a.numbers.now))
 
-add-put : tie.Need-overflow-add-put invariant_loop decreases_loop
-add-put c = let b = c.before.before.before.before in omega (arith, b.requires.0, b.requires.1, c.before.loop-test.true)
+overflow_add-at : tie.Need-overflow_add-at invariant_loop decreases_loop
+overflow_add-at c = omega (arith, c.requires.0, c.requires.1, c.loop-k-test.true)
 
 put-requires : tie.Need-put-requires invariant_loop decreases_loop
 put-requires c κs =
-    let t = c.before in
-    let b = t.before.before.before in
-    (omega (arith, b.requires.0, t.loop-test.true), omega (arith, b.requires.2, t.loop-test.true, t.before.loop.invariant.1), b.requires.3)
+    (omega (arith, c.requires.0, c.loop-k-test.true), omega (arith, c.requires.2, c.loop-k-test.true, c.loop-k.invariant.1), c.requires.3)
 
-add_k : tie.Need-overflow-add-k invariant_loop decreases_loop
-add_k c = let t = c.before.before.before in omega (arith, t.before.before.before.requires.0, t.loop-test.true)
+overflow_add-k : tie.Need-overflow_add-k invariant_loop decreases_loop
+overflow_add-k c = omega (arith, c.requires.0, c.loop-k-test.true)
 
-loop_less : tie.Need-loop-smaller invariant_loop decreases_loop
-loop_less c = let t = c.before.before.before in omega (arith, t.loop-test.true)
+loop-k-smaller : tie.Need-loop-k-smaller invariant_loop decreases_loop
+loop-k-smaller c = omega (arith, c.loop-k-test.true)
 
-loop_again : tie.Need-loop-preserved invariant_loop decreases_loop
-loop_again c =
-    let p = c.before in
-    let t = p.before.before in
-    let l = t.before.loop in
-    let b = t.before.before.before in
-    let a = b.args in (
-      omega (arith, t.loop-test.true),
-      p.put.auto.1.1.1.1.0 ∙ l.invariant.1,
-      rows_more l.table _ a.rows.now (take (4 * a.at) a.table.now) a.at l.k (new_number 0 a.numbers.now) l.invariant.2 (omega (arith, b.requires.2, t.loop-test.true, l.invariant.1)) p.put.ensures,
+loop-k-preserved : tie.Need-loop-k-preserved invariant_loop decreases_loop
+loop-k-preserved c =
+    let l = c.loop-k in
+    let a = c.args in (
+      omega (arith, c.loop-k-test.true),
+      c.put.auto.table ∙ l.invariant.1,
+      rows_more l.table _ a.rows.now (take (4 * a.at) a.table.now) a.at l.k (new_number 0 a.numbers.now) l.invariant.2 (omega (arith, c.requires.2, c.loop-k-test.true, l.invariant.1)) c.put.ensures,
     )
 
-same_length : tie.Need-same-length invariant_loop decreases_loop
-same_length c = c.before.loop.invariant.1
+shape_of-table : tie.Need-shape_of-table invariant_loop decreases_loop
+shape_of-table c = c.loop-k.invariant.1
 
 returns : tie.Need-returns invariant_loop decreases_loop
 returns c =
-    let l = c.before.loop in
-    let a = c.before.before.before.args in
-    let e : l.k ≡ a.n = omega (arith, c.loop-test.false, l.invariant.0) in
+    let l = c.loop-k in
+    let a = c.args in
+    let e : l.k ≡ a.n = omega (arith, c.loop-k-test.false, l.invariant.0) in
     subst (λ (k : ℕ). take (4 * (a.at + k)) l.table ≡ take (4 * a.at) a.table.now ++ moved_rows (new_number 0 a.numbers.now) a.rows.now k) e l.invariant.2
 
 pub put_rows_spec : {M : Type 1} → statement M
@@ -63,11 +58,11 @@ put_rows_spec =
     (tie.spec
     invariant_loop
     decreases_loop
-    loop_holds
-    add-put
+    loop-k-init
+    overflow_add-at
     put-requires
-    add_k
-    loop_less
-    loop_again
-    same_length
+    overflow_add-k
+    loop-k-smaller
+    loop-k-preserved
+    shape_of-table
     returns)

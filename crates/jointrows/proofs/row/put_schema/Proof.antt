@@ -15,11 +15,11 @@ use borrow.Author.Rules.{rules}
 use Rattle.jointrows.proofs.row.put_schema.Statement.{statement}
 use Rattle.jointrows.proofs.row.put_schema.Tie as tie
 
-put-rows-requires : tie.Need-put-rows-requires
-put-rows-requires c κs = search rules
+put_rows-requires : tie.Need-put_rows-requires
+put_rows-requires c κs = search rules
 
-put-rows-requires-2 : tie.Need-put-rows-requires-2
-put-rows-requires-2 c κs = search rules
+put_rows-requires-2 : tie.Need-put_rows-requires-2
+put_rows-requires-2 c κs = search rules
 
 through-requires : tie.Need-through-requires
 through-requires c κs = search rules
@@ -27,71 +27,64 @@ through-requires c κs = search rules
 through-requires-2 : tie.Need-through-requires-2
 through-requires-2 c κs = search rules
 
-add_at : tie.Need-overflow-add-at
-add_at c = search rules
+overflow_add-at : tie.Need-overflow_add-at
+overflow_add-at c = search rules
 
-mul_at : tie.Need-overflow-mul-at
-mul_at c = search rules
+overflow_mul-at : tie.Need-overflow_mul-at
+overflow_mul-at c = search rules
 
-slice-aggregate-copy : tie.Need-slice-aggregate-copy
-slice-aggregate-copy c = search rules
+slice_bounds-copy-end : tie.Need-slice_bounds-copy-end
+slice_bounds-copy-end c = search rules
 
 copy-requires : tie.Need-copy-requires
 copy-requires c κs = search rules
 
-add-clear : tie.Need-overflow-add-clear
-add-clear c = search rules
+overflow_add-at-2 : tie.Need-overflow_add-at-2
+overflow_add-at-2 c = search rules
 
 clear-requires : tie.Need-clear-requires
 clear-requires c κs = search rules
 
-same_length : tie.Need-same-length
-same_length c = search rules
+shape_of-table : tie.Need-shape_of-table
+shape_of-table c = search rules
 
 returns : tie.Need-returns
 unfolding both_schemata columns or_of
 returns c =
-    let k = c.before in
-    let y = k.before.before.before in
-    let h = y.before.before.before in
-    let g = h.before in
-    let q = g.before.before in
-    let p = q.before.before.before in
-    let b = p.before.before.before.before in
-    let a = b.args in
-    let f₁ = new_number 0 a.first-numbers.now in
-    let f₂ = new_number 0 a.second-numbers.now in
+    let a = c.args in
+    let f₁ = new_number 0 a.first_numbers.now in
+    let f₂ = new_number 0 a.second_numbers.now in
     let X = moved_rows f₁ a.first.now a.first_rows in
-    let Y = moved_rows f₂ a.second.now a.second-rows in
-    let same = q.put-rows2.auto.1.1.1.0 ∙ p.put-rows.auto.1.1.1.0 in
-    row_last q.put-rows2.new.1.1.1.0 _ _ (X ++ Y) (pos 5 ∷ through f₁ a.first-root ∷ through f₂ a.second-root ∷ pos 0 ∷ []) (4 * (a.first_rows + a.second-rows)) (length a.table.now)
-    (two_blocks a.table.now p.put-rows.new.1.1.1.0 _ X Y a.first_rows a.second-rows p.put-rows.ensures q.put-rows2.ensures)
-    (y.copy.ensures
-    ∙ ap (sets q.put-rows2.new.1.1.1.0 (4 * (a.first_rows + a.second-rows)))
+    let Y = moved_rows f₂ a.second.now a.second_rows in
+    let same = c.put_rows-2.auto.table ∙ c.put_rows.auto.table in
+    row_last c.put_rows-2.new.table _ _ (X ++ Y) (pos 5 ∷ through f₁ a.first_root ∷ through f₂ a.second_root ∷ pos 0 ∷ []) (4 * (a.first_rows + a.second_rows)) (length a.table.now)
+    (two_blocks a.table.now c.put_rows.new.table _ X Y a.first_rows a.second_rows c.put_rows.ensures c.put_rows-2.ensures)
+    (c.copy.ensures
+    ∙ ap (sets c.put_rows-2.new.table (4 * (a.first_rows + a.second_rows)))
     (λ x.
     pos 5
-    ∷ (read_back _ g.through.type-inv ∙ g.through.ensures ∙ ap (through f₁) (to_z-of_z b.ranges.first-root)) x
-    ∷ (read_back _ h.through2.type-inv ∙ h.through2.ensures ∙ ap (through f₂) (to_z-of_z b.ranges.second-root)) x
+    ∷ (read_back _ c.through.type_inv ∙ c.through.ensures ∙ ap (through f₁) (to_z-of_z c.ranges.first_root)) x
+    ∷ (read_back _ c.through-2.type_inv ∙ c.through-2.ensures ∙ ap (through f₂) (to_z-of_z c.ranges.second_root)) x
     ∷ pos 0
     ∷ []))
     refl
-    (omega (arith, b.requires.0, b.requires.1, same))
+    (omega (arith, c.requires.0, c.requires.1, same))
     same
-    k.clear.ensures
+    c.clear.ensures
 
 pub put_schema_spec : {M : Type 1} → statement M
 put_schema_spec =
     tie.close
     (tie.spec
-    put-rows-requires
-    put-rows-requires-2
+    put_rows-requires
+    put_rows-requires-2
     through-requires
     through-requires-2
-    add_at
-    mul_at
-    slice-aggregate-copy
+    overflow_add-at
+    overflow_mul-at
+    slice_bounds-copy-end
     copy-requires
-    add-clear
+    overflow_add-at-2
     clear-requires
-    same_length
+    shape_of-table
     returns)
