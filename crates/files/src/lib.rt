@@ -2,13 +2,14 @@
 #![tactic(auto)]
 
 ghost use Rattle.std.specs.Prelude.{◌≡◌, length, replicate};
-ghost use Rattle.io.specs.Counts.{IsPrefixLen};
 ghost use Rattle.line.specs.LineParts.{named};
 ghost use Rattle.shown.specs.Told.{told_at};
-ghost use Rattle.files.specs.Loaded.{Loaded};
+ghost use Rattle.files.specs.Loaded.{IsPrefixLen, Loaded};
 
-use libc::STDERR_FILENO;
 use stab::Fault;
+use std::fs;
+use std::io::{Print, Read};
+use std::rt::Files;
 
 // Room for a text and 64 bytes more: for its longest line with a file's name and a number. A text that goes on past 65,536 bytes is refused as too long.
 pub fn room() -> [u8; 65600]
@@ -17,40 +18,48 @@ pub fn room() -> [u8; 65600]
     [0; 65600]
 }
 
-// Reads a file to its end or to that of the buffer, and answers how many bytes stand in front of the buffer. A file that cannot be
-// opened, or cannot be read to its end, is empty: a text that was cut short by a fault of the disk is no text.
-fn fetch(path: &[u8], buf: &mut [u8]) -> usize
+// Reads to the end or to that of the buffer, and answers how many bytes stand in front of the buffer, or none where a read fails.
+fn fill<F: Read>(file: &mut F, buf: &mut [u8]) -> usize
     ensures { IsPrefixLen result buf.new }
 {
-    let fd = os::open_read(path);
-    if fd < 0 {
-        return 0;
-    }
-    let n = io::read_full(fd, buf);
-    let mut byte = [0u8; 1];
-    let past: &mut [u8] = &mut byte;
-    let more = libc::read(fd, past);
-    libc::close(fd);
-    if n < buf.len() {
-        if more != 0 {
-            return 0;
+    let mut n = 0;
+    while n < buf.len() {
+        match file.read(&mut buf[n..]) {
+            Ok(0) => return n,
+            Ok(k) => n += k,
+            Err(_) => return 0,
         }
     }
     n
 }
 
+// Reads a file to its end or to that of the buffer, and answers how many bytes stand in front of the buffer. A file that cannot be
+// opened, or cannot be read to its end, is empty: a text that was cut short by a fault of the disk is no text.
+fn fetch<R: Files>(rt: &R, path: &[u8], buf: &mut [u8]) -> usize
+    ensures { IsPrefixLen result buf.new }
+{
+    let Ok(name) = str::from_utf8(path) else {
+        return 0;
+    };
+    match fs::open(rt, name) {
+        Ok(mut file) => fill(&mut file, buf),
+        Err(_) => 0,
+    }
+}
+
 // A file's bytes in front of the buffer, how many they are, and 0 past them; all 0 where there are none.
-pub fn load(path: &[u8], buf: &mut [u8]) -> usize
+pub fn load<R: Files>(rt: &R, path: &[u8], buf: &mut [u8]) -> usize
     ensures { Loaded (length buf.old) result buf.new }
 {
-    let n = fetch(path, buf);
+    let n = fetch(rt, path, buf);
     output::clear(&mut buf[n..]);
     n
 }
 
 // The line at fault to standard error, and how many bytes it takes. Its room is made here, after the check has returned, so that the stack of
 // the one and of the other do not add up.
-pub fn show<'a>(
+pub fn show<'a, P: Print>(
+    error: &P,
     first: &[u8],
     second: &[u8],
     schema: &'a [u8],
@@ -61,6 +70,6 @@ pub fn show<'a>(
 {
     let mut out = room();
     let n = shown::tell(first, second, schema, proof, fault, &mut out);
-    io::write_all(STDERR_FILENO, &out[..n]);
+    let _ = error.write_all(&out[..n]);
     n
 }
