@@ -17,58 +17,53 @@ E c =
 abbrev row : tie.Start → NodeRow
 row c = row_from c.args.row.now c.args.set.now
 
-add-requires : tie.Need-add-requires
-add-requires c κs = search rules
+add-r-requires : tie.Need-add-r-requires
+add-r-requires c κs = search rules
 
-enum_told : tie.Need-enum-told
-enum_told c = search rules
+enum_told-1 : tie.Need-enum_told-1
+enum_told-1 c = search rules
 
-enum-told-2 : tie.Need-enum-told-2
-enum-told-2 c = search rules
+enum_told-in_default : tie.Need-enum_told-in_default
+enum_told-in_default c = search rules
 
-same_length : tie.Need-same-length
-same_length c = search rules
+shape_of-nodes-in_default : tie.Need-shape_of-nodes-in_default
+shape_of-nodes-in_default c = search rules
 
-same_length_2 : tie.Need-same-length-2
-same_length_2 c = search rules
+shape_of-members-in_default : tie.Need-shape_of-members-in_default
+shape_of-members-in_default c = search rules
 
-returns : tie.Need-returns
-returns c =
-    let k = c.before.before.before.before in
-    let b = k.before.before.before in
-    let e = k.add.ensures in
-    let v = call_refused (E b).held (add (row b)) _ _ _ (sym e.0 ∙ c.enum-told2.given.1) in
-    (e.0 ∙ call_answer (E b) (add (row b)), (λ i. record { held = e.1 i; waiting = b.args.waiting.now }) ∙ sym (called_no (E b) (add (row b)) v.0 v.1 v.2))
+returns-in_default : tie.Need-returns-in_default
+returns-in_default c =
+    let e = c.add-r.ensures in
+    let v = call_refused (E c.before.before.before.before.before.before).held (add (row c.before.before.before.before.before.before)) _ _ _ (sym e.0 ∙ c.in_default.is) in
+    (e.0 ∙ call_answer (E c.before.before.before.before.before.before) (add (row c.before.before.before.before.before.before)), (λ i. record { held = e.1 i; waiting = c.args.waiting.now }) ∙ sym (called_no (E c.before.before.before.before.before.before) (add (row c.before.before.before.before.before.before)) v.0 v.1 v.2))
 
 empty-requires : tie.Need-empty-requires
 empty-requires c κs = search rules
 
-same_length_3 : tie.Need-same-length-3
-same_length_3 c = search rules
+shape_of-nodes : tie.Need-shape_of-nodes
+shape_of-nodes c = search rules
 
-same-length-4 : tie.Need-same-length-4
-same-length-4 c = search rules
+shape_of-members : tie.Need-shape_of-members
+shape_of-members c = search rules
 
-returns_2 : tie.Need-returns-2
-returns_2 c =
-    let t = c.before.before in
-    let k = t.before.before.before.before in
-    let b = k.before.before.before in
-    let e = k.add.ensures in
-    let y = call_held (E b).held (add (row b)) _ _ _ (sym e.0 ∙ t.enum_told.given.1) in
-    (e.0 ∙ call_answer (E b) (add (row b)), (λ i. record { held = e.1 i; waiting = c.empty.ensures i }) ∙ sym (called_yes (E b) (add (row b)) y))
+returns : tie.Need-returns
+returns c =
+    let e = c.add-r.ensures in
+    let y = call_held (E c.before.before.before.before.before.before.before.before).held (add (row c.before.before.before.before.before.before.before.before)) _ _ _ (sym e.0 ∙ c.in-Held.is) in
+    (e.0 ∙ call_answer (E c.before.before.before.before.before.before.before.before) (add (row c.before.before.before.before.before.before.before.before)), (λ i. record { held = e.1 i; waiting = c.empty.ensures i }) ∙ sym (called_yes (E c.before.before.before.before.before.before.before.before) (add (row c.before.before.before.before.before.before.before.before)) y))
 
 pub add_spec : {M : Type 1} → statement M
 add_spec =
     tie.close
     (tie.spec
-    add-requires
-    enum_told
-    enum-told-2
-    same_length
-    same_length_2
-    returns
+    add-r-requires
+    enum_told-1
+    enum_told-in_default
+    shape_of-nodes-in_default
+    shape_of-members-in_default
+    returns-in_default
     empty-requires
-    same_length_3
-    same-length-4
-    returns_2)
+    shape_of-nodes
+    shape_of-members
+    returns)

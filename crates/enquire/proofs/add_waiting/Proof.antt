@@ -22,75 +22,73 @@ abbrev here : tie.Start → Tableau
 here c = let a = c.args in lent a.schema.now a.proof.now a.nodes.now a.members.now a.h
 
 -- the set's length is within its memory
-few : (c : tie.After-natural-at) → c.natural-at.result ≤ 1024
+few : (c : tie.After-natural_at-size) → c.natural_at-size.result ≤ 1024
 unfolding waits
 few c =
-    let W = c.before.args.waiting.now in
-    omega (arith, c.natural-at.ensures.0, below_nat 1025 (get_or W 1 (pos 0)) (within_below 1024 (get_or W 1 (pos 0)) ∙ and_right (eq_z (get_or W 0 (pos 0)) (pos 1)) _ c.before.requires.1))
+    let W = c.args.waiting.now in
+    omega (arith, c.natural_at-size.ensures.0, below_nat 1025 (get_or W 1 (pos 0)) (within_below 1024 (get_or W 1 (pos 0)) ∙ and_right (eq_z (get_or W 0 (pos 0)) (pos 1)) _ c.requires.1))
 
 -- the row that waits, by its parts
-row_is : (c : tie.After-natural-at) →
-    let W = c.before.args.waiting.now in
-    let n = c.natural-at.result in
+row_is : (c : tie.After-natural_at-size) →
+    let W = c.args.waiting.now in
+    let n = c.natural_at-size.result in
     row_from (take 7 (drop 2 W)) (take (9 + n - 9) (drop 9 W)) ≡ waiting_row W
 row_is c =
-    let W = c.before.args.waiting.now in
-    let e : 9 + c.natural-at.result - 9 ≡ nat (get_or W 1 (pos 0)) = omega (arith, c.natural-at.ensures.0) in
+    let W = c.args.waiting.now in
+    let e : 9 + c.natural_at-size.result - 9 ≡ nat (get_or W 1 (pos 0)) = omega (arith, c.natural_at-size.ensures.0) in
     ap (λ (k : ℕ). row_from (take 7 (drop 2 W)) (take k (drop 9 W))) e ∙ parts W
 
-natural_at_requires : tie.Need-natural-at-requires
-natural_at_requires c κs = search rules
+natural_at-size-requires : tie.Need-natural_at-size-requires
+natural_at-size-requires c κs = search rules
 
-sub-add : tie.Need-overflow-sub-add
-sub-add c = search rules
+slice_bounds-add-count : tie.Need-slice_bounds-add-count
+slice_bounds-add-count c = search rules
 
-part-add-start : tie.Need-slice-bounds-add-start
-part-add-start c = search rules
+slice_bounds-add-start : tie.Need-slice_bounds-add-start
+slice_bounds-add-start c = search rules
 
-part-add-end : tie.Need-slice-bounds-add-end
-part-add-end c = search rules
+slice_bounds-add-end : tie.Need-slice_bounds-add-end
+slice_bounds-add-end c = search rules
 
-add-add : tie.Need-overflow-add-add
-add-add c = omega (arith, few c.before.before.before)
+overflow_add-size : tie.Need-overflow_add-size
+overflow_add-size c = omega (arith, few c.before.before.before)
 
-sub-add-2 : tie.Need-overflow-sub-add-2
-sub-add-2 c = omega arith
+slice_bounds-add-count-2 : tie.Need-slice_bounds-add-count-2
+slice_bounds-add-count-2 c = omega arith
 
-part-add-start-2 : tie.Need-slice-bounds-add-start-2
-part-add-start-2 c = omega arith
+slice_bounds-add-start-2 : tie.Need-slice_bounds-add-start-2
+slice_bounds-add-start-2 c = omega arith
 
-part-add-end-2 : tie.Need-slice-bounds-add-end-2
-part-add-end-2 c = let k = c.before.before.before in omega (arith, few k, k.before.requires.0)
+slice_bounds-add-end-2 : tie.Need-slice_bounds-add-end-2
+slice_bounds-add-end-2 c = omega (arith, few c.before.before.before, c.requires.0)
 
 add-requires : tie.Need-add-requires
 add-requires c κs = search rules
 
-same_length : tie.Need-same-length
-same_length c = search rules
+shape_of-nodes : tie.Need-shape_of-nodes
+shape_of-nodes c = search rules
 
-same_length_2 : tie.Need-same-length-2
-same_length_2 c = search rules
+shape_of-members : tie.Need-shape_of-members
+shape_of-members c = search rules
 
 returns : tie.Need-returns
 returns d =
-    let c = d.before.before in
-    let k = c.before.before.before.before.before in
-    let T = here k.before in
-    (c.add.ensures.0 ∙ (λ i. answered T (add (row_is k i))), c.add.ensures.1 ∙ (λ i. after T (add (row_is k i))))
+    let T = here d.before.before.before.before.before.before.before.before in
+    (d.add.ensures.0 ∙ (λ i. answered T (add (row_is d.before.before.before.before.before.before.before i))), d.add.ensures.1 ∙ (λ i. after T (add (row_is d.before.before.before.before.before.before.before i))))
 
 pub add_waiting_spec : {M : Type 1} → statement M
 add_waiting_spec =
     tie.close
     (tie.spec
-    natural_at_requires
-    sub-add
-    part-add-start
-    part-add-end
-    add-add
-    sub-add-2
-    part-add-start-2
-    part-add-end-2
+    natural_at-size-requires
+    slice_bounds-add-count
+    slice_bounds-add-start
+    slice_bounds-add-end
+    overflow_add-size
+    slice_bounds-add-count-2
+    slice_bounds-add-start-2
+    slice_bounds-add-end-2
     add-requires
-    same_length
-    same_length_2
+    shape_of-nodes
+    shape_of-members
     returns)

@@ -1,6 +1,6 @@
 use borrow.Author.Rules.{rules}
 use mathlib.Core.Path.{◌≡◌, sym, ◌∙◌, ap}
-use mathlib.Core.Bool.{true}
+use mathlib.Core.Bool.{true, not}
 use Rattle.stab.specs.Lent.{lent}
 use Rattle.stab.proofs.Bools.{asked_false, asked_true}
 use Rattle.growing.specs.Growing.{NodeRow, add}
@@ -21,94 +21,87 @@ abbrev row : tie.Start → NodeRow
 row c = waiting_row c.args.waiting.now
 
 -- a row waits
-abbrev start : tie.Else1 → tie.Start
+abbrev start : tie.Else-not-waits → tie.Start
 start c = c.before.before.before.before
 
-waiting_is : (c : tie.Else1) → waits (start c).args.waiting.now ≡ true
-waiting_is c = asked_true c.before.waits.ensures c.if1.false
+waiting_is : (c : tie.Else-not-waits) → waits (start c).args.waiting.now ≡ true
+waiting_is c = asked_true c.waits.ensures (ap not c.if-not-waits.false)
 
 waits-requires : tie.Need-waits-requires
 waits-requires c κs = search rules
 
-turn-away-requires : tie.Need-turn-away-requires
-turn-away-requires c κs = search rules
+turn_away-requires : tie.Need-turn_away-requires
+turn_away-requires c κs = search rules
 
-same_length : tie.Need-same-length
-same_length c = search rules
+shape_of-nodes-then-not-waits : tie.Need-shape_of-nodes-then-not-waits
+shape_of-nodes-then-not-waits c = search rules
 
-same_length_2 : tie.Need-same-length-2
-same_length_2 c = search rules
+shape_of-members-then-not-waits : tie.Need-shape_of-members-then-not-waits
+shape_of-members-then-not-waits c = search rules
 
-returns : tie.Need-returns
-returns c =
-    let t = c.before.before.before in
-    let b = t.before.before.before.before in
-    let a = b.args in
-    let h = asked_false t.before.waits.ensures t.if1.true in (
-      ap (λ (r : Reply). r.answer) c.turn-away.ensures ∙ no_commit_answer (E b) h,
-      ap (λ (r : Reply). editor (lent a.schema.now a.proof.now a.nodes.now a.members.now (header_after a.h r)) a.waiting.now) c.turn-away.ensures
-          ∙ sym (no_commit (E b) h),
+returns-then-not-waits : tie.Need-returns-then-not-waits
+returns-then-not-waits c =
+    let a = c.args in
+    let h = asked_false c.waits.ensures (ap not c.if-not-waits.true) in (
+      ap (λ (r : Reply). r.answer) c.turn_away.ensures ∙ no_commit_answer (E c.before.before.before.before.before) h,
+      ap (λ (r : Reply). editor (lent a.schema.now a.proof.now a.nodes.now a.members.now (header_after a.h r)) a.waiting.now) c.turn_away.ensures
+          ∙ sym (no_commit (E c.before.before.before.before.before) h),
     )
 
-add-waiting-requires : tie.Need-add-waiting-requires
-add-waiting-requires c κs = (search rules, waiting_is c.before.before.before.before)
+add_waiting-r-requires : tie.Need-add_waiting-r-requires
+add_waiting-r-requires c κs = (search rules, waiting_is c.before.before.before.before)
 
-enum_told : tie.Need-enum-told
-enum_told c = search rules
+enum_told-1 : tie.Need-enum_told-1
+enum_told-1 c = search rules
 
-enum-told-2 : tie.Need-enum-told-2
-enum-told-2 c = search rules
+enum_told-in_default : tie.Need-enum_told-in_default
+enum_told-in_default c = search rules
 
-same_length_3 : tie.Need-same-length-3
-same_length_3 c = search rules
+shape_of-nodes-in_default : tie.Need-shape_of-nodes-in_default
+shape_of-nodes-in_default c = search rules
 
-same-length-4 : tie.Need-same-length-4
-same-length-4 c = search rules
+shape_of-members-in_default : tie.Need-shape_of-members-in_default
+shape_of-members-in_default c = search rules
 
-returns_2 : tie.Need-returns-2
-returns_2 c =
-    let k = c.before.before.before.before in
-    let o = k.before.before.before.before.before in
-    let b = start o in
-    let e = k.add-waiting.ensures in
-    let v = call_refused (E b).held (add (row b)) _ _ _ (sym e.0 ∙ c.enum-told2.given.1) in
-    (e.0 ∙ commit_answer (E b) (waiting_is o), (λ i. record { held = e.1 i; waiting = b.args.waiting.now }) ∙ sym (committed_no (E b) (waiting_is o) v.0 v.1 v.2))
+returns-in_default : tie.Need-returns-in_default
+returns-in_default c =
+    let b = start c.before.before.before.before.before.before.before.before in
+    let e = c.add_waiting-r.ensures in
+    let v = call_refused (E b).held (add (row b)) _ _ _ (sym e.0 ∙ c.in_default.is) in
+    (e.0 ∙ commit_answer (E b) (waiting_is c.before.before.before.before.before.before.before.before), (λ i. record { held = e.1 i; waiting = b.args.waiting.now }) ∙ sym (committed_no (E b) (waiting_is c.before.before.before.before.before.before.before.before) v.0 v.1 v.2))
 
 empty-requires : tie.Need-empty-requires
 empty-requires c κs = search rules
 
-same-length-5 : tie.Need-same-length-5
-same-length-5 c = search rules
+shape_of-nodes : tie.Need-shape_of-nodes
+shape_of-nodes c = search rules
 
-same-length-6 : tie.Need-same-length-6
-same-length-6 c = search rules
+shape_of-members : tie.Need-shape_of-members
+shape_of-members c = search rules
 
-returns_3 : tie.Need-returns-3
-returns_3 c =
-    let t = c.before.before in
-    let k = t.before.before.before.before in
-    let o = k.before.before.before.before.before in
-    let b = start o in
-    let e = k.add-waiting.ensures in
-    let y = call_held (E b).held (add (row b)) _ _ _ (sym e.0 ∙ t.enum_told.given.1) in
-    (e.0 ∙ commit_answer (E b) (waiting_is o), (λ i. record { held = e.1 i; waiting = c.empty.ensures i }) ∙ sym (committed_yes (E b) (waiting_is o) y))
+returns : tie.Need-returns
+returns c =
+    let b = start c.before.before.before.before.before.before.before.before.before.before in
+    let e = c.add_waiting-r.ensures in
+    let y = call_held (E b).held (add (row b)) _ _ _ (sym e.0 ∙ c.in-Held.is) in
+    (e.0 ∙ commit_answer (E b) (waiting_is c.before.before.before.before.before.before.before.before.before.before), (λ i. record { held = e.1 i; waiting = c.empty.ensures i }) ∙ sym (committed_yes (E b) (waiting_is c.before.before.before.before.before.before.before.before.before.before) y))
 
 pub commit_spec : {M : Type 1} → statement M
 commit_spec =
     tie.close
     (tie.spec
     waits-requires
-    turn-away-requires
-    same_length
-    same_length_2
-    returns
-    add-waiting-requires
-    enum_told
-    enum-told-2
-    same_length_3
-    same-length-4
-    returns_2
+    turn_away-requires
+    shape_of-nodes-then-not-waits
+    shape_of-members-then-not-waits
+    returns-then-not-waits
+    add_waiting-r-requires
+    enum_told-1
+    enum_told-in_default
+    shape_of-nodes-in_default
+    shape_of-members-in_default
+    returns-in_default
     empty-requires
-    same-length-5
-    same-length-6
-    returns_3)
+    shape_of-nodes
+    shape_of-members
+    returns)

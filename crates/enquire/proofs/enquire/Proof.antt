@@ -24,81 +24,73 @@ abbrev row : tie.Start → NodeRow
 row c = row_from c.args.row.now c.args.set.now
 
 -- no row is changed
-left_is : (c : tie.After-try-row) →
-    let b = c.before.before.before in
-    let a = b.args in
-    lent a.schema.now a.proof.now c.try-row.new.1.1.1.0 c.try-row.new.1.1.1.1.0 a.h ≡ (E b).held
+left_is : (c : tie.After-try_row-r) →
+    let a = c.args in
+    lent a.schema.now a.proof.now c.try_row-r.new.nodes c.try_row-r.new.members a.h ≡ (E c.before.before.before).held
 unfolding tried if◌then◌else◌
 left_is c i =
-    let a = c.before.before.before.args in
-    lent a.schema.now a.proof.now (c.try-row.ensures.1 i).nodes (c.try-row.ensures.1 i).members a.h
+    let a = c.args in
+    lent a.schema.now a.proof.now (c.try_row-r.ensures.1 i).nodes (c.try_row-r.ensures.1 i).members a.h
 
 -- the answer is yes
-yes : (t : tie.After-enum-told) → let b = t.before.before.before.before.before.before.before in call_refusal (E b).held (add (row b)) ≡ Nothing
-yes t = let k = t.before.before.before.before in let b = k.before.before.before in call_held (E b).held (add (row b)) _ _ _ (sym k.try-row.ensures.0 ∙ t.enum_told.given.1)
+yes : (t : tie.In-Held) → call_refusal (E t.before.before.before.before.before.before).held (add (row t.before.before.before.before.before.before)) ≡ Nothing
+yes t = call_held (E t.before.before.before.before.before.before).held (add (row t.before.before.before.before.before.before)) _ _ _ (sym t.try_row-r.ensures.0 ∙ t.in-Held.is)
 
-try-row-requires : tie.Need-try-row-requires
-try-row-requires c κs = search rules
+try_row-r-requires : tie.Need-try_row-r-requires
+try_row-r-requires c κs = search rules
 
-enum_told : tie.Need-enum-told
-enum_told c = search rules
+enum_told-1 : tie.Need-enum_told-1
+enum_told-1 c = search rules
 
-enum-told-2 : tie.Need-enum-told-2
-enum-told-2 c = search rules
+enum_told-in_default : tie.Need-enum_told-in_default
+enum_told-in_default c = search rules
 
 clear-requires : tie.Need-clear-requires
 clear-requires c κs = search rules
 
-same_length : tie.Need-same-length
-same_length c = search rules
+shape_of-nodes-in_default : tie.Need-shape_of-nodes-in_default
+shape_of-nodes-in_default c = search rules
 
-same_length_2 : tie.Need-same-length-2
-same_length_2 c = search rules
+shape_of-members-in_default : tie.Need-shape_of-members-in_default
+shape_of-members-in_default c = search rules
 
-returns : tie.Need-returns
+returns-in_default : tie.Need-returns-in_default
 unfolding nothing_waits
-returns c =
-    let t = c.before.before in
-    let k = t.before.before.before.before in
-    let b = k.before.before.before in
-    let l : length b.args.waiting.now ≡ 1033 = search rules in
-    let v = call_refused (E b).held (add (row b)) _ _ _ (sym k.try-row.ensures.0 ∙ t.enum-told2.given.1) in (
-      k.try-row.ensures.0 ∙ enquiry_answer (E b) (row b),
-      (λ i. record { held = left_is k i; waiting = (c.clear.ensures ∙ cleared_padded b.args.waiting.now 0 1033 (omega arith) l) i })
-          ∙ sym (enquired_no (E b) (row b) v.0 v.1 v.2),
+returns-in_default c =
+    let l : length c.args.waiting.now ≡ 1033 = search rules in
+    let v = call_refused (E c.before.before.before.before.before.before.before.before).held (add (row c.before.before.before.before.before.before.before.before)) _ _ _ (sym c.try_row-r.ensures.0 ∙ c.in_default.is) in (
+      c.try_row-r.ensures.0 ∙ enquiry_answer (E c.before.before.before.before.before.before.before.before) (row c.before.before.before.before.before.before.before.before),
+      (λ i. record { held = left_is c.before.before.before.before.before i; waiting = (c.clear.ensures ∙ cleared_padded c.args.waiting.now 0 1033 (omega arith) l) i })
+          ∙ sym (enquired_no (E c.before.before.before.before.before.before.before.before) (row c.before.before.before.before.before.before.before.before) v.0 v.1 v.2),
     )
 
 store-requires : tie.Need-store-requires
 unfolding call_refusal row_from
 store-requires c κs =
-    let b = c.before.before.before.before.before.before.before.before in
-    (search rules, accepted_few (E b).held (row b) (yes c.before))
+    (search rules, accepted_few (E c.before.before.before.before.before.before.before).held (row c.before.before.before.before.before.before.before) (yes c.before))
 
-same_length_3 : tie.Need-same-length-3
-same_length_3 c = search rules
+shape_of-nodes : tie.Need-shape_of-nodes
+shape_of-nodes c = search rules
 
-same-length-4 : tie.Need-same-length-4
-same-length-4 c = search rules
+shape_of-members : tie.Need-shape_of-members
+shape_of-members c = search rules
 
-returns_2 : tie.Need-returns-2
-returns_2 c =
-    let t = c.before.before in
-    let k = t.before.before.before.before in
-    let b = k.before.before.before in
-    (k.try-row.ensures.0 ∙ enquiry_answer (E b) (row b), (λ i. record { held = left_is k i; waiting = c.store.ensures i }) ∙ sym (enquired_yes (E b) (row b) (yes t)))
+returns : tie.Need-returns
+returns c =
+    (c.try_row-r.ensures.0 ∙ enquiry_answer (E c.before.before.before.before.before.before.before.before) (row c.before.before.before.before.before.before.before.before), (λ i. record { held = left_is c.before.before.before.before.before i; waiting = c.store.ensures i }) ∙ sym (enquired_yes (E c.before.before.before.before.before.before.before.before) (row c.before.before.before.before.before.before.before.before) (yes c.before.before)))
 
 pub enquire_spec : {M : Type 1} → statement M
 enquire_spec =
     tie.close
     (tie.spec
-    try-row-requires
-    enum_told
-    enum-told-2
+    try_row-r-requires
+    enum_told-1
+    enum_told-in_default
     clear-requires
-    same_length
-    same_length_2
-    returns
+    shape_of-nodes-in_default
+    shape_of-members-in_default
+    returns-in_default
     store-requires
-    same_length_3
-    same-length-4
-    returns_2)
+    shape_of-nodes
+    shape_of-members
+    returns)

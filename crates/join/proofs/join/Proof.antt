@@ -1,5 +1,5 @@
-use mathlib.Core.Path.{◌≡◌, sym, ◌∙◌}
-use mathlib.Core.Bool.{true}
+use mathlib.Core.Path.{◌≡◌, sym, ◌∙◌, ap}
+use mathlib.Core.Bool.{true, not}
 use borrow.Author.Rules.{rules}
 use Rattle.stab.specs.Node.{Tableau}
 use Rattle.stab.specs.Lent.{lent}
@@ -14,20 +14,20 @@ use Rattle.join.proofs.join.Tie as tie
 
 -- the two records, and the rooms that are lent
 abbrev A : tie.Start → Tableau
-A b = let a = b.args in lent a.first-schema.now a.first-proof.now a.first-nodes.now a.first-members.now a.first
+A b = let a = b.args in lent a.first_schema.now a.first_proof.now a.first_nodes.now a.first_members.now a.first
 
 abbrev B : tie.Start → Tableau
-B b = let a = b.args in lent a.second-schema.now a.second-proof.now a.second-nodes.now a.second-members.now a.second
+B b = let a = b.args in lent a.second_schema.now a.second_proof.now a.second_nodes.now a.second_members.now a.second
 
 abbrev R : tie.Start → Rooms
-R b = let a = b.args in rooms a.out-schema.now a.out-proof.now a.out-nodes.now a.out-members.now
+R b = let a = b.args in rooms a.out_schema.now a.out_proof.now a.out_nodes.now a.out_members.now
 
 -- where it is known what is found before
 abbrev start : tie.After-refusal → tie.Start
-start c = c.before.before.before.before.before.before.before
+start c = c.before.before.before
 
 has_room : (c : tie.After-refusal) → roomy (R (start c)) ≡ true
-has_room c = asked_true c.before.before.full.ensures c.before.if1.false
+has_room c = asked_true c.full.ensures (ap not c.if-not-full.false)
 
 found_is : (c : tie.After-refusal) → let b = start c in c.refusal.result ≡ found_before (A b) (B b)
 found_is c = c.refusal.ensures
@@ -38,84 +38,76 @@ full-requires c κs = search rules
 refuse-requires : tie.Need-refuse-requires
 refuse-requires c κs = search rules
 
-same_length : tie.Need-same-length
-same_length c = search rules
+shape_of-out_schema-then-not-full : tie.Need-shape_of-out_schema-then-not-full
+shape_of-out_schema-then-not-full c = search rules
 
-same_length_2 : tie.Need-same-length-2
-same_length_2 c = search rules
+shape_of-out_proof-then-not-full : tie.Need-shape_of-out_proof-then-not-full
+shape_of-out_proof-then-not-full c = search rules
 
-same_length_3 : tie.Need-same-length-3
-same_length_3 c = search rules
+shape_of-out_nodes-then-not-full : tie.Need-shape_of-out_nodes-then-not-full
+shape_of-out_nodes-then-not-full c = search rules
 
-same-length-4 : tie.Need-same-length-4
-same-length-4 c = search rules
+shape_of-out_members-then-not-full : tie.Need-shape_of-out_members-then-not-full
+shape_of-out_members-then-not-full c = search rules
 
-returns : tie.Need-returns
-returns c =
-    let e = c.before.before.before.before.refuse.ensures in
-    let i = c.before.before.before.before.before.before.before.before.before in
-    let b = i.before.before.before.before.before.before in
-    answers (R b) (A b) (B b)
-    (refused_by (R b) (A b) (B b) (short_found (R b) (A b) (B b) (asked_false i.before.full.ensures i.if1.true)) e.0 e.1.0 e.1.1.0 e.1.1.1.0 e.1.1.1.1)
+returns-then-not-full : tie.Need-returns-then-not-full
+returns-then-not-full c =
+    let e = c.refuse.ensures in
+    answers (R c.before.before.before.before.before.before.before.before.before.before.before) (A c.before.before.before.before.before.before.before.before.before.before.before) (B c.before.before.before.before.before.before.before.before.before.before.before)
+    (refused_by (R c.before.before.before.before.before.before.before.before.before.before.before) (A c.before.before.before.before.before.before.before.before.before.before.before) (B c.before.before.before.before.before.before.before.before.before.before.before) (short_found (R c.before.before.before.before.before.before.before.before.before.before.before) (A c.before.before.before.before.before.before.before.before.before.before.before) (B c.before.before.before.before.before.before.before.before.before.before.before) (asked_false c.full.ensures (ap not c.if-not-full.true))) e.0 e.1.0 e.1.1.0 e.1.1.1.0 e.1.1.1.1)
 
 refusal-requires : tie.Need-refusal-requires
 refusal-requires c κs = search rules
 
-enum-known-why : tie.Need-enum-known-why
-enum-known-why c = search rules
+enum_known-why : tie.Need-enum_known-why
+enum_known-why c = search rules
 
-refuse-requires-2 : tie.Need-refuse-requires-2
-refuse-requires-2 c κs = search rules
+refuse-requires-in-Found : tie.Need-refuse-requires-in-Found
+refuse-requires-in-Found c κs = search rules
 
-enum_told : tie.Need-enum-told
-enum_told c = search rules
+enum_told-1 : tie.Need-enum_told-1
+enum_told-1 c = search rules
 
 filled-requires : tie.Need-filled-requires
 filled-requires c κs =
-    let w = c.before.before.before.before in
-    let d = w.before.before in
-    (has_room d, nothing_found _ _ (found_is d) w.enum_told.given.1)
+    (has_room c.before.before.before.before.before, nothing_found _ _ (found_is c.before.before.before.before.before) c.in-Nothing.is)
 
-same-length-5 : tie.Need-same-length-5
-same-length-5 c = search rules
+shape_of-out_schema-in-Found : tie.Need-shape_of-out_schema-in-Found
+shape_of-out_schema-in-Found c = search rules
 
-same-length-6 : tie.Need-same-length-6
-same-length-6 c = search rules
+shape_of-out_proof-in-Found : tie.Need-shape_of-out_proof-in-Found
+shape_of-out_proof-in-Found c = search rules
 
-same-length-7 : tie.Need-same-length-7
-same-length-7 c = search rules
+shape_of-out_nodes-in-Found : tie.Need-shape_of-out_nodes-in-Found
+shape_of-out_nodes-in-Found c = search rules
 
-same-length-8 : tie.Need-same-length-8
-same-length-8 c = search rules
+shape_of-out_members-in-Found : tie.Need-shape_of-out_members-in-Found
+shape_of-out_members-in-Found c = search rules
 
-returns_2 : tie.Need-returns-2
-returns_2 c =
-    let e = c.before.before.before.before.refuse2.ensures in
-    let w = c.before.before.before.before.before.before.before.before.before.before in
-    let d = w.before.before in
-    let b = start d in
+returns-in-Found : tie.Need-returns-in-Found
+returns-in-Found c =
+    let e = c.refuse-in-Found.ensures in
+    let b = start c.before.before.before.before.before.before.before.before.before.before in
     answers (R b) (A b) (B b)
-    (refused_by (R b) (A b) (B b) (found_before_lem (R b) (A b) (B b) (has_room d) _ _ (sym (found_is d) ∙ w.why.given.1)) e.0 e.1.0 e.1.1.0 e.1.1.1.0 e.1.1.1.1)
+    (refused_by (R b) (A b) (B b) (found_before_lem (R b) (A b) (B b) (has_room c.before.before.before.before.before.before.before.before.before.before) _ _ (sym (found_is c.before.before.before.before.before.before.before.before.before.before) ∙ c.in-Found.is)) e.0 e.1.0 e.1.1.0 e.1.1.1.0 e.1.1.1.1)
 
-same-length-9 : tie.Need-same-length-9
-same-length-9 c = search rules
+shape_of-out_schema-in-Nothing : tie.Need-shape_of-out_schema-in-Nothing
+shape_of-out_schema-in-Nothing c = search rules
 
-same-length-10 : tie.Need-same-length-10
-same-length-10 c = search rules
+shape_of-out_proof-in-Nothing : tie.Need-shape_of-out_proof-in-Nothing
+shape_of-out_proof-in-Nothing c = search rules
 
-same-length-11 : tie.Need-same-length-11
-same-length-11 c = search rules
+shape_of-out_nodes-in-Nothing : tie.Need-shape_of-out_nodes-in-Nothing
+shape_of-out_nodes-in-Nothing c = search rules
 
-same-length-12 : tie.Need-same-length-12
-same-length-12 c = search rules
+shape_of-out_members-in-Nothing : tie.Need-shape_of-out_members-in-Nothing
+shape_of-out_members-in-Nothing c = search rules
 
-returns_3 : tie.Need-returns-3
-returns_3 c =
-    let d = c.before.before.before.before in
-    let w = c.before.before.before.before.before.before.before.before.before in
-    let b = start w.before.before in
+returns-in-Nothing : tie.Need-returns-in-Nothing
+returns-in-Nothing c =
+    let b = start c.before.before.before.before.before.before.before.before.before.before in
     answers (R b) (A b) (B b)
-    d.filled.ensures
+    c.filled.ensures
 
 pub join_spec : {M : Type 1} → statement M
 join_spec =
@@ -123,23 +115,23 @@ join_spec =
     (tie.spec
     full-requires
     refuse-requires
-    same_length
-    same_length_2
-    same_length_3
-    same-length-4
-    returns
+    shape_of-out_schema-then-not-full
+    shape_of-out_proof-then-not-full
+    shape_of-out_nodes-then-not-full
+    shape_of-out_members-then-not-full
+    returns-then-not-full
     refusal-requires
-    enum-known-why
-    refuse-requires-2
-    enum_told
+    enum_known-why
+    refuse-requires-in-Found
+    enum_told-1
     filled-requires
-    same-length-5
-    same-length-6
-    same-length-7
-    same-length-8
-    returns_2
-    same-length-9
-    same-length-10
-    same-length-11
-    same-length-12
-    returns_3)
+    shape_of-out_schema-in-Found
+    shape_of-out_proof-in-Found
+    shape_of-out_nodes-in-Found
+    shape_of-out_members-in-Found
+    returns-in-Found
+    shape_of-out_schema-in-Nothing
+    shape_of-out_proof-in-Nothing
+    shape_of-out_nodes-in-Nothing
+    shape_of-out_members-in-Nothing
+    returns-in-Nothing)

@@ -6,19 +6,19 @@ use Rattle.stab.proofs.Bools.{if_true, if_false}
 use Rattle.told.proofs.fault.Statement.{statement}
 use Rattle.told.proofs.fault.Tie as tie
 
-mul-twice : tie.Need-overflow-mul-twice
-mul-twice c = search rules
+overflow_mul-twice : tie.Need-overflow_mul-twice
+overflow_mul-twice c = search rules
 
-add-result : tie.Need-overflow-add-result
-add-result c = search rules
+overflow_add-result : tie.Need-overflow_add-result
+overflow_add-result c = search rules
+
+returns-then-f : tie.Need-returns-then-f
+unfolding fault_number
+returns-then-f c = omega (arith, if_true {A = ℕ} c.args.f.second 1 0 c.if-f.true)
 
 returns : tie.Need-returns
 unfolding fault_number
-returns c = omega (arith, if_true {A = ℕ} c.before.args.f.second 1 0 c.if1.true)
-
-returns_2 : tie.Need-returns-2
-unfolding fault_number
-returns_2 c = omega (arith, if_false {A = ℕ} c.before.args.f.second 1 0 c.if1.false)
+returns c = omega (arith, if_false {A = ℕ} c.args.f.second 1 0 c.if-f.false)
 
 pub fault_spec : {M : Type 1} → statement M
-fault_spec = tie.close (tie.spec mul-twice add-result returns returns_2)
+fault_spec = tie.close (tie.spec overflow_mul-twice overflow_add-result returns-then-f returns)

@@ -12,65 +12,61 @@ use Rattle.found.proofs.Packed.{packed_as}
 use Rattle.told.proofs.first_model.Statement.{statement}
 use Rattle.told.proofs.first_model.Tie as tie
 
-enum-known-first : tie.Need-enum-known-first
-enum-known-first c = search rules
+enum_known-first : tie.Need-enum_known-first
+enum_known-first c = search rules
 
 of-requires : tie.Need-of-requires
 unfolding found_numbers
 of-requires c κs =
-    let k = c.before in
-    omega (arith, subst (λ (r : ModelFound). (found_numbers r).pairs ≤ 16) k.first.given.1 k.before.before.requires.1)
+    omega (arith, subst (λ (r : ModelFound). (found_numbers r).pairs ≤ 16) c.in-Model.is c.requires.1)
 
 pack-requires : tie.Need-pack-requires
 pack-requires c κs = search rules
 
-enum_told : tie.Need-enum-told
-enum_told c = search rules
+enum_told-1 : tie.Need-enum_told-1
+enum_told-1 c = search rules
 
-pack-requires-2 : tie.Need-pack-requires-2
-pack-requires-2 c κs = search rules
+pack-requires-in-None : tie.Need-pack-requires-in-None
+pack-requires-in-None c κs = search rules
 
-enum-known-first-2 : tie.Need-enum-known-first-2
-enum-known-first-2 c = search rules
+enum_known-first-in-Refused-1 : tie.Need-enum_known-first-in-Refused-1
+enum_known-first-in-Refused-1 c = search rules
 
-pack-requires-3 : tie.Need-pack-requires-3
-pack-requires-3 c κs =
-    let k = c.before.before in
-    subst (λ (r : ModelFound). Packs (found_verdict r)) k.first2.given.1 k.before.before.requires.0
+pack-requires-in-Refused : tie.Need-pack-requires-in-Refused
+pack-requires-in-Refused c κs =
+    subst (λ (r : ModelFound). Packs (found_verdict r)) c.in-Refused.is c.requires.0
 
-returns : tie.Need-returns
+returns-in-Model : tie.Need-returns-in-Model
 unfolding found_results found_numbers
-returns c =
-    let o = c.before.before in
-    let k = o.before in
-    let e = sym k.before.first.given.1 in (
+returns-in-Model c =
+    let e = sym c.in-Model.is in (
       c.pack.ensures ∙ sym (packed_as _) ∙ ap found_packed e,
-      ap₂ (λ (x y : ℤ). x ∷ y ∷ []) (read_back _ k.known-told.given.0.1) (read_back _ o.of.type-inv ∙ o.of.ensures) ∙ ap found_results e,
+      ap₂ (λ (x y : ℤ). x ∷ y ∷ []) (read_back _ c.in-Model.known_told-1-own.given.0.1) (read_back _ c.of.type_inv ∙ c.of.ensures) ∙ ap found_results e,
     )
 
-returns_2 : tie.Need-returns-2
+returns-in-None : tie.Need-returns-in-None
 unfolding found_results found_numbers
-returns_2 c =
-    let e = sym c.before.before.enum_told.given.1 in
-    (c.pack2.ensures ∙ sym (packed_as _) ∙ ap found_packed e, ap found_results e)
+returns-in-None c =
+    let e = sym c.in-None.is in
+    (c.pack-in-None.ensures ∙ sym (packed_as _) ∙ ap found_packed e, ap found_results e)
 
-returns_3 : tie.Need-returns-3
+returns-in-Refused : tie.Need-returns-in-Refused
 unfolding found_results found_numbers
-returns_3 c =
-    let e = sym c.before.before.before.first2.given.1 in
-    (c.pack3.ensures ∙ sym (packed_as _) ∙ ap found_packed e, ap found_results e)
+returns-in-Refused c =
+    let e = sym c.in-Refused.is in
+    (c.pack-in-Refused.ensures ∙ sym (packed_as _) ∙ ap found_packed e, ap found_results e)
 
 pub first_model_spec : {M : Type 1} → statement M
 first_model_spec =
     tie.close
     (tie.spec
-    enum-known-first
+    enum_known-first
     of-requires
     pack-requires
-    enum_told
-    pack-requires-2
-    enum-known-first-2
-    pack-requires-3
-    returns
-    returns_2
-    returns_3)
+    enum_told-1
+    pack-requires-in-None
+    enum_known-first-in-Refused-1
+    pack-requires-in-Refused
+    returns-in-Model
+    returns-in-None
+    returns-in-Refused)

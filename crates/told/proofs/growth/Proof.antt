@@ -11,53 +11,49 @@ use Rattle.grow.proofs.Packs.{packed_is}
 use Rattle.told.proofs.growth.Statement.{statement}
 use Rattle.told.proofs.growth.Tie as tie
 
-enum-known-r : tie.Need-enum-known-r
-enum-known-r c = search rules
+enum_known-r : tie.Need-enum_known-r
+enum_known-r c = search rules
 
-closed-number-requires : tie.Need-closed-number-requires
-closed-number-requires c κs = search rules
+closed_number-requires : tie.Need-closed_number-requires
+closed_number-requires c κs = search rules
 
 pack-requires : tie.Need-pack-requires
-pack-requires c κs = subst (λ (r : Growth). Packs (as_verdict r)) c.before.before.before.r.given.1 c.before.before.before.before.before.requires
+pack-requires c κs = subst (λ (r : Growth). Packs (as_verdict r)) c.in-Held.is c.requires
 
-enum-known-r-2 : tie.Need-enum-known-r-2
-enum-known-r-2 c = search rules
+enum_known-r-in-Refused-1 : tie.Need-enum_known-r-in-Refused-1
+enum_known-r-in-Refused-1 c = search rules
 
-closed-number-requires-2 : tie.Need-closed-number-requires-2
-closed-number-requires-2 c κs = search rules
+closed_number-requires-in-Refused : tie.Need-closed_number-requires-in-Refused
+closed_number-requires-in-Refused c κs = search rules
 
-pack-requires-2 : tie.Need-pack-requires-2
-pack-requires-2 c κs = subst (λ (r : Growth). Packs (as_verdict r)) c.before.before.before.r2.given.1 c.before.before.before.before.before.requires
+pack-requires-in-Refused : tie.Need-pack-requires-in-Refused
+pack-requires-in-Refused c κs = subst (λ (r : Growth). Packs (as_verdict r)) c.in-Refused.is c.requires
 
-returns : tie.Need-returns
+returns-in-Held : tie.Need-returns-in-Held
 unfolding shown_number
-returns c =
-    let o = c.before.before in
-    let k = o.before.before in
-    let e = sym k.r.given.1 in (
-      c.pack.ensures ∙ ap (λ (r : Growth). packed (as_verdict r)) e ∙ sym (packed_is k.before.before.args.r),
-      (λ i. (read_back _ o.closed-number.type-inv ∙ o.closed-number.ensures) i ∷ []) ∙ ap (λ (r : Growth). pos (shown_number r) ∷ []) e,
+returns-in-Held c =
+    let e = sym c.in-Held.is in (
+      c.pack.ensures ∙ ap (λ (r : Growth). packed (as_verdict r)) e ∙ sym (packed_is c.args.r),
+      (λ i. (read_back _ c.closed_number.type_inv ∙ c.closed_number.ensures) i ∷ []) ∙ ap (λ (r : Growth). pos (shown_number r) ∷ []) e,
     )
 
-returns_2 : tie.Need-returns-2
+returns-in-Refused : tie.Need-returns-in-Refused
 unfolding shown_number
-returns_2 c =
-    let o = c.before.before in
-    let k = o.before.before in
-    let e = sym k.r2.given.1 in (
-      c.pack2.ensures ∙ ap (λ (r : Growth). packed (as_verdict r)) e ∙ sym (packed_is k.before.before.args.r),
-      (λ i. (read_back _ o.closed-number2.type-inv ∙ o.closed-number2.ensures) i ∷ []) ∙ ap (λ (r : Growth). pos (shown_number r) ∷ []) e,
+returns-in-Refused c =
+    let e = sym c.in-Refused.is in (
+      c.pack-in-Refused.ensures ∙ ap (λ (r : Growth). packed (as_verdict r)) e ∙ sym (packed_is c.args.r),
+      (λ i. (read_back _ c.closed_number-in-Refused.type_inv ∙ c.closed_number-in-Refused.ensures) i ∷ []) ∙ ap (λ (r : Growth). pos (shown_number r) ∷ []) e,
     )
 
 pub growth_spec : {M : Type 1} → statement M
 growth_spec =
     tie.close
     (tie.spec
-    enum-known-r
-    closed-number-requires
+    enum_known-r
+    closed_number-requires
     pack-requires
-    enum-known-r-2
-    closed-number-requires-2
-    pack-requires-2
-    returns
-    returns_2)
+    enum_known-r-in-Refused-1
+    closed_number-requires-in-Refused
+    pack-requires-in-Refused
+    returns-in-Held
+    returns-in-Refused)

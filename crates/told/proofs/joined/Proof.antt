@@ -10,66 +10,60 @@ use Rattle.joint.specs.Joint.{JoinedFits}
 use Rattle.told.proofs.joined.Statement.{statement}
 use Rattle.told.proofs.joined.Tie as tie
 
-enum-known-j : tie.Need-enum-known-j
-enum-known-j c = search rules
+enum_known-j : tie.Need-enum_known-j
+enum_known-j c = search rules
 
-fits : (k : tie.After-j) → let v = k.j.given.0 in JoinedFits (Record v.0 v.1.0 v.1.1.0 v.1.1.1.0 v.1.1.1.1.0 v.1.1.1.1.1.0)
-fits k = subst JoinedFits k.j.given.1 k.before.before.requires
+fits : (k : tie.In-Record) → JoinedFits (Record k.in-Record.root k.in-Record.least k.in-Record.schema k.in-Record.proof k.in-Record.nodes k.in-Record.members)
+fits k = subst JoinedFits k.in-Record.is k.requires
 
 of-requires : tie.Need-of-requires
-of-requires c κs = omega (arith, (fits c.before).0)
+of-requires c κs = omega (arith, (fits c).0)
 
-of-requires-2 : tie.Need-of-requires-2
-of-requires-2 c κs = omega (arith, (fits c.before.before).1)
+of-requires-in-Record : tie.Need-of-requires-in-Record
+of-requires-in-Record c κs = omega (arith, (fits c.before).1)
 
-of-requires-3 : tie.Need-of-requires-3
-of-requires-3 c κs = omega (arith, (fits c.before.before.before).2)
+of-requires-in-Record-2 : tie.Need-of-requires-in-Record-2
+of-requires-in-Record-2 c κs = omega (arith, (fits c.before.before).2)
 
-of-requires-4 : tie.Need-of-requires-4
-of-requires-4 c κs = omega (arith, (fits c.before.before.before.before).3)
+of-requires-in-Record-3 : tie.Need-of-requires-in-Record-3
+of-requires-in-Record-3 c κs = omega (arith, (fits c.before.before.before).3)
 
 pack-requires : tie.Need-pack-requires
 pack-requires c κs = search rules
 
-enum-known-j-2 : tie.Need-enum-known-j-2
-enum-known-j-2 c = search rules
+enum_known-j-in-Refused-1 : tie.Need-enum_known-j-in-Refused-1
+enum_known-j-in-Refused-1 c = search rules
 
-pack-requires-2 : tie.Need-pack-requires-2
-pack-requires-2 c κs = let k = c.before.before in subst JoinedFits k.j2.given.1 k.before.before.requires
+pack-requires-in-Refused : tie.Need-pack-requires-in-Refused
+pack-requires-in-Refused c κs = subst JoinedFits c.in-Refused.is c.requires
 
-returns : tie.Need-returns
+returns-in-Record : tie.Need-returns-in-Record
 unfolding joined_results joined_numbers joined_packed packed verdict_numbers refused_numbers
-returns c =
-    let o4 = c.before.before in
-    let o3 = o4.before in
-    let o2 = o3.before in
-    let o1 = o2.before in
-    let k = o1.before in
-    let g = k.before.j.given in
-    let root = read_back g.0.0 k.known-told.given.0.1 in
-    let least = read_back g.0.1.0 k.known-told.given.1.0.1 in (
-      c.pack.ensures ∙ ap joined_packed (sym g.1),
-      (λ i. root i ∷ least i ∷ (read_back _ o1.of.type-inv ∙ o1.of.ensures) i ∷ (read_back _ o2.of2.type-inv ∙ o2.of2.ensures) i ∷ (read_back _ o3.of3.type-inv ∙ o3.of3.ensures) i ∷ (read_back _ o4.of4.type-inv ∙ o4.of4.ensures) i ∷ [])
-          ∙ ap joined_results (sym g.1),
+returns-in-Record c =
+    let root = read_back c.in-Record.root c.in-Record.known_told-1-own.given.0.1 in
+    let least = read_back c.in-Record.least c.in-Record.known_told-1-own.given.1.0.1 in (
+      c.pack.ensures ∙ ap joined_packed (sym c.in-Record.is),
+      (λ i. root i ∷ least i ∷ (read_back _ c.of.type_inv ∙ c.of.ensures) i ∷ (read_back _ c.of-in-Record.type_inv ∙ c.of-in-Record.ensures) i ∷ (read_back _ c.of-in-Record-2.type_inv ∙ c.of-in-Record-2.ensures) i ∷ (read_back _ c.of-in-Record-3.type_inv ∙ c.of-in-Record-3.ensures) i ∷ [])
+          ∙ ap joined_results (sym c.in-Record.is),
     )
 
-returns_2 : tie.Need-returns-2
+returns-in-Refused : tie.Need-returns-in-Refused
 unfolding joined_results joined_numbers joined_packed packed verdict_numbers refused_numbers
-returns_2 c =
-    let e = sym c.before.before.before.j2.given.1 in
-    (c.pack2.ensures ∙ ap joined_packed e, ap joined_results e)
+returns-in-Refused c =
+    let e = sym c.in-Refused.is in
+    (c.pack-in-Refused.ensures ∙ ap joined_packed e, ap joined_results e)
 
 pub joined_spec : {M : Type 1} → statement M
 joined_spec =
     tie.close
     (tie.spec
-    enum-known-j
+    enum_known-j
     of-requires
-    of-requires-2
-    of-requires-3
-    of-requires-4
+    of-requires-in-Record
+    of-requires-in-Record-2
+    of-requires-in-Record-3
     pack-requires
-    enum-known-j-2
-    pack-requires-2
-    returns
-    returns_2)
+    enum_known-j-in-Refused-1
+    pack-requires-in-Refused
+    returns-in-Record
+    returns-in-Refused)

@@ -9,45 +9,43 @@ use Rattle.stab.specs.Entry.{model_packed, model_results, without_counts, ModelF
 use Rattle.told.proofs.model.Statement.{statement}
 use Rattle.told.proofs.model.Tie as tie
 
-enum-known-read : tie.Need-enum-known-read
-enum-known-read c = search rules
+enum_known-read : tie.Need-enum_known-read
+enum_known-read c = search rules
 
 of-requires : tie.Need-of-requires
-of-requires c κs = let k = c.before in omega (arith, subst ModelFits k.read.given.1 k.before.before.requires)
+of-requires c κs = omega (arith, subst ModelFits c.in-Model.is c.requires)
 
 pack-requires : tie.Need-pack-requires
 pack-requires c κs = search rules
 
-enum-known-read-2 : tie.Need-enum-known-read-2
-enum-known-read-2 c = search rules
+enum_known-read-in-Refused-1 : tie.Need-enum_known-read-in-Refused-1
+enum_known-read-in-Refused-1 c = search rules
 
-pack-requires-2 : tie.Need-pack-requires-2
-pack-requires-2 c κs = let k = c.before.before in subst ModelFits k.read2.given.1 k.before.before.requires
+pack-requires-in-Refused : tie.Need-pack-requires-in-Refused
+pack-requires-in-Refused c κs = subst ModelFits c.in-Refused.is c.requires
 
-returns : tie.Need-returns
+returns-in-Model : tie.Need-returns-in-Model
 unfolding model_results model_numbers model_packed without_counts packed verdict_numbers refused_numbers
-returns c =
-    let o = c.before.before in
-    let k = o.before in
-    let e = sym k.before.read.given.1 in (
+returns-in-Model c =
+    let e = sym c.in-Model.is in (
       c.pack.ensures ∙ ap model_packed e,
-      ap₂ (λ (x y : ℤ). x ∷ y ∷ []) (read_back _ k.known-told.given.0.1) (read_back _ o.of.type-inv ∙ o.of.ensures) ∙ ap model_results e,
+      ap₂ (λ (x y : ℤ). x ∷ y ∷ []) (read_back _ c.in-Model.known_told-1-own.given.0.1) (read_back _ c.of.type_inv ∙ c.of.ensures) ∙ ap model_results e,
     )
 
-returns_2 : tie.Need-returns-2
+returns-in-Refused : tie.Need-returns-in-Refused
 unfolding model_results model_numbers model_packed without_counts packed verdict_numbers refused_numbers
-returns_2 c =
-    let e = sym c.before.before.before.read2.given.1 in
-    (c.pack2.ensures ∙ ap model_packed e, ap model_results e)
+returns-in-Refused c =
+    let e = sym c.in-Refused.is in
+    (c.pack-in-Refused.ensures ∙ ap model_packed e, ap model_results e)
 
 pub model_spec : {M : Type 1} → statement M
 model_spec =
     tie.close
     (tie.spec
-    enum-known-read
+    enum_known-read
     of-requires
     pack-requires
-    enum-known-read-2
-    pack-requires-2
-    returns
-    returns_2)
+    enum_known-read-in-Refused-1
+    pack-requires-in-Refused
+    returns-in-Model
+    returns-in-Refused)

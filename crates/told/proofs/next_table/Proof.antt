@@ -7,43 +7,43 @@ use Rattle.small.proofs.Packs.{packed_is}
 use Rattle.told.proofs.next_table.Statement.{statement}
 use Rattle.told.proofs.next_table.Tie as tie
 
-enum_told : tie.Need-enum-told
-enum_told c = search rules
+enum_told-1 : tie.Need-enum_told-1
+enum_told-1 c = search rules
 
 pack-requires : tie.Need-pack-requires
 pack-requires c κs = search rules
 
-enum-told-2 : tie.Need-enum-told-2
-enum-told-2 c = search rules
+enum_told-in-Last : tie.Need-enum_told-in-Last
+enum_told-in-Last c = search rules
 
-pack-requires-2 : tie.Need-pack-requires-2
-pack-requires-2 c κs = search rules
+pack-requires-in-Last : tie.Need-pack-requires-in-Last
+pack-requires-in-Last c κs = search rules
 
-enum-known-next : tie.Need-enum-known-next
-enum-known-next c = search rules
+enum_known-next : tie.Need-enum_known-next
+enum_known-next c = search rules
 
-pack-requires-3 : tie.Need-pack-requires-3
-pack-requires-3 c κs = let k = c.before in subst (λ (r : NextSmall). Packs (next_verdict r)) k.next.given.1 k.before.before.requires
+pack-requires-in-Refused : tie.Need-pack-requires-in-Refused
+pack-requires-in-Refused c κs = subst (λ (r : NextSmall). Packs (next_verdict r)) c.in-Refused.is c.requires
 
-returns : tie.Need-returns
-returns c = c.pack.ensures ∙ sym (packed_is _) ∙ ap next_packed (sym c.before.enum_told.given.1)
+returns-in-Table : tie.Need-returns-in-Table
+returns-in-Table c = c.pack.ensures ∙ sym (packed_is _) ∙ ap next_packed (sym c.in-Table.is)
 
-returns_2 : tie.Need-returns-2
-returns_2 c = c.pack2.ensures ∙ sym (packed_is _) ∙ ap next_packed (sym c.before.enum-told2.given.1)
+returns-in-Last : tie.Need-returns-in-Last
+returns-in-Last c = c.pack-in-Last.ensures ∙ sym (packed_is _) ∙ ap next_packed (sym c.in-Last.is)
 
-returns_3 : tie.Need-returns-3
-returns_3 c = c.pack3.ensures ∙ sym (packed_is _) ∙ ap next_packed (sym c.before.before.next.given.1)
+returns-in-Refused : tie.Need-returns-in-Refused
+returns-in-Refused c = c.pack-in-Refused.ensures ∙ sym (packed_is _) ∙ ap next_packed (sym c.in-Refused.is)
 
 pub next_table_spec : {M : Type 1} → statement M
 next_table_spec =
     tie.close
     (tie.spec
-    enum_told
+    enum_told-1
     pack-requires
-    enum-told-2
-    pack-requires-2
-    enum-known-next
-    pack-requires-3
-    returns
-    returns_2
-    returns_3)
+    enum_told-in-Last
+    pack-requires-in-Last
+    enum_known-next
+    pack-requires-in-Refused
+    returns-in-Table
+    returns-in-Last
+    returns-in-Refused)

@@ -8,27 +8,26 @@ use Rattle.stab.proofs.Entries.{written_refused}
 use Rattle.told.proofs.written.Statement.{statement}
 use Rattle.told.proofs.written.Tie as tie
 
-enum-known-w : tie.Need-enum-known-w
-enum-known-w c = search rules
+enum_known-w : tie.Need-enum_known-w
+enum_known-w c = search rules
 
-add-result : tie.Need-overflow-add-result
-add-result c = let b = c.before in record { fits = omega (arith, subst WrittenFits b.w.given.1 b.before.before.requires) }
+overflow_add-result : tie.Need-overflow_add-result
+overflow_add-result c = record { fits = omega (arith, subst WrittenFits c.in-Text.is c.requires) }
 
-enum-known-w-2 : tie.Need-enum-known-w-2
-enum-known-w-2 c = search rules
+enum_known-w-in-Refused-1 : tie.Need-enum_known-w-in-Refused-1
+enum_known-w-in-Refused-1 c = search rules
 
 pack-requires : tie.Need-pack-requires
-pack-requires c κs = let b = c.before in subst WrittenFits b.w2.given.1 b.before.before.requires
+pack-requires c κs = subst WrittenFits c.in-Refused.is c.requires
 
-returns : tie.Need-returns
+returns-in-Text : tie.Need-returns-in-Text
 unfolding written_packed written_numbers without_counts one_number nat
-returns c = ap written_packed (sym c.before.w.given.1)
+returns-in-Text c = ap written_packed (sym c.in-Text.is)
 
-returns_2 : tie.Need-returns-2
-returns_2 c =
-    let g = c.before.before.w2.given in
-    c.pack.ensures ∙ written_refused g.0.0 g.0.1.0 ∙ ap written_packed (sym g.1)
+returns-in-Refused : tie.Need-returns-in-Refused
+returns-in-Refused c =
+    c.pack.ensures ∙ written_refused c.in-Refused.why c.in-Refused.place ∙ ap written_packed (sym c.in-Refused.is)
 
 pub written_spec : {M : Type 1} → statement M
 written_spec =
-    tie.close (tie.spec enum-known-w add-result enum-known-w-2 pack-requires returns returns_2)
+    tie.close (tie.spec enum_known-w overflow_add-result enum_known-w-in-Refused-1 pack-requires returns-in-Text returns-in-Refused)

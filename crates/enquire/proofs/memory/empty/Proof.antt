@@ -9,19 +9,18 @@ use Rattle.enquire.proofs.memory.empty.Tie as tie
 clear-requires : tie.Need-clear-requires
 clear-requires c κs = search rules
 
-same_length : tie.Need-same-length
-same_length c = search rules
+shape_of-waiting : tie.Need-shape_of-waiting
+shape_of-waiting c = search rules
 
 returns : tie.Need-returns
 unfolding nothing_waits
 returns c =
-    let b = c.before.before.before in
-    c.before.clear.ensures ∙ cleared_padded b.args.waiting.now 0 1033 (omega arith) b.requires
+    c.clear.ensures ∙ cleared_padded c.args.waiting.now 0 1033 (omega arith) c.requires
 
 pub empty_spec : {M : Type 1} → statement M
 empty_spec =
     tie.close
     (tie.spec
     clear-requires
-    same_length
+    shape_of-waiting
     returns)
