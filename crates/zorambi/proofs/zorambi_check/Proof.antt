@@ -15,8 +15,7 @@ pack-requires c κs = subst Packs (sym c.check.ensures.0) (check_packs _)
 -- a signed number is kept as bits, and read back from them
 returns : tie.Need-returns
 returns c =
-    let start = c.before.before in
-    check_told (rw (to_z-of_z start.ranges.root, to_z-of_z start.ranges.least) at c.before.check.ensures.0) c.pack.ensures
+    check_told (rw (to_z-of_z c.ranges.root, to_z-of_z c.ranges.least) at c.check.ensures.0) c.pack.ensures
 
 pub zorambi_check_spec : {M : Type 1} → statement M
 zorambi_check_spec = tie.close (tie.spec check-requires pack-requires returns)

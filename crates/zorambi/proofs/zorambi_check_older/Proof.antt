@@ -8,18 +8,17 @@ use Rattle.told.proofs.Says.{older_told}
 use Rattle.zorambi.proofs.zorambi_check_older.Statement.{statement}
 use Rattle.zorambi.proofs.zorambi_check_older.Tie as tie
 
-check-as-requires : tie.Need-check-as-requires
-check-as-requires c κs = tt
+check_as-requires : tie.Need-check_as-requires
+check_as-requires c κs = tt
 
 pack-requires : tie.Need-pack-requires
-pack-requires c κs = subst Packs (sym c.check-as.ensures) (checked_packs _ _)
+pack-requires c κs = subst Packs (sym c.check_as.ensures) (checked_packs _ _)
 
 -- a signed number is kept as bits, and read back from them
 returns : tie.Need-returns
 unfolding check_as if◌then◌else◌
 returns c =
-    let start = c.before.before in
-    older_told (rw (to_z-of_z start.ranges.root, to_z-of_z start.ranges.least) at c.before.check-as.ensures) c.pack.ensures
+    older_told (rw (to_z-of_z c.ranges.root, to_z-of_z c.ranges.least) at c.check_as.ensures) c.pack.ensures
 
 pub zorambi_check_older_spec : {M : Type 1} → statement M
-zorambi_check_older_spec = tie.close (tie.spec check-as-requires pack-requires returns)
+zorambi_check_older_spec = tie.close (tie.spec check_as-requires pack-requires returns)

@@ -8,19 +8,19 @@ use Rattle.told.proofs.Says.{check_texts_say}
 use Rattle.zorambi.proofs.both_texts.zorambi_check_texts.Statement.{statement}
 use Rattle.zorambi.proofs.both_texts.zorambi_check_texts.Tie as tie
 
-check-requires : tie.Need-check-requires
-check-requires c κs = tt
+check-j-requires : tie.Need-check-j-requires
+check-j-requires c κs = tt
 
 texts-requires : tie.Need-texts-requires
 texts-requires c κs =
-    let e = c.before.check.ensures in
+    let e = c.check-j.ensures in
     (subst Packs (sym e.0) (check_texts_pack _ _ _), subst (λ (f : Fault). f.line < 16384) (sym e.1) (check_fault_fits _ _ _))
 
 returns : tie.Need-returns
 returns c =
-    let e = c.before.before.check.ensures in
+    let e = c.check-j.ensures in
     let n = c.texts.ensures ∙ ap₂ texts_packed e.0 e.1 in
     (n, check_texts_say _ _ _ n)
 
 pub zorambi_check_texts_spec : {M : Type 1} → statement M
-zorambi_check_texts_spec = tie.close (tie.spec check-requires texts-requires returns)
+zorambi_check_texts_spec = tie.close (tie.spec check-j-requires texts-requires returns)

@@ -19,59 +19,55 @@ use Rattle.zorambi.proofs.enquirer.zorambi_enquire.Tie as tie
 abbrev E : tie.Start → ℤ → ℤ → Editor
 E c root least =
     let a = c.args in
-    editor (lent a.schema.now a.proof.now a.nodes.now a.members.now (held_header a.schema-rows a.proof-rows root least a.held.now)) a.waiting.now
+    editor (lent a.schema.now a.proof.now a.nodes.now a.members.now (held_header a.schema_rows a.proof_rows root least a.held.now)) a.waiting.now
 
 abbrev row : tie.Start → NodeRow
 row c = row_from c.args.row.now c.args.set.now
 
 -- a signed number is kept as bits, and read back from them
-answer_is : (c : tie.After-enquire) → let b = c.before.before.before.before.before.before.before in c.enquire.result ≡ editor_answer (E b b.args.root b.args.least) (enquire (row b))
+answer_is : (c : tie.After-enquire-r) → c.enquire-r.result ≡ editor_answer (E c.before.before.before.before.before.before.before.before c.args.root c.args.least) (enquire (row c.before.before.before.before.before.before.before.before))
 answer_is c =
-    let b = c.before.before.before.before.before.before.before in
-    c.enquire.ensures.0 ∙ ap₂ (λ (r l : ℤ). editor_answer (E b r l) (enquire (row b))) (to_z-of_z b.ranges.root) (to_z-of_z b.ranges.least)
+    c.enquire-r.ensures.0 ∙ ap₂ (λ (r l : ℤ). editor_answer (E c.before.before.before.before.before.before.before.before r l) (enquire (row c.before.before.before.before.before.before.before.before))) (to_z-of_z c.ranges.root) (to_z-of_z c.ranges.least)
 
-left_is : (c : tie.After-enquire) →
-    let b = c.before.before.before.before.before.before.before in
-    let a = b.args in
-    editor (lent a.schema.now a.proof.now c.enquire.new.1.1.0 c.enquire.new.1.1.1.0 (held_header a.schema-rows a.proof-rows a.root a.least a.held.now)) c.enquire.new.1.1.1.1.1.1.1.0 ≡ edited (E b a.root a.least) (enquire (row b))
+left_is : (c : tie.After-enquire-r) →
+    let a = c.args in
+    editor (lent a.schema.now a.proof.now c.enquire-r.new.nodes c.enquire-r.new.members (held_header a.schema_rows a.proof_rows a.root a.least a.held.now)) c.enquire-r.new.waiting ≡ edited (E c.before.before.before.before.before.before.before.before a.root a.least) (enquire (row c.before.before.before.before.before.before.before.before))
 left_is c =
-    let b = c.before.before.before.before.before.before.before in
-    let a = b.args in
-    sym (ap₂ (λ (r l : ℤ). editor (lent a.schema.now a.proof.now c.enquire.new.1.1.0 c.enquire.new.1.1.1.0 (held_header a.schema-rows a.proof-rows r l a.held.now)) c.enquire.new.1.1.1.1.1.1.1.0) (to_z-of_z b.ranges.root) (to_z-of_z b.ranges.least))
-    ∙ c.enquire.ensures.1
-    ∙ ap₂ (λ (r l : ℤ). edited (E b r l) (enquire (row b))) (to_z-of_z b.ranges.root) (to_z-of_z b.ranges.least)
+    let a = c.args in
+    sym (ap₂ (λ (r l : ℤ). editor (lent a.schema.now a.proof.now c.enquire-r.new.nodes c.enquire-r.new.members (held_header a.schema_rows a.proof_rows r l a.held.now)) c.enquire-r.new.waiting) (to_z-of_z c.ranges.root) (to_z-of_z c.ranges.least))
+    ∙ c.enquire-r.ensures.1
+    ∙ ap₂ (λ (r l : ℤ). edited (E c.before.before.before.before.before.before.before.before r l) (enquire (row c.before.before.before.before.before.before.before.before))) (to_z-of_z c.ranges.root) (to_z-of_z c.ranges.least)
 
-element-copy-out-t18 : tie.Need-element-copy-out-t18
-element-copy-out-t18 c = search rules
+bounds-held-0 : tie.Need-bounds-held-0
+bounds-held-0 c = search rules
 
-element-copy-out-t21 : tie.Need-element-copy-out-t21
-element-copy-out-t21 c = search rules
+bounds-held-1 : tie.Need-bounds-held-1
+bounds-held-1 c = search rules
 
-enquire-requires : tie.Need-enquire-requires
-enquire-requires c κs = search rules
+enquire-r-requires : tie.Need-enquire-r-requires
+enquire-r-requires c κs = search rules
 
 growth-requires : tie.Need-growth-requires
 growth-requires c κs = subst (λ (r : Growth). Packs (as_verdict r)) (sym (answer_is c.before.before.before)) (enquiry_packs _ _)
 
-same_length : tie.Need-same-length
-same_length c = search rules
+shape_of-nodes : tie.Need-shape_of-nodes
+shape_of-nodes c = search rules
 
-same_length_2 : tie.Need-same-length-2
-same_length_2 c = search rules
+shape_of-members : tie.Need-shape_of-members
+shape_of-members c = search rules
 
 returns : tie.Need-returns
 returns c =
-    let k = c.before.before.before.before in
-    (c.growth.ensures.0 ∙ ap growth_packed (answer_is k), (c.growth.ensures.1 ∙ ap (λ (r : Growth). pos (shown_number r) ∷ []) (answer_is k), left_is k))
+    (c.growth.ensures.0 ∙ ap growth_packed (answer_is c.before.before.before.before), (c.growth.ensures.1 ∙ ap (λ (r : Growth). pos (shown_number r) ∷ []) (answer_is c.before.before.before.before), left_is c.before.before.before.before))
 
 pub zorambi_enquire_spec : {M : Type 1} → statement M
 zorambi_enquire_spec =
     tie.close
     (tie.spec
-    element-copy-out-t18
-    element-copy-out-t21
-    enquire-requires
+    bounds-held-0
+    bounds-held-1
+    enquire-r-requires
     growth-requires
-    same_length
-    same_length_2
+    shape_of-nodes
+    shape_of-members
     returns)

@@ -19,59 +19,54 @@ use Rattle.zorambi.proofs.grower.zorambi_take_back.Tie as tie
 abbrev E : tie.Start → ℤ → ℤ → Editor
 E c root least =
     let a = c.args in
-    editor (lent a.schema.now a.proof.now a.nodes.now a.members.now (held_header a.schema-rows a.proof-rows root least a.held.now)) a.waiting.now
+    editor (lent a.schema.now a.proof.now a.nodes.now a.members.now (held_header a.schema_rows a.proof_rows root least a.held.now)) a.waiting.now
 
 -- a signed number is kept as bits, and read back from them
-answer_is : (c : tie.After-take-back) → let b = c.before.before.before.before.before.before in c.take_back.result.answer ≡ answered (E b b.args.root b.args.least).held take_back
+answer_is : (c : tie.After-take_back-r) → c.take_back-r.result.answer ≡ answered (E c.before.before.before.before.before.before.before c.args.root c.args.least).held take_back
 answer_is c =
-    let b = c.before.before.before.before.before.before in
-    c.take_back.ensures.0
-    ∙ ap₂ (λ (r l : ℤ). editor_answer (E b r l) (grow take_back)) (to_z-of_z b.ranges.root) (to_z-of_z b.ranges.least)
-    ∙ sym (call_answer (E b b.args.root b.args.least) take_back)
+    c.take_back-r.ensures.0
+    ∙ ap₂ (λ (r l : ℤ). editor_answer (E c.before.before.before.before.before.before.before r l) (grow take_back)) (to_z-of_z c.ranges.root) (to_z-of_z c.ranges.least)
+    ∙ sym (call_answer (E c.before.before.before.before.before.before.before c.args.root c.args.least) take_back)
 
-left_is : (c : tie.After-take-back) →
-    let b = c.before.before.before.before.before.before in
-    let a = b.args in
-    editor (lent a.schema.now a.proof.now c.take_back.new.1.1.0 c.take_back.new.1.1.1.0 (header a.schema-rows a.proof-rows a.root a.least c.take_back.result.node_rows c.take_back.result.member_count)) c.take_back.new.1.1.1.1.1.0 ≡ edited (E b a.root a.least) (grow take_back)
+left_is : (c : tie.After-take_back-r) →
+    let a = c.args in
+    editor (lent a.schema.now a.proof.now c.take_back-r.new.nodes c.take_back-r.new.members (header a.schema_rows a.proof_rows a.root a.least c.take_back-r.result.node_rows c.take_back-r.result.member_count)) c.take_back-r.new.waiting ≡ edited (E c.before.before.before.before.before.before.before a.root a.least) (grow take_back)
 left_is c =
-    let b = c.before.before.before.before.before.before in
-    let a = b.args in
-    sym (ap₂ (λ (r l : ℤ). editor (lent a.schema.now a.proof.now c.take_back.new.1.1.0 c.take_back.new.1.1.1.0 (header a.schema-rows a.proof-rows r l c.take_back.result.node_rows c.take_back.result.member_count)) c.take_back.new.1.1.1.1.1.0) (to_z-of_z b.ranges.root) (to_z-of_z b.ranges.least))
-    ∙ c.take_back.ensures.1
-    ∙ ap₂ (λ (r l : ℤ). edited (E b r l) (grow take_back)) (to_z-of_z b.ranges.root) (to_z-of_z b.ranges.least)
+    let a = c.args in
+    sym (ap₂ (λ (r l : ℤ). editor (lent a.schema.now a.proof.now c.take_back-r.new.nodes c.take_back-r.new.members (header a.schema_rows a.proof_rows r l c.take_back-r.result.node_rows c.take_back-r.result.member_count)) c.take_back-r.new.waiting) (to_z-of_z c.ranges.root) (to_z-of_z c.ranges.least))
+    ∙ c.take_back-r.ensures.1
+    ∙ ap₂ (λ (r l : ℤ). edited (E c.before.before.before.before.before.before.before r l) (grow take_back)) (to_z-of_z c.ranges.root) (to_z-of_z c.ranges.least)
 
-element-copy-out-t17 : tie.Need-element-copy-out-t17
-element-copy-out-t17 c = search rules
+bounds-held-0 : tie.Need-bounds-held-0
+bounds-held-0 c = search rules
 
-element-copy-out-t20 : tie.Need-element-copy-out-t20
-element-copy-out-t20 c = search rules
+bounds-held-1 : tie.Need-bounds-held-1
+bounds-held-1 c = search rules
 
-take-back-requires : tie.Need-take-back-requires
-take-back-requires c κs = search rules
+take_back-r-requires : tie.Need-take_back-r-requires
+take_back-r-requires c κs = search rules
 
 growth-requires : tie.Need-growth-requires
 growth-requires c κs = subst (λ (r : Growth). Packs (as_verdict r)) (sym (answer_is c.before.before.before.before)) (call_packs _ _)
 
-same_length : tie.Need-same-length
-same_length c = search rules
+shape_of-nodes : tie.Need-shape_of-nodes
+shape_of-nodes c = search rules
 
-same_length_2 : tie.Need-same-length-2
-same_length_2 c = search rules
+shape_of-members : tie.Need-shape_of-members
+shape_of-members c = search rules
 
 returns : tie.Need-returns
 returns c =
-    let k = c.before.before.before.before.before in
-    let b = k.before.before.before.before.before.before in
-    (c.growth.ensures.0 ∙ ap growth_packed (answer_is k), (c.growth.ensures.1 ∙ ap (λ (r : Growth). pos (shown_number r) ∷ []) (answer_is k), (ap (λ (F : Editor). F.held) (left_is k) ∙ held_is (E b b.args.root b.args.least) take_back, ap (λ (F : Editor). F.waiting) (left_is k))))
+    (c.growth.ensures.0 ∙ ap growth_packed (answer_is c.before.before.before.before.before), (c.growth.ensures.1 ∙ ap (λ (r : Growth). pos (shown_number r) ∷ []) (answer_is c.before.before.before.before.before), (ap (λ (F : Editor). F.held) (left_is c.before.before.before.before.before) ∙ held_is (E c.before.before.before.before.before.before.before.before.before.before.before.before c.args.root c.args.least) take_back, ap (λ (F : Editor). F.waiting) (left_is c.before.before.before.before.before))))
 
 pub zorambi_take_back_spec : {M : Type 1} → statement M
 zorambi_take_back_spec =
     tie.close
     (tie.spec
-    element-copy-out-t17
-    element-copy-out-t20
-    take-back-requires
+    bounds-held-0
+    bounds-held-1
+    take_back-r-requires
     growth-requires
-    same_length
-    same_length_2
+    shape_of-nodes
+    shape_of-members
     returns)

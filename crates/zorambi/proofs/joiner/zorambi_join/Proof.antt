@@ -14,41 +14,39 @@ join-requires : tie.Need-join-requires
 join-requires c κs = tt
 
 joined-requires : tie.Need-joined-requires
-joined-requires c κs = subst JoinedFits (sym c.before.before.before.before.before.join.ensures.0) (join_fits _ _ _)
+joined-requires c κs = subst JoinedFits (sym c.join.ensures.0) (join_fits _ _ _)
 
-same_length : tie.Need-same-length
-same_length c = search rules
+shape_of-out_schema : tie.Need-shape_of-out_schema
+shape_of-out_schema c = search rules
 
-same_length_2 : tie.Need-same-length-2
-same_length_2 c = search rules
+shape_of-out_proof : tie.Need-shape_of-out_proof
+shape_of-out_proof c = search rules
 
-same_length_3 : tie.Need-same-length-3
-same_length_3 c = search rules
+shape_of-out_nodes : tie.Need-shape_of-out_nodes
+shape_of-out_nodes c = search rules
 
-same-length-4 : tie.Need-same-length-4
-same-length-4 c = search rules
+shape_of-out_members : tie.Need-shape_of-out_members
+shape_of-out_members c = search rules
 
 abbrev first : tie.Start → ℤ → ℤ → Tableau
 first s root least =
     let a = s.args in
-    lent a.first-schema.now a.first-proof.now a.first-nodes.now a.first-members.now (header a.first-schema-rows a.first-proof-rows root least a.first-node-rows a.first-member-count)
+    lent a.first_schema.now a.first_proof.now a.first_nodes.now a.first_members.now (header a.first_schema_rows a.first_proof_rows root least a.first_node_rows a.first_member_count)
 
 abbrev second : tie.Start → ℤ → ℤ → Tableau
 second s root least =
     let a = s.args in
-    lent a.second-schema.now a.second-proof.now a.second-nodes.now a.second-members.now (header a.second-schema-rows a.second-proof-rows root least a.second-node-rows a.second-member-count)
+    lent a.second_schema.now a.second_proof.now a.second_nodes.now a.second_members.now (header a.second_schema_rows a.second_proof_rows root least a.second_node_rows a.second_member_count)
 
 -- a signed number is kept as bits, and read back from them
 returns : tie.Need-returns
 returns c =
-    let k = c.before.before.before.before.before.before in
-    let s = k.before.before.before.before.before in
     join_gives
-    (ap₂ (first s) (to_z-of_z s.ranges.first-root) (to_z-of_z s.ranges.first-least))
-    (ap₂ (second s) (to_z-of_z s.ranges.second-root) (to_z-of_z s.ranges.second-least))
-    k.join.ensures
+    (ap₂ (first c.before.before.before.before.before.before.before.before.before.before.before) (to_z-of_z c.ranges.first_root) (to_z-of_z c.ranges.first_least))
+    (ap₂ (second c.before.before.before.before.before.before.before.before.before.before.before) (to_z-of_z c.ranges.second_root) (to_z-of_z c.ranges.second_least))
+    c.join.ensures
     c.joined.ensures
 
 pub zorambi_join_spec : {M : Type 1} → statement M
 zorambi_join_spec =
-    tie.close (tie.spec join-requires joined-requires same_length same_length_2 same_length_3 same-length-4 returns)
+    tie.close (tie.spec join-requires joined-requires shape_of-out_schema shape_of-out_proof shape_of-out_nodes shape_of-out_members returns)

@@ -5,24 +5,24 @@ use Rattle.stab.proofs.Entries.{proof_fits}
 use Rattle.zorambi.proofs.texts.zorambi_read_proof.Statement.{statement}
 use Rattle.zorambi.proofs.texts.zorambi_read_proof.Tie as tie
 
-read-proof-requires : tie.Need-read-proof-requires
-read-proof-requires c κs = tt
+read_proof-requires : tie.Need-read_proof-requires
+read_proof-requires c κs = tt
 
 proof-requires : tie.Need-proof-requires
-proof-requires c κs = subst ProofFits (sym c.before.before.before.before.read-proof.ensures.0) (proof_fits _ _ _ _)
+proof-requires c κs = subst ProofFits (sym c.read_proof.ensures.0) (proof_fits _ _ _ _)
 
-same_length : tie.Need-same-length
-same_length c = search rules
+shape_of-table : tie.Need-shape_of-table
+shape_of-table c = search rules
 
-same_length_2 : tie.Need-same-length-2
-same_length_2 c = search rules
+shape_of-nodes : tie.Need-shape_of-nodes
+shape_of-nodes c = search rules
 
-same_length_3 : tie.Need-same-length-3
-same_length_3 c = search rules
+shape_of-members : tie.Need-shape_of-members
+shape_of-members c = search rules
 
 returns : tie.Need-returns
 returns c =
-    let e = c.before.before.before.before.before.read-proof.ensures in record {
+    let e = c.read_proof.ensures in record {
       number = c.proof.ensures.0 ∙ ap proof_packed e.0;
       counts = c.proof.ensures.1 ∙ ap proof_results e.0;
       rows_read = e.1.0;
@@ -34,9 +34,9 @@ pub zorambi_read_proof_spec : {M : Type 1} → statement M
 zorambi_read_proof_spec =
     tie.close
     (tie.spec
-    read-proof-requires
+    read_proof-requires
     proof-requires
-    same_length
-    same_length_2
-    same_length_3
+    shape_of-table
+    shape_of-nodes
+    shape_of-members
     returns)

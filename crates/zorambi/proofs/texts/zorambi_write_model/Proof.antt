@@ -7,24 +7,22 @@ use Rattle.stab.proofs.Entries.{written_fits, write_near}
 use Rattle.zorambi.proofs.texts.zorambi_write_model.Statement.{statement}
 use Rattle.zorambi.proofs.texts.zorambi_write_model.Tie as tie
 
-write-model-requires : tie.Need-write-model-requires
-write-model-requires c κs = tt
+write_model-requires : tie.Need-write_model-requires
+write_model-requires c κs = tt
 
 written-requires : tie.Need-written-requires
 unfolding write_model
-written-requires c κs = subst WrittenFits (sym c.before.before.write-model.ensures.0) (written_fits _ _ _ (write_near _ _ _))
+written-requires c κs = subst WrittenFits (sym c.write_model.ensures.0) (written_fits _ _ _ (write_near _ _ _))
 
-same_length : tie.Need-same-length
-same_length c = search rules
+shape_of-out : tie.Need-shape_of-out
+shape_of-out c = search rules
 
 returns : tie.Need-returns
 returns c =
-    let b = c.before.before.before in
-    let s = b.before.before.before in
     -- a signed number is kept as bits, and read back from them
-    let e = rw (to_z-of_z s.ranges.n) at b.write-model.ensures in
+    let e = rw (to_z-of_z c.ranges.n) at c.write_model.ensures in
     (c.written.ensures ∙ ap written_packed e.0, e.1)
 
 pub zorambi_write_model_spec : {M : Type 1} → statement M
 zorambi_write_model_spec =
-    tie.close (tie.spec write-model-requires written-requires same_length returns)
+    tie.close (tie.spec write_model-requires written-requires shape_of-out returns)

@@ -7,24 +7,22 @@ use Rattle.stab.proofs.Entries.{written_fits, write_near}
 use Rattle.zorambi.proofs.texts.zorambi_write_schema.Statement.{statement}
 use Rattle.zorambi.proofs.texts.zorambi_write_schema.Tie as tie
 
-write-schema-requires : tie.Need-write-schema-requires
-write-schema-requires c κs = tt
+write_schema-requires : tie.Need-write_schema-requires
+write_schema-requires c κs = tt
 
 written-requires : tie.Need-written-requires
 unfolding write_schema
-written-requires c κs = subst WrittenFits (sym c.before.before.write-schema.ensures.0) (written_fits _ _ _ (write_near _ _ _))
+written-requires c κs = subst WrittenFits (sym c.write_schema.ensures.0) (written_fits _ _ _ (write_near _ _ _))
 
-same_length : tie.Need-same-length
-same_length c = search rules
+shape_of-out : tie.Need-shape_of-out
+shape_of-out c = search rules
 
 returns : tie.Need-returns
 returns c =
-    let b = c.before.before.before in
-    let s = b.before.before.before in
     -- a signed number is kept as bits, and read back from them
-    let e = rw (to_z-of_z s.ranges.root, to_z-of_z s.ranges.least) at b.write-schema.ensures in
+    let e = rw (to_z-of_z c.ranges.root, to_z-of_z c.ranges.least) at c.write_schema.ensures in
     (c.written.ensures ∙ ap written_packed e.0, e.1)
 
 pub zorambi_write_schema_spec : {M : Type 1} → statement M
 zorambi_write_schema_spec =
-    tie.close (tie.spec write-schema-requires written-requires same_length returns)
+    tie.close (tie.spec write_schema-requires written-requires shape_of-out returns)

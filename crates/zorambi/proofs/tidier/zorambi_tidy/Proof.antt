@@ -14,29 +14,27 @@ tidy-requires : tie.Need-tidy-requires
 tidy-requires c κs = tt
 
 proof-requires : tie.Need-proof-requires
-proof-requires c κs = subst ProofFits (sym c.before.before.before.before.tidy.ensures.0) (tidy_fits _ _)
+proof-requires c κs = subst ProofFits (sym c.tidy.ensures.0) (tidy_fits _ _)
 
-same_length : tie.Need-same-length
-same_length c = search rules
+shape_of-out_proof : tie.Need-shape_of-out_proof
+shape_of-out_proof c = search rules
 
-same_length_2 : tie.Need-same-length-2
-same_length_2 c = search rules
+shape_of-out_nodes : tie.Need-shape_of-out_nodes
+shape_of-out_nodes c = search rules
 
-same_length_3 : tie.Need-same-length-3
-same_length_3 c = search rules
+shape_of-out_members : tie.Need-shape_of-out_members
+shape_of-out_members c = search rules
 
 abbrev Lent : tie.Start → ℤ → ℤ → Tableau
 Lent s root least =
     let a = s.args in
-    lent a.schema.now a.proof.now a.nodes.now a.members.now (header a.schema-rows a.proof-rows root least a.node-rows a.member-count)
+    lent a.schema.now a.proof.now a.nodes.now a.members.now (header a.schema_rows a.proof_rows root least a.node_rows a.member_count)
 
 -- a signed number is kept as bits, and read back from them
 returns : tie.Need-returns
 returns c =
-    let k = c.before.before.before.before.before in
-    let s = k.before.before.before.before in
-    tidy_gives (ap₂ (Lent s) (to_z-of_z s.ranges.root) (to_z-of_z s.ranges.least)) k.tidy.ensures c.proof.ensures
+    tidy_gives (ap₂ (Lent c.before.before.before.before.before.before.before.before.before) (to_z-of_z c.ranges.root) (to_z-of_z c.ranges.least)) c.tidy.ensures c.proof.ensures
 
 pub zorambi_tidy_spec : {M : Type 1} → statement M
 zorambi_tidy_spec =
-    tie.close (tie.spec tidy-requires proof-requires same_length same_length_2 same_length_3 returns)
+    tie.close (tie.spec tidy-requires proof-requires shape_of-out_proof shape_of-out_nodes shape_of-out_members returns)

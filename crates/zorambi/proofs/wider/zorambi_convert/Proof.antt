@@ -10,19 +10,17 @@ convert-requires : tie.Need-convert-requires
 convert-requires c κs = tt
 
 schema-requires : tie.Need-schema-requires
-schema-requires c κs = subst SchemaFits (sym c.before.before.convert.ensures.0) (converted_fits _)
+schema-requires c κs = subst SchemaFits (sym c.convert.ensures.0) (converted_fits _)
 
-same_length : tie.Need-same-length
-same_length c = search rules
+shape_of-plain : tie.Need-shape_of-plain
+shape_of-plain c = search rules
 
 returns : tie.Need-returns
 returns c =
-    let k = c.before.before.before in
-    let s = k.before.before in
     -- a signed number is kept as bits, and read back from them
-    let e = rw (to_z-of_z s.ranges.root, to_z-of_z s.ranges.least) at k.convert.ensures in
+    let e = rw (to_z-of_z c.ranges.root, to_z-of_z c.ranges.least) at c.convert.ensures in
     (c.schema.ensures.0 ∙ ap schema_packed e.0, (c.schema.ensures.1 ∙ ap schema_results e.0, e.1))
 
 pub zorambi_convert_spec : {M : Type 1} → statement M
 zorambi_convert_spec =
-    tie.close (tie.spec convert-requires schema-requires same_length returns)
+    tie.close (tie.spec convert-requires schema-requires shape_of-plain returns)
