@@ -4,7 +4,7 @@ says without a condition what the parameter is at its exit.
 
 A clause says it if it is, or has among its parts, an equation with the parameter at its exit, whole, on one side and
 not on the other. It may stand in a record or an abbreviation of specs/, or among the fields of a record on that side.
-An equation behind `→` does not count, nor one with a part of the parameter (`take 9 (now (x .exit)) ≡ ..`).
+An equation behind `→` does not count, nor one with a part of the parameter (`take 9 x.new ≡ ..`, `x.new.items ≡ ..`).
 """
 import re
 import sys
@@ -86,12 +86,9 @@ def words(text):
     while at < len(text):
         if text[at] == " ":
             at += 1
-        elif text[at] in OPEN:
-            end = closing(text, at)
-            found.append(text[at : end + 1])
-            at = end + 1
         else:
-            end = at
+            # in brackets, and then a field of it, or a name
+            end = closing(text, at) + 1 if text[at] in OPEN else at
             while end < len(text) and text[end] != " " and text[end] not in OPEN + CLOSE:
                 end += 1
             found.append(text[at:end])
@@ -108,11 +105,11 @@ class File:
         self.crate = path.relative_to(ROOT / "crates").parts[0]
         self.text = re.sub(r"(?m)^\s*(//|--).*$", "", path.read_text(encoding="utf-8"))
         self.names = {}
-        uses = r"use Rattle·(\w+)(?:·specs)?\.specs\.(\w+)\.\{([^}]*)\}"
+        uses = r"use Rattle\.(\w+)\.specs\.([\w.]+)\.\{([^}]*)\}"
         for crate, module, names in re.findall(uses, self.text):
             for name in names.split(","):
                 old, _, new = name.strip().partition(" as ")
-                self.names[new or old] = (ROOT / "crates" / crate / "specs" / f"{module}.antt", old)
+                self.names[new or old] = (ROOT / "crates" / crate / "specs" / f"{module.replace('.', '/')}.antt", old)
 
     @classmethod
     def of(cls, path):
@@ -137,8 +134,9 @@ class File:
 
 
 def mentions(text, wanted):
+    """The parameter stands in the text, whole or with a field of it behind a dot."""
     edge = r"[^\s(){};,]"
-    return re.search(rf"(?<!{edge}){re.escape(wanted)}(?!{edge})", text) is not None
+    return re.search(rf"(?<!{edge}){re.escape(wanted)}(?!{edge.replace('[^', '[^.')})", text) is not None
 
 
 class Both:
@@ -152,9 +150,15 @@ class Both:
 
 
 def put(text, names, values):
-    """A right side with arguments for its parameters."""
+    """A right side with arguments for its parameters, of which fields may be taken; a record's own fields keep their names."""
     held = dict(zip(names, values))
-    return re.sub(r"[^\s(){};,]+", lambda m: held.get(m[0], m[0]), text)
+
+    def given(match):
+        base, dot, fields = match[0].partition(".")
+        is_field = text[match.end() :].startswith(" = ") and text[: match.start()].rstrip().endswith(("{", ";"))
+        return match[0] if is_field or base not in held else held[base] + dot + fields
+
+    return re.sub(r"[^\s(){};,]+", given, text)
 
 
 def opened(file, side, depth=4):
@@ -172,7 +176,7 @@ def opened(file, side, depth=4):
 
 def field_of(file, value):
     """What a field of a record is, where the record is told; else the value itself."""
-    base, dot, name = bare(value).rpartition(" .")
+    base, dot, name = bare(value).rpartition(".")
     record = opened(file, base) if dot and re.fullmatch(r"[\w«»]+", name) else None
     for field in split(record[8:-1], ";") if record else []:
         label, _, told = field.partition("=")
@@ -188,7 +192,7 @@ def holds_whole(file, side, wanted, size, depth=4):
         return True
     if side.startswith("record {"):
         values = [field_of(file, field.partition("=")[2]) for field in split(side[8:-1], ";")]
-        numbers = [f"getD ({wanted}) {k} 0" for k in range(size)]
+        numbers = [f"get_or {wanted} {k} 0" for k in range(size)]
         if size and all(number in values for number in numbers):
             return True
         return any(mentions(value, wanted) and holds_whole(file, value, wanted, size, depth) for value in values)
@@ -240,7 +244,8 @@ def functions(path):
             elif "mut" in re.findall(r"\w+", parameter):
                 raise ValueError(f"{path}: {match[2]}: a parameter that is not understood: {parameter}")
         head = text[end : text.index("\n" + match[1] + "{", end)]
-        clauses = re.findall(r"ensures(?: \w+)? \{ λ \w+\. ⌜(.*?)⌝ \}", head, re.S)
+        begun = list(re.finditer(r"\bensures(?: \w+)? \{", head))
+        clauses = [head[each.end() : closing(head, each.end() - 1)] for each in begun]
         if len(clauses) != len(re.findall(r"\bensures\b", head)):
             raise ValueError(f"{path}: {match[2]}: an ensures that is not understood")
         yield match[2], lent, clauses
@@ -264,7 +269,7 @@ def main():
             name = "::".join([file.crate, *inner, function])
             for parameter, size in lent:
                 key = f"{name} {parameter}"
-                if any(says(file, clause, f"now ({parameter} .exit)", size) for clause in clauses):
+                if any(says(file, clause, f"{parameter}.new", size) for clause in clauses):
                     passed += 1
                     continue
                 needed.add(key)

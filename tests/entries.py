@@ -1,7 +1,7 @@
 #!/usr/bin/env python3
 """The entries as C, Rust and Python declare them are those of the sources.
 
-A function of crates/*/src marked `#[no_mangle] pub extern "C"` is an entry. Its name, its parameters by name and type in their order, and
+A function of crates/*/src marked `#[unsafe(no_mangle)] pub extern "C"` is an entry. Its name, its parameters by name and type in their order, and
 what it gives back are held against include/zorambi.h (the declaration, and the inline function for empty slices with what it hands on),
 against bindings/rust/src/entries.rs and against bindings/python/zorambi/entries.py. No library is needed.
 
@@ -58,7 +58,7 @@ def source_entries():
     found = {}
     for file in sorted(ROOT.glob("crates/*/src/**/*.rt")):
         text = re.sub(r"^\s*//.*$", "", file.read_text(), flags=re.M)
-        for name, given, back in re.findall(r'#\[no_mangle\]\s*pub extern "C" fn (\w+)\(([^)]*)\)(?:\s*->\s*(\w+))?', text):
+        for name, given, back in re.findall(r'#\[unsafe\(no_mangle\)\]\s*pub extern "C" fn (\w+)\(([^)]*)\)(?:\s*->\s*(\w+))?', text):
             found[name] = (parameters(given), back or None)
     return found
 

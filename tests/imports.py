@@ -2,7 +2,7 @@
 """crates.txt says what each crate rests on, and that is what its files import.
 
 A crate imports another where its code has a path into it (`use branch::node`, `drawn::is_drawn(..)`), or where its code, definitions or
-proofs name something of it (`use Rattle·stab.specs.Rule`). Everything that is imported is listed, and everything that is listed is
+proofs name something of it (`use Rattle.stab.specs.Rule`). Everything that is imported is listed, and everything that is listed is
 imported, but for the pairs of UNUSED, which may only become fewer: one that is no longer so fails here too. Every folder of crates/ has a
 line, every line a folder, and no crate rests on itself by way of others.
 
@@ -29,7 +29,7 @@ def listed():
     for line in (ROOT / "crates.txt").read_text().splitlines():
         name, colon, rest = line.partition("#")[0].partition(":")
         if colon:
-            found[name.strip()] = rest.split()
+            found[name.split()[0]] = rest.split()  # a static library has that word after its name
     return found
 
 
@@ -39,7 +39,7 @@ def imported(crate):
     for folder, suffix in (("src", "rt"), ("specs", "antt"), ("proofs", "antt")):
         for file in (ROOT / "crates" / crate / folder).rglob(f"*.{suffix}"):
             text = re.sub(r"(//|--).*", "", file.read_text())
-            names |= set(re.findall(r"Rattle·(\w+?)(?=[·.])", text))
+            names |= set(re.findall(r"\bRattle\.(\w+)(?=\.)", text))
             if suffix == "rt":
                 names |= set(re.findall(r"(?<![\w:])(\w+)::", text))
     return names - {crate}

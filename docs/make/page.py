@@ -12,7 +12,7 @@ def crates():
     for line in (ROOT / "crates.txt").read_text().splitlines():
         name, colon, rest = line.partition("#")[0].partition(":")
         if colon:
-            found[name.strip()] = rest.split()
+            found[name.split()[0]] = rest.split()  # a static library has that word after its name
     return found
 
 

@@ -30,7 +30,7 @@ def functions():
                     function = {"path": "::".join([crate, *modules, *([of_type] if of_type else []), found[2]]), "crate": crate,
                                 "public": bool(found[1]), "open": not modules or modules[0] in public, "entry": entry, "requires": []}
                     yield function
-                entry = line.strip() == "#[no_mangle]"
+                entry = line.strip() == "#[unsafe(no_mangle)]"
                 clause = re.match(r"\s+requires(?: \w+)? \{(.*)\}$", line)
                 if clause:
                     function["requires"].append(re.sub(r"^⌜ | ⌝$", "", clause[1].strip()))
