@@ -6,11 +6,11 @@ Asked of every file below crates/:
 - a name or a module that a `use` line of a file of definitions or proofs brings stands somewhere in that file; so does what a
   `ghost use` of the code brings, in one of the clauses, and what a `use` of the code brings, in the code;
 - a lemma or definition of proofs/ is cited by one that is needed, by a contract, or by the table of docs/THEOREMS.md or by
-  docs/READING.md, which list what is an end in itself; the theorem `NAME-spec` of a function's Proof.antt is one too, and in files of
-  trials (TRIALS) every equation;
+  docs/READING.md, which list what is an end in itself; the theorem `NAME_spec` of a function's Proof.antt is one too, what answers a goal
+  or gives an invariant of the function in its Answers.antt or Invariants.antt, and in files of trials (TRIALS) every equation;
 - a definition of specs/ is used by something that is needed so, or by a contract.
 
-Files are read by their layout: a name stands for what the `use` lines or the file itself give it, the parts of `_and_` are used as
+Files are read by their layout: a name stands for what the `use` lines or the file itself give it, the parts of `◌and◌` are used as
 `x and y`, what follows a dot is a field or of the module before it. So a variable with the name of a lemma counts as the lemma.
 What stays though nothing uses it is in STAYS, with a reason; a reason that is no longer needed fails too.
 
@@ -127,8 +127,7 @@ def modules(files):
     for file in files:
         crate, kind, *rest = file.path.relative_to(CRATES).with_suffix("").parts
         rest = [] if rest == ["Lib"] else rest
-        for root in (f"Rattle·{crate}·{kind}.{kind}", f"Rattle·{crate}.{kind}"):
-            found[".".join([root, *rest])] = file
+        found[".".join([f"Rattle.{crate}.{kind}", *rest])] = file
     return found
 
 
@@ -147,7 +146,7 @@ class Scope:
             for name, there in names.items():
                 self.brings[name] = (module, there)
         for name in [*self.brings, *own]:
-            for part in name.split("_") if "_" in name and name != "_" else ():
+            for part in name.split("◌") if "◌" in name else ():
                 if part:
                     self.parts[part].add(name)
 
@@ -171,12 +170,14 @@ class Scope:
                     if at(self.files, ".".join(path[:k])):
                         items.add(at(self.files, ".".join(path[:k])))
                         break
-                else:
-                    if path[0] not in self.brings:
-                        for part in path[1:]:
-                            more, others = self.cited(part)
-                            used, items = used | more, items | others
         return used, items
+
+
+def is_answer(uses, item):
+    """What answers a goal or gives an invariant: its type is of the module of a function's goals or of what it is given."""
+    given = {name for module, names in uses for name, there in names.items() if there is None and re.search(r"\.(Goals|Given)$", module)}
+    wanted = re.match(r"[^:\n]* :\s+(\w+)\.[^\s:]+(?=\n|$)", item.text)
+    return bool(wanted) and wanted[1] in given
 
 
 def clauses(text):
@@ -243,7 +244,7 @@ def main():
             for name in names:
                 expect(file.name, name, f"line {line + 1}: {name} is brought in and not used", name in used or name in heads)
         for item in file.items:
-            end = file.path.name == "Proof.antt" and item.name.endswith("-spec")
+            end = file.path.name == "Proof.antt" and item.name.endswith("_spec") or is_answer(uses, item)
             end |= file.path.name in TRIALS and "≡" in item.signature
             end |= "/proofs/" in file.name and any(file.path.name in text for text in pages.get(item.name, ()))
             if end:
