@@ -11,10 +11,10 @@ failed=0
 # A repository of six crates: the program check_proof is made of two of them, check_older of three, the library of two.
 repo=$work/repo
 mkdir -p "$work/kit" "$work/tmp" "$work/record" "$repo/crates/low/src" "$repo/crates/low/must-fail" "$repo/crates/check_proof/src" \
-  "$repo/crates/low/specs" "$repo/crates/low/proofs" \
+  "$repo/crates/low/specs" "$repo/crates/low/proofs" "$repo/crates/zorambi" "$repo/crates/check_older" "$repo/crates/check_model" \
   "$repo/bindings/rust" "$repo/tools/zorambi/src" "$repo/.cargo" "$repo/tests"
 cp zorambi "$repo/zorambi"
-printf '# NAME: what it depends on\nlow:\nother: low\nzorambi: low\ncheck_proof: low io libc\ncheck_older: low other io\ncheck_model: low\n' >"$repo/crates.txt"
+printf '# NAME: what it depends on\nlow:\nother: low\nzorambi staticlib: low\ncheck_proof: low json\ncheck_older: low other json\ncheck_model: low\n' >"$repo/crates.txt"
 echo one >"$repo/crates/low/src/lib.rt"
 echo two >"$repo/crates/low/src/more.rt"
 echo three >"$repo/crates/check_proof/src/main.rt"
@@ -23,23 +23,26 @@ echo a proof >"$repo/crates/low/proofs/laws.antt"
 echo four >"$repo/tools/zorambi/src/main.rs"
 touch "$repo/Cargo.toml" "$repo/Cargo.lock" "$repo/.cargo/config.toml"
 
-# rt's stand-in notes each proof and makes what it is asked for; `during` is run while it proves.
+# rt's stand-in notes each proof and makes what it is asked for, in the crate's folder that it stands in; `during` is run at the top while
+# it proves. A program is run too, and rt ends with its status.
 cat >"$work/kit/rt" <<'R'
 #!/bin/sh
 at=$(dirname "$0")/..
 [ "$1" = version ] && exec cat "$at/version"
-echo "$1 $2" >>"$at/proofs"
+name=${PWD##*/}
+echo "$1 $name" >>"$at/proofs"
 echo "fn low::f: proved"
-echo "rt: low proved (unchanged since it was last proved)"
-sh "$at/during" || { echo "rt: $2 NOT PROVED (exit 1, 1 s)"; exit 1; }
-mkdir -p target/bin target/staticlib
-if [ "$1" = check ]; then
-  echo "$2" >"target/bin/$2"
-  echo "rt: $2 proved (1 s)"
-else
-  echo made >"target/staticlib/lib$2.a"
-  echo "rt: target/staticlib/lib$2.a has the functions of $2"
+echo "logic=proved functions=1 sum=0"
+(cd ../.. && sh "$at/during") || { echo "logic=not-proved"; exit 1; }
+mkdir -p out
+if [ "$1" = run ]; then
+  echo "$name" >"out/$name"
+  echo "logic=proved functions=2 sum=0"
+  exit 1
 fi
+[ "$1" = lib ] || exit 2
+echo made >"out/lib$name.a"
+echo "logic=proved functions=3 sum=0"
 R
 # cargo's stand-in notes each package and makes its program. The words that are right begin with a command's name; the program says where
 # it is run, by which process, and with which words.
@@ -122,8 +125,8 @@ words="zorambi-commands "
 program="zorambi-cli "
 check
 expect "first use" ended 0 2 "$words$program"
-expect "first use, what is said" said "proving and building check_proof $some_minutes" "proved 1 of 2 crates" "proved 2 of 2 crates" \
-  "proving and building zorambi $some_minutes" "proved 1 of 2 crates" "proved 2 of 2 crates" "building the program"
+expect "first use, what is said" said "proving and building check_proof $some_minutes" "proved 1 of at most 2 crates" "proved 2 of at most 2 crates" \
+  "proving and building zorambi $some_minutes" "proved 1 of at most 2 crates" "proved 2 of at most 2 crates" "building the program"
 expect "first use, what is printed" printed "$repo: check $work/record"
 check
 expect "second use" ended 0 0 ""
@@ -198,8 +201,8 @@ echo false >"$work/during"
 echo five >>"$repo/crates/low/src/lib.rt"
 check
 expect "not proved" ended 2 1 "$words"
-expect "not proved, what is said" said "proving and building check_proof $some_minutes" "proved 1 of 2 crates" "fn low::f: proved" \
-  "rt: low proved (unchanged since it was last proved)" "rt: check_proof NOT PROVED (exit 1, 1 s)" "check_proof is not proved"
+expect "not proved, what is said" said "proving and building check_proof $some_minutes" "proved 1 of at most 2 crates" "fn low::f: proved" \
+  "logic=proved functions=1 sum=0" "logic=not-proved" "check_proof is not proved"
 expect "not proved, nothing is printed" cmp -s "$work/out" /dev/null
 check
 expect "still not proved" ended 2 1 "$words"
@@ -217,8 +220,8 @@ changed "built again" 0 "$words$program"
 
 use check --older "$work/record"
 expect "an older record" ended 0 1 "$words"
-expect "an older record, what is proved" grep -qx 'check check_older' "$work/proofs"
-expect "an older record, what is said" said "proving and building check_older $some_minutes" "proved 1 of 3 crates" "proved 2 of 3 crates"
+expect "an older record, what is proved" grep -qx 'run check_older' "$work/proofs"
+expect "an older record, what is said" said "proving and building check_older $some_minutes" "proved 1 of at most 3 crates" "proved 2 of at most 3 crates"
 use check "$work/record" --older
 expect "an older record again" ended 0 0 ""
 rm "$repo/target/bin/check_proof"
@@ -226,9 +229,9 @@ use check --older "$work/record"
 expect "an older record does not want the other program" ended 0 0 ""
 use check -- --older
 expect "a folder called --older" ended 0 1 "$words"
-expect "a folder called --older, what is proved" grep -qx 'check check_proof' "$work/proofs"
+expect "a folder called --older, what is proved" grep -qx 'run check_proof' "$work/proofs"
 use model "$work/record"
-expect "a model" grep -qx 'check check_model' "$work/proofs"
+expect "a model" grep -qx 'run check_model' "$work/proofs"
 rm -r "$repo/target/bin"
 use build
 expect "build" ended 0 3 "$words"
