@@ -8,6 +8,11 @@ root=$(CDPATH='' cd -- "$(dirname -- "$0")/.." && pwd)
 repo=$(mktemp -d) || exit 2
 trap 'rm -rf "$repo"' EXIT
 mkdir -p "$repo/bin" "$repo/build/release" "$repo/tests"
+for program in check_proof check_older check_model cases; do
+  mkdir -p "$repo/crates/$program/data/in"
+  echo "data of $program" >"$repo/crates/$program/data/in/file"
+  echo "stdout of $program" >"$repo/crates/$program/stdout"
+done
 cp "$root/tests/gate.sh" "$root/tests/fuzz.sh" "$repo/tests/"
 passed=0 failed=0
 
@@ -34,7 +39,27 @@ for script in edit-reasons.sh contracts.py quotations.py names.py manual.py entr
   stand_in "tests/$script" "$script"
 done
 stand_in zorambi 'zorambi $1'
-stand_in bin/rt 'rt $1 ${2-}'
+# rt: `ci` at the top with a line on the edits; `try` in a program's folder, on its data, printing what is to be printed.
+cat >"$repo/bin/rt" <<'S'
+#!/usr/bin/env bash
+name="rt $*"
+[ "$1" = ci ] && [ "$PWD" != "$REPO" ] && exit 9
+[ "$1" = try ] && [ "$*" = "try --data in/file=data/in/file" ] && name="rt try ${PWD##*/}"
+echo "$name" >>"$REPO/called"
+read -r wrong how 2>/dev/null <"$REPO/wrong" && [ "$wrong" = "${name// /_}" ] || how=right
+case "$1 $how" in
+  *\ silent) exit 0 ;;
+  ci\ failing) echo "0 passed, 1 failed"; exit 1 ;;
+  ci\ unsaid) echo "1 passed, 0 failed"; exit 0 ;;
+  ci\ bad) echo "rt: ok; handles allowed: none; must-fail edits: 3 refused, 1 of them only by a limit, 2 bad; every proof was done" ;;
+  ci\ *) echo "rt: ok; handles allowed: none; must-fail edits: 5 refused; every proof was done" ;;
+  try\ failing) echo "another stdout" ;;
+  try\ *) echo "stdout of ${PWD##*/}" ;;
+esac
+[ "$1" = ci ] && echo "1 passed, 0 failed"
+[ "$how" != ending ] || exit 9
+S
+chmod +x "$repo/bin/rt"
 stand_in bin/make 'make ${*: -1} ${3-}'
 stand_in build/release/selftest selftest
 stand_in build/release/zorambi-compare 'compare ${1/--least/least} ${3-} ${4-}'
@@ -75,7 +100,7 @@ called() { grep -qxF -- "$1" "$repo/called"; }
 run gate.sh
 expect "all right" all_right
 cp "$repo/called" "$repo/groups"
-groups=("rt ci " "rt try check_proof" "rt try check_older" "rt try check_model" "rt try cases" "zorambi build"
+groups=("rt ci" "rt try check_proof" "rt try check_older" "rt try check_model" "rt try cases" "zorambi build"
   edit-reasons.sh contracts.py quotations.py names.py manual.py entries.py style.sh imports.py leftovers.py kit.sh made.py columns.py zorambi.sh programs.sh readme.sh catalogue.sh install.sh stack.sh solver.sh python.sh altered.sh gate-counts.sh explain.sh pages.py editor.py
   selftest "cargo test zorambi" "cargo test zorambi-reference" "cargo test zorambi-commands"
   "cargo test zorambi-catalogue" "cargo test zorambi-widths" "cargo test zorambi-cli" "compare least 1 20000" "compare least some 3" "compare least heavy " "compare least some 2" "cargo test zorambi-notation" "cargo test zorambi-show" "cargo test zorambi-explain" "cargo test zorambi-pages" "cargo test zorambi-compile"
@@ -87,13 +112,23 @@ while IFS= read -r name; do
   for how in silent failing ending; do
     case "$name $how" in
       # what builds or tries prints no closing line of its own, and what is said by its status alone is not told by silence
-      "cargo build"*silent | "cargo build"*failing | "zorambi build silent" | "rt try"*silent | "make test examples/c silent" | "valgrind silent" | "valgrind failing") continue ;;
+      "cargo build"*silent | "cargo build"*failing | "zorambi build silent" | "make test examples/c silent" | "valgrind silent" | "valgrind failing") continue ;;
     esac
     echo "${name// /_} $how" >"$repo/wrong"
     run gate.sh
     expect "$name, $how" one_wrong
   done
 done < <(sort -u "$repo/groups")
+
+# What `rt ci` itself does not fail.
+for how in bad unsaid; do
+  echo "rt_ci $how" >"$repo/wrong"
+  run gate.sh
+  expect "rt ci, $how" one_wrong
+done
+echo "rt_ci right" >"$repo/wrong"
+run gate.sh
+expect "rt ci, right" all_right
 
 # Comparing on new inputs ends at the first difference.
 sed -i 's/^name=.*/name=compare/' "$repo/build/release/zorambi-compare"

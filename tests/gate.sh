@@ -1,6 +1,6 @@
 #!/usr/bin/env bash
-# ./zorambi test: every crate proved from nothing and the must-fail edits tried, then all tests. Each group ends with a line 'N passed, M
-# failed'; the last line adds them up.
+# ./zorambi test: every crate proved and the must-fail edits tried, by a plain `rt ci`, then all tests. What an earlier `rt ci` on this machine
+# passed and has not changed since it does not prove again. Each group ends with a line 'N passed, M failed'; the last line adds them up.
 set -u
 cd "$(dirname "$0")/.." || exit 2
 scratch=$(mktemp -d) || exit 2
@@ -13,7 +13,7 @@ failed=0
 # ---- what is run; a script or a package that is added goes into one of these lists
 
 # What needs no library: it runs while the library is made.
-early_scripts=(tests/edit-reasons.sh tests/gate-counts.sh tests/contracts.py tests/quotations.py tests/names.py tests/entries.py tests/imports.py tests/leftovers.py tests/kit.sh tests/made.py tests/columns.py tests/zorambi.sh)
+early_scripts=(tests/gate-counts.sh tests/contracts.py tests/quotations.py tests/names.py tests/entries.py tests/imports.py tests/leftovers.py tests/kit.sh tests/made.py tests/columns.py tests/zorambi.sh)
 early_packages=(zorambi-reference zorambi-commands)
 # What needs the library, the programs and the program zorambi.
 packages=(zorambi zorambi-catalogue zorambi-widths zorambi-cli zorambi-notation zorambi-show zorambi-explain zorambi-pages zorambi-compile)
@@ -83,11 +83,41 @@ side_by_side() { # TESTS TESTS
 
 # ---- the groups
 
-# The programs with no proof, compiled three ways, one of them with the compiler's assumptions checked.
+# `rt ci`, which fails no run for an edit that cannot be tried: here such an edit fails, and so does a run that does not say how many there are.
+judged() {
+  local log status ok
+  log=$(mktemp -p "$scratch") || return 2
+  rt ci | tee "$log"
+  status=${PIPESTATUS[0]}
+  ok=$(grep '^rt: ok' "$log" | tail -n 1)
+  if [ "$status" -eq 0 ] && [ -z "$ok" ]; then
+    echo "no line 'rt: ok' from: rt ci"
+    status=1
+  elif [[ $ok =~ ,\ ([0-9]+)\ bad ]] && [ "${BASH_REMATCH[1]}" -gt 0 ]; then
+    echo "must-fail edits that are bad: ${BASH_REMATCH[1]}"
+    status=1
+  fi
+  grep -E '^[0-9]+ passed, [0-9]+ failed$' "$log" | tail -n 1
+  rm -f "$log"
+  return "$status"
+}
+
+# The programs with no proof, with what the compiler assumes checked as they run, on the files that `rt ci` runs them on: each ends well and
+# prints what its file stdout has.
 tried() {
   local p done=0 wrong=0
   for p in check_proof check_older check_model cases; do
-    if rt try "$p"; then done=$((done + 1)); else wrong=$((wrong + 1)); fi
+    if (
+      cd "crates/$p" || exit
+      files=()
+      while IFS= read -r file; do files+=(--data "${file#data/}=$file"); done < <(find data -type f | LC_ALL=C sort)
+      rt try "${files[@]}" >"$scratch/tried" && cmp "$scratch/tried" stdout
+    ); then
+      done=$((done + 1))
+    else
+      echo "not as its file stdout has it, with no proof: $p"
+      wrong=$((wrong + 1))
+    fi
   done
   echo "$done passed, $wrong failed"
   [ "$wrong" -eq 0 ]
@@ -120,7 +150,7 @@ in_a_small_stack() {
   (ulimit -s 256 && exec "$compare" "$@")
 }
 
-# The library and the programs, made anew, and what calls them. All that runs rt is on this side.
+# The library and the programs, and what calls them. All that runs rt is on this side.
 make_library() {
   if ! ./zorambi build; then
     echo "the library or a program is not made"
@@ -156,8 +186,10 @@ test_programs() {
   for each in "${scripts[@]}"; do tally "$each"; done
 }
 
-tally rt ci
+tally judged
 side_by_side make_library test_early
 side_by_side test_comparison test_programs
+# It takes all cores, and begins with what making the library left.
+tally tests/edit-reasons.sh
 echo "$passed passed, $failed failed"
 [ "$failed" -eq 0 ]
