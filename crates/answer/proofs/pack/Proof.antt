@@ -51,11 +51,10 @@ coded-requires c κs =
 
 -- the parts of a refusal's number
 parts : (c : tie.After-coded) → (c.number.result ≤ 31) × (c.coded.result < 8192)
-parts c =
-    (
-      omega (arith, c.number.ensures, (number_range c.in-Refused.why).1),
-      omega (arith, c.coded.ensures, code_below c.in-Refused.place (coded_of c.in-Refused.why c.in-Refused.place (subst Packs c.in-Refused.is c.requires))),
-    )
+parts c = (
+  omega (arith, c.number.ensures, (number_range c.in-Refused.why).1),
+  omega (arith, c.coded.ensures, code_below c.in-Refused.place (coded_of c.in-Refused.why c.in-Refused.place (subst Packs c.in-Refused.is c.requires))),
+)
 
 overflow_add-result-in-Refused : tie.Need-overflow_add-result-in-Refused
 overflow_add-result-in-Refused c = record { fits = omega (arith, (parts c).0, (parts c).1) }

@@ -31,11 +31,10 @@ plain c =
     ∙ ap (digits_n 4) (sym (c.natural.ensures ∙ ap nat (to_z-of_z c.ranges.z)))
 
 put_digits-requires : tie.Need-put_digits-requires
-put_digits-requires c κs =
-    (
-      omega (arith, c.natural.ensures ∙ ap nat (to_z-of_z c.ranges.z), five_nat c.args.z c.requires.0),
-      subst (λ (d : List ℕ). length d ≤ length c.args.out.now) (plain c) c.requires.1,
-    )
+put_digits-requires c κs = (
+  omega (arith, c.natural.ensures ∙ ap nat (to_z-of_z c.ranges.z), five_nat c.args.z c.requires.0),
+  subst (λ (d : List ℕ). length d ≤ length c.args.out.now) (plain c) c.requires.1,
+)
 
 shape_of-out-then-below-eq0 : tie.Need-shape_of-out-then-below-eq0
 shape_of-out-then-below-eq0 c = search rules
@@ -76,11 +75,10 @@ slice_bounds-put_digits-end : tie.Need-slice_bounds-put_digits-end
 slice_bounds-put_digits-end c = search rules
 
 put_digits-requires-2 : tie.Need-put_digits-requires-2
-put_digits-requires-2 c κs =
-    (
-      omega (arith, below c.before.before, five_under c.args.z c.requires.0),
-      lent_room (after c.before),
-    )
+put_digits-requires-2 c κs = (
+  omega (arith, below c.before.before, five_under c.args.z c.requires.0),
+  lent_room (after c.before),
+)
 
 overflow_add-result : tie.Need-overflow_add-result
 overflow_add-result c = omega (arith, c.put_digits-2.ensures.0, count_most 4 c.under-below.result)
@@ -90,11 +88,10 @@ shape_of-out c =
     lent_length (after c.before.before.before.before) c.put_digits-2.ensures.1
 
 returns : tie.Need-returns
-returns c =
-    (
-      omega (arith, c.put_digits-2.ensures.0, ap length (minus c.before.before.before.before)),
-      lent_over (after c.before.before.before.before) c.put_digits-2.ensures.1 ∙ ap (λ (d : List ℕ). over d c.args.out.now) (sym (minus c.before.before.before.before)),
-    )
+returns c = (
+  omega (arith, c.put_digits-2.ensures.0, ap length (minus c.before.before.before.before)),
+  lent_over (after c.before.before.before.before) c.put_digits-2.ensures.1 ∙ ap (λ (d : List ℕ). over d c.args.out.now) (sym (minus c.before.before.before.before)),
+)
 
 pub put_number_spec : {M : Type 1} → statement M
 put_number_spec =

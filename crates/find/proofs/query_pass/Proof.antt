@@ -103,12 +103,11 @@ shape_of-facts c = search rules
 
 returns : tie.Need-returns
 unfolding query_refusal
-returns c =
-    (
-      later _ _ _ (tables_passed c.before.before.before.before.before.before.before.before.before)
-          (later _ _ _ (formulas_passed c.before.before.before.before) (found_last _ _ _ c.whole.ensures (sym (width_is c.before.before) ∙ c.if-width_fits.false))),
-      λ h. absurd (found_some _ _ _ c.whole.ensures h),
-    )
+returns c = (
+  later _ _ _ (tables_passed c.before.before.before.before.before.before.before.before.before)
+      (later _ _ _ (formulas_passed c.before.before.before.before) (found_last _ _ _ c.whole.ensures (sym (width_is c.before.before) ∙ c.if-width_fits.false))),
+  λ h. absurd (found_some _ _ _ c.whole.ensures h),
+)
 
 pub query_pass_spec : {M : Type 1} → statement M
 query_pass_spec =

@@ -92,11 +92,10 @@ shape_of-facts-then-f-eq0 c = search rules
 
 returns-then-f-eq0 : tie.Need-returns-then-f-eq0
 unfolding formulas_table formulas_refusal is_outer
-returns-then-f-eq0 c =
-    (
-      formulas_none _ _ _ _ _ _ (fits c.before.before.before) (nothing c.before.before.before) (loose_none _ (known c.before.before) c.if-f-eq0.true),
-      (λ _. (passed c.before.before.before).all-found.ensures.1.0 (nothing c.before.before.before), (passed c.before.before.before).all-found.ensures.1.1 ∙ sym (if_true _ _ _ (fits c.before.before.before))),
-    )
+returns-then-f-eq0 c = (
+  formulas_none _ _ _ _ _ _ (fits c.before.before.before) (nothing c.before.before.before) (loose_none _ (known c.before.before) c.if-f-eq0.true),
+  (λ _. (passed c.before.before.before).all-found.ensures.1.0 (nothing c.before.before.before), (passed c.before.before.before).all-found.ensures.1.1 ∙ sym (if_true _ _ _ (fits c.before.before.before))),
+)
 
 shape_of-facts : tie.Need-shape_of-facts
 shape_of-facts c = search rules

@@ -78,8 +78,7 @@ returns-then-n-le8192 c =
     let h = c.if-n-le8192.true in
     let q = node_lengths c.before.before.before.before.before.before.before.before.before in
     let b = start c.before.before.before.before.before.before.before.before.before in
-    let a = b.args in
-    (
+    let a = b.args in (
       counted c.before.before.before.before.before.before.before.before.before,
       (
         c.clear.ensures

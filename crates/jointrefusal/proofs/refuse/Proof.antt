@@ -31,17 +31,16 @@ shape_of-out_members : tie.Need-shape_of-out_members
 shape_of-out_members c = search rules
 
 returns : tie.Need-returns
-returns c =
+returns c = (
+  refl,
+  (
+    c.clear.ensures ∙ cleared_all _ ∙ padded_empty (pos 0) _,
     (
-      refl,
-      (
-        c.clear.ensures ∙ cleared_all _ ∙ padded_empty (pos 0) _,
-        (
-          c.clear-2.ensures ∙ cleared_all _ ∙ padded_empty (pos 0) _,
-          (c.clear-3.ensures ∙ cleared_all _ ∙ padded_empty (pos 0) _, c.clear-4.ensures ∙ cleared_all _ ∙ padded_empty (pos 0) _),
-        ),
-      ),
-    )
+      c.clear-2.ensures ∙ cleared_all _ ∙ padded_empty (pos 0) _,
+      (c.clear-3.ensures ∙ cleared_all _ ∙ padded_empty (pos 0) _, c.clear-4.ensures ∙ cleared_all _ ∙ padded_empty (pos 0) _),
+    ),
+  ),
+)
 
 pub refuse_spec : {M : Type 1} → statement M
 refuse_spec =

@@ -72,17 +72,16 @@ natural-m-requires : tie.Need-natural-m-requires
 natural-m-requires c κs = search rules
 
 formula_value-requires : tie.Need-formula_value-requires
-formula_value-requires c κs =
-    (
-      record {
-        row = omega (arith, root_is c.before, c.requires.row);
-        formed = λ r p. c.requires.formed r (omega (arith, root_is c.before));
-        width = omega (arith, n_is c, n_small c.args.h.least c.args.n (width c.before.before.before));
-        few = c.requires.few;
-        sorted = c.requires.sorted;
-      },
-      omega arith,
-    )
+formula_value-requires c κs = (
+  record {
+    row = omega (arith, root_is c.before, c.requires.row);
+    formed = λ r p. c.requires.formed r (omega (arith, root_is c.before));
+    width = omega (arith, n_is c, n_small c.args.h.least c.args.n (width c.before.before.before));
+    few = c.requires.few;
+    sorted = c.requires.sorted;
+  },
+  omega arith,
+)
 
 whole-requires-then-formula_value-ne1 : tie.Need-whole-requires-then-formula_value-ne1
 whole-requires-then-formula_value-ne1 c κs = search rules

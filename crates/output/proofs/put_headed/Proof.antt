@@ -136,11 +136,10 @@ shape_of-out : tie.Need-shape_of-out
 shape_of-out c = lent_length (room₃ c.before.before.before.before) c.put_rows.ensures.1
 
 returns : tie.Need-returns
-returns c =
-    (
-      lent_count (room₃ c.before.before.before.before) c.put_rows.ensures.0 ∙ ap length (sym (text (S₃ c.before.before.before.before))),
-      lent_over (room₃ c.before.before.before.before) c.put_rows.ensures.1 ∙ ap (λ (x : List ℕ). over x (L (S₃ c.before.before.before.before))) (sym (text (S₃ c.before.before.before.before))),
-    )
+returns c = (
+  lent_count (room₃ c.before.before.before.before) c.put_rows.ensures.0 ∙ ap length (sym (text (S₃ c.before.before.before.before))),
+  lent_over (room₃ c.before.before.before.before) c.put_rows.ensures.1 ∙ ap (λ (x : List ℕ). over x (L (S₃ c.before.before.before.before))) (sym (text (S₃ c.before.before.before.before))),
+)
 
 pub put_headed_spec : {M : Type 1} → statement M
 put_headed_spec =

@@ -165,8 +165,7 @@ loop-j-smaller c = omega (arith, (P c).loop-j-test.true)
 
 loop-j-preserved : tie.Need-loop-j-preserved invariant_loop decreases_loop
 loop-j-preserved c =
-    let p = P c in
-    (
+    let p = P c in (
       lent_over (room p) c.put_node-at.ensures.1 ∙ ap (λ (x : List ℕ). over x (S p.before).args.out.now) (next_is p),
       lent_count (room p) c.put_node-at.ensures.0 ∙ ap length (next_is p),
       omega (arith, p.loop-j-test.true),

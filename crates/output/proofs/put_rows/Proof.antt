@@ -88,12 +88,11 @@ slice_bounds-put_row-end-in-loop-i : tie.Need-slice_bounds-put_row-end-in-loop-i
 slice_bounds-put_row-end-in-loop-i c = held c.before
 
 put_row-at-requires : tie.Need-put_row-at-requires invariant_loop decreases_loop
-put_row-at-requires c κs =
-    (
-      omega (arith, ap length (row_is c.before.before), row_numbers (W c.before.before) (T c.before.before) c.args.rows c.requires.0 (I c.before.before) c.loop-i-test.true, c.requires.0.some),
-      ap (all_of five_digits) (row_is c.before.before) ∙ row_digits (W c.before.before) (T c.before.before) c.args.rows c.requires.0 (I c.before.before) c.loop-i-test.true,
-      lent_room (room c.before.before),
-    )
+put_row-at-requires c κs = (
+  omega (arith, ap length (row_is c.before.before), row_numbers (W c.before.before) (T c.before.before) c.args.rows c.requires.0 (I c.before.before) c.loop-i-test.true, c.requires.0.some),
+  ap (all_of five_digits) (row_is c.before.before) ∙ row_digits (W c.before.before) (T c.before.before) c.args.rows c.requires.0 (I c.before.before) c.loop-i-test.true,
+  lent_room (room c.before.before),
+)
 
 overflow_add-at : tie.Need-overflow_add-at invariant_loop decreases_loop
 overflow_add-at c =
@@ -107,14 +106,13 @@ loop-i-smaller : tie.Need-loop-i-smaller invariant_loop decreases_loop
 loop-i-smaller c = omega (arith, c.loop-i-test.true)
 
 loop-i-preserved : tie.Need-loop-i-preserved invariant_loop decreases_loop
-loop-i-preserved c =
-    (
-      lent_over (room c.before.before.before.before.before) c.put_row-at.ensures.1 ∙ ap (λ (x : List ℕ). over x (L c.before.before.before.before.before)) (next_is c.before.before.before.before.before),
-      lent_count (room c.before.before.before.before.before) c.put_row-at.ensures.0 ∙ ap length (next_is c.before.before.before.before.before),
-      omega (arith, c.loop-i-test.true),
-      lent_length (room c.before.before.before.before.before) c.put_row-at.ensures.1,
-      omega (arith, c.loop-i.invariant.4),
-    )
+loop-i-preserved c = (
+  lent_over (room c.before.before.before.before.before) c.put_row-at.ensures.1 ∙ ap (λ (x : List ℕ). over x (L c.before.before.before.before.before)) (next_is c.before.before.before.before.before),
+  lent_count (room c.before.before.before.before.before) c.put_row-at.ensures.0 ∙ ap length (next_is c.before.before.before.before.before),
+  omega (arith, c.loop-i-test.true),
+  lent_length (room c.before.before.before.before.before) c.put_row-at.ensures.1,
+  omega (arith, c.loop-i.invariant.4),
+)
 
 shape_of-out : tie.Need-shape_of-out invariant_loop decreases_loop
 shape_of-out c = c.loop-i.invariant.3

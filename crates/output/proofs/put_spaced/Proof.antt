@@ -39,13 +39,12 @@ shape_of-out : tie.Need-shape_of-out
 shape_of-out c = search rules
 
 returns : tie.Need-returns
-returns c =
-    (
-      omega (arith, (wrote c.before.before).0, one_length c.args.z),
-      over_next (decimal c.args.z) c.args.out.now c.put_number-n.new.out c.put_number-n.result 32 (wrote c.before.before).1 (wrote c.before.before).0
-          (omega (arith, (wrote c.before.before).0, one_length c.args.z, c.requires.1))
-          ∙ ap (λ (x : List ℕ). over x c.args.out.now) (sym (spread_one c.args.z)),
-    )
+returns c = (
+  omega (arith, (wrote c.before.before).0, one_length c.args.z),
+  over_next (decimal c.args.z) c.args.out.now c.put_number-n.new.out c.put_number-n.result 32 (wrote c.before.before).1 (wrote c.before.before).0
+      (omega (arith, (wrote c.before.before).0, one_length c.args.z, c.requires.1))
+      ∙ ap (λ (x : List ℕ). over x c.args.out.now) (sym (spread_one c.args.z)),
+)
 
 pub put_spaced_spec : {M : Type 1} → statement M
 put_spaced_spec =

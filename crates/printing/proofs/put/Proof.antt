@@ -68,13 +68,12 @@ shape_of-out c = search rules
 
 returns : tie.Need-returns
 unfolding printed_row
-returns c =
-    (
-      lent_count (room c.before.before.before.before) c.put_row.ensures.0,
-      lent_over (room c.before.before.before.before) c.put_row.ensures.1
-          ∙ ap (over (Heading ++ Row c.before.before.before.before.before.before.before.before.before.before.before.before.before.before.before)) c.clear.ensures
-          ∙ over_zeros (Heading ++ Row c.before.before.before.before.before.before.before.before.before.before.before.before.before.before.before) (length c.args.out.now),
-    )
+returns c = (
+  lent_count (room c.before.before.before.before) c.put_row.ensures.0,
+  lent_over (room c.before.before.before.before) c.put_row.ensures.1
+      ∙ ap (over (Heading ++ Row c.before.before.before.before.before.before.before.before.before.before.before.before.before.before.before)) c.clear.ensures
+      ∙ over_zeros (Heading ++ Row c.before.before.before.before.before.before.before.before.before.before.before.before.before.before.before) (length c.args.out.now),
+)
 
 pub put_spec : {M : Type 1} → statement M
 put_spec =

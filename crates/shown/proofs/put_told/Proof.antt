@@ -100,11 +100,10 @@ shape_of-out : tie.Need-shape_of-out
 shape_of-out c = search rules
 
 returns : tie.Need-returns
-returns c =
-    (
-      lent_count (room₂ c.before.before.before.before) c.put_heading.ensures.0 ∙ ap length (sym (text (S₂ c.before.before.before.before))),
-      lent_over (room₂ c.before.before.before.before) c.put_heading.ensures.1 ∙ ap (λ (x : List ℕ). over x (L (S₂ c.before.before.before.before))) (sym (text (S₂ c.before.before.before.before))),
-    )
+returns c = (
+  lent_count (room₂ c.before.before.before.before) c.put_heading.ensures.0 ∙ ap length (sym (text (S₂ c.before.before.before.before))),
+  lent_over (room₂ c.before.before.before.before) c.put_heading.ensures.1 ∙ ap (λ (x : List ℕ). over x (L (S₂ c.before.before.before.before))) (sym (text (S₂ c.before.before.before.before))),
+)
 
 pub put_told_spec : {M : Type 1} → statement M
 put_told_spec =

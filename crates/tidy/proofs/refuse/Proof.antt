@@ -25,14 +25,13 @@ shape_of-out_members : tie.Need-shape_of-out_members
 shape_of-out_members c = search rules
 
 returns : tie.Need-returns
-returns c =
-    (
-      refl,
-      (
-        c.clear.ensures ∙ cleared_all _ ∙ padded_empty (pos 0) _,
-        (c.clear-2.ensures ∙ cleared_all _ ∙ padded_empty (pos 0) _, c.clear-3.ensures ∙ cleared_all _ ∙ padded_empty (pos 0) _),
-      ),
-    )
+returns c = (
+  refl,
+  (
+    c.clear.ensures ∙ cleared_all _ ∙ padded_empty (pos 0) _,
+    (c.clear-2.ensures ∙ cleared_all _ ∙ padded_empty (pos 0) _, c.clear-3.ensures ∙ cleared_all _ ∙ padded_empty (pos 0) _),
+  ),
+)
 
 pub refuse_spec : {M : Type 1} → statement M
 refuse_spec =

@@ -128,12 +128,11 @@ rows : (c : tie.Else-not-writable-2) → all_of five_digits (take ((S₁ c.befor
 rows c = sym c.writable-2.ensures ∙ not-false _ (ap not c.if-not-writable-2.false)
 
 fill_headed-requires : tie.Need-fill_headed-requires
-fill_headed-requires c κs =
-    (
-      (S₁ c.before.before.before.before.before.before).requires.0,
-      record { some = (S₁ c.before.before.before.before.before.before).requires.0.some; digits = front c.before.before.before },
-      record { some = (S₁ c.before.before.before.before.before.before).requires.1; held = within c.before.before.before.before.before.before; digits = rows c.before },
-    )
+fill_headed-requires c κs = (
+  (S₁ c.before.before.before.before.before.before).requires.0,
+  record { some = (S₁ c.before.before.before.before.before.before).requires.0.some; digits = front c.before.before.before },
+  record { some = (S₁ c.before.before.before.before.before.before).requires.1; held = within c.before.before.before.before.before.before; digits = rows c.before },
+)
 
 shape_of-out : tie.Need-shape_of-out
 shape_of-out c = search rules

@@ -53,11 +53,10 @@ paired-requires : tie.Need-paired-requires
 paired-requires c κs = search rules
 
 put_both-requires : tie.Need-put_both-requires
-put_both-requires c κs =
-    (
-      (omega arith, c.paired.ensures.1, omega (arith, two c.before.before.before.before.before.before, c.requires.0.limit, c.requires.0.room)),
-      ((left c.before.before.before.before).own, (left c.before.before.before.before).negated, (right c.before.before.before).own, (right c.before.before.before).negated),
-    )
+put_both-requires c κs = (
+  (omega arith, c.paired.ensures.1, omega (arith, two c.before.before.before.before.before.before, c.requires.0.limit, c.requires.0.room)),
+  ((left c.before.before.before.before).own, (left c.before.before.before.before).negated, (right c.before.before.before).own, (right c.before.before.before).negated),
+)
 
 shape_of-plain-then-k-lt6 : tie.Need-shape_of-plain-then-k-lt6
 shape_of-plain-then-k-lt6 c = search rules

@@ -22,11 +22,10 @@ shape_of-members : tie.Need-shape_of-members
 shape_of-members c = search rules
 
 returns : tie.Need-returns
-returns c =
-    (
-      c.clear.ensures ∙ cleared_padded c.args.nodes.now (9 * c.args.k) (length c.args.nodes.now) c.requires.1 refl,
-      c.clear-2.ensures ∙ cleared_padded c.args.members.now c.args.m (length c.args.members.now) c.requires.2 refl,
-    )
+returns c = (
+  c.clear.ensures ∙ cleared_padded c.args.nodes.now (9 * c.args.k) (length c.args.nodes.now) c.requires.1 refl,
+  c.clear-2.ensures ∙ cleared_padded c.args.members.now c.args.m (length c.args.members.now) c.requires.2 refl,
+)
 
 pub hold_spec : {M : Type 1} → statement M
 hold_spec =

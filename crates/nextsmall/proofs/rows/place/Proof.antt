@@ -36,12 +36,11 @@ loop-d-smaller : tie.Need-loop-d-smaller invariant_loop decreases_loop
 loop-d-smaller c = omega (arith, c.loop-d-test.true)
 
 loop-d-preserved : tie.Need-loop-d-preserved invariant_loop decreases_loop
-loop-d-preserved c =
-    (
-      omega (arith, c.loop-d-test.true),
-      later_more c.args.table.now c.args.r c.loop-d.d (as_row c.candidate.result) (omega (arith, c.count-n.ensures.0, c.loop-d-test.true))
-          c.candidate.ensures (sym c.same.ensures ∙ c.if-same.false) c.loop-d.invariant.1,
-    )
+loop-d-preserved c = (
+  omega (arith, c.loop-d-test.true),
+  later_more c.args.table.now c.args.r c.loop-d.d (as_row c.candidate.result) (omega (arith, c.count-n.ensures.0, c.loop-d-test.true))
+      c.candidate.ensures (sym c.same.ensures ∙ c.if-same.false) c.loop-d.invariant.1,
+)
 
 returns : tie.Need-returns invariant_loop decreases_loop
 returns c =

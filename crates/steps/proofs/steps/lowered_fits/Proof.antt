@@ -40,12 +40,11 @@ shape_of-agreed c = c.all_lowered.auto.agreed
 
 returns : tie.Need-returns
 unfolding lowered_fits of_rule node node_at
-returns c =
-    (
-      rw (read_back _ c.at-by.type_inv, c.at-by.ensures, c.natural_of-to.ensures.0) at c.all_lowered.ensures.0
-          ∙ implies_made _ _ (asked_true c.is_of.ensures (ap not c.if-not-is_of.false)),
-      c.all_lowered.ensures.1,
-    )
+returns c = (
+  rw (read_back _ c.at-by.type_inv, c.at-by.ensures, c.natural_of-to.ensures.0) at c.all_lowered.ensures.0
+      ∙ implies_made _ _ (asked_true c.is_of.ensures (ap not c.if-not-is_of.false)),
+  c.all_lowered.ensures.1,
+)
 
 pub lowered_fits_spec : {M : Type 1} → statement M
 lowered_fits_spec =

@@ -62,11 +62,10 @@ returns-then-not-enough c =
     later _ _ _ (sets_passed c.before.before) (whole_found (a.whole implies ltb 0 a.h.node_rows) Parent _ (asked_false c.enough.ensures (ap not c.if-not-enough.true)))
 
 parents-requires : tie.Need-parents-requires
-parents-requires c κs =
-    (
-      c.requires.0.2,
-      λ j l. set_within (Lent c.before.before.before.before.before.before.before) j (sets_known (Lent c.before.before.before.before.before.before.before) c.args.h.node_rows (sets_passed c.before.before.before) j l) c.requires.0.3,
-    )
+parents-requires c κs = (
+  c.requires.0.2,
+  λ j l. set_within (Lent c.before.before.before.before.before.before.before) j (sets_known (Lent c.before.before.before.before.before.before.before) c.args.h.node_rows (sets_passed c.before.before.before) j l) c.requires.0.3,
+)
 
 returns : tie.Need-returns
 unfolding nodes_refusal enough_nodes

@@ -32,13 +32,12 @@ least_is : (c : tie.After-struct_told-1) → to_z w32 (of_z w32 c.args.h.least) 
 least_is c = read_back c.args.h.least c.struct_told-1.given.1.1.1.0.1
 
 work_out-requires : tie.Need-work_out-requires
-work_out-requires c κs =
-    (
-      c.requires.0.3,
-      c.requires.0.7,
-      ap (within (pos 0) (pos 9999)) (least_is c) ∙ least_fits (Lent c.before.before.before.before.before.before.before) _ (rows_passed c.before.before.before.before.before.before.before),
-      parents_known (Lent c.before.before.before.before.before.before.before) c.args.h.node_rows (nodes_parents (Lent c.before.before.before.before.before.before.before) _ (nodes_passed c.before.before.before.before.before.before.before)),
-    )
+work_out-requires c κs = (
+  c.requires.0.3,
+  c.requires.0.7,
+  ap (within (pos 0) (pos 9999)) (least_is c) ∙ least_fits (Lent c.before.before.before.before.before.before.before) _ (rows_passed c.before.before.before.before.before.before.before),
+  parents_known (Lent c.before.before.before.before.before.before.before) c.args.h.node_rows (nodes_parents (Lent c.before.before.before.before.before.before.before) _ (nodes_passed c.before.before.before.before.before.before.before)),
+)
 
 classify-requires : tie.Need-classify-requires
 classify-requires c κs = search rules
@@ -46,8 +45,7 @@ classify-requires c κs = search rules
 each_node-requires : tie.Need-each_node-requires
 unfolding rows row_count
 each_node-requires c κs =
-    let T = Lent c.before.before.before.before.before.before.before.before.before.before.before.before.before.before.before.before.before.before in
-    (
+    let T = Lent c.before.before.before.before.before.before.before.before.before.before.before.before.before.before.before.before.before.before in (
       record {
         node_limit = c.requires.0.3;
         member_limit = c.requires.0.4;
