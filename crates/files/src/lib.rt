@@ -47,7 +47,9 @@ fn fetch<R: Files>(rt: &R, path: &[u8], buf: &mut [u8]) -> usize
     }
 }
 
-// A file's bytes in front of the buffer, how many they are, and 0 past them; all 0 where there are none.
+// A file's bytes in front of the buffer, how many they are, and 0 past them; all 0 where there are none. What it takes of the stack is free
+// again when it returns, and no part of its caller's.
+#[inline(never)]
 pub fn load<R: Files>(rt: &R, path: &[u8], buf: &mut [u8]) -> usize
     ensures { Loaded (length buf.old) result buf.new }
 {
@@ -57,7 +59,8 @@ pub fn load<R: Files>(rt: &R, path: &[u8], buf: &mut [u8]) -> usize
 }
 
 // The line at fault to standard error, and how many bytes it takes. Its room is made here, after the check has returned, so that the stack of
-// the one and of the other do not add up.
+// the one and of the other do not add up: nor is it made part of the caller.
+#[inline(never)]
 pub fn show<'a, P: Print>(
     error: &P,
     first: &[u8],
