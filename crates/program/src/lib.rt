@@ -49,7 +49,8 @@ pub struct Told {
 }
 
 // What the check program, or the one for older records, prints for the bytes of schema.txt and of proof.txt, with 0 past it, and where
-// its refusal points.
+// its refusal points. The tables of the check are no part of its caller's frame: see `files::show`.
+#[inline(never)]
 pub fn check_texts(older: bool, schema: &[u8], proof: &[u8], out: &mut [u8; 64]) -> Told
     ensures count { result.bytes ≡ length (check_program older schema.now proof.now) }
     ensures text { out.new ≡ padded 0 64 (check_program older schema.now proof.now) }
@@ -63,7 +64,8 @@ pub fn check_texts(older: bool, schema: &[u8], proof: &[u8], out: &mut [u8; 64])
     Told { bytes, fault }
 }
 
-// What the model check program prints for the bytes of schema.txt and of model.txt, and where its refusal points.
+// What the model check program prints for the bytes of schema.txt and of model.txt, and where its refusal points; its tables likewise.
+#[inline(never)]
 pub fn model_texts(schema: &[u8], model: &[u8], out: &mut [u8; 64]) -> Told
     ensures count { result.bytes ≡ length (model_program schema.now model.now) }
     ensures text { out.new ≡ padded 0 64 (model_program schema.now model.now) }
