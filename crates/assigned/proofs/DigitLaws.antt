@@ -1,4 +1,5 @@
 -- The digits of numbers and of words.
+use Rattle.std.specs.Prelude.{if◌then◌else◌}
 use Prim.Native.Nat.{ℕ, zero, suc, ◌+◌, ◌-◌, ◌*◌, ◌/◌, ◌%◌, ◌^◌, ◌<◌, ◌≤◌}
 use native.Mathlib.Omega.{arith}
 use native.Mathlib.Nat.{mul_assoc, pow-succ', add-mul-div_left, add-div_right, div-eq_of_lt}
@@ -7,7 +8,6 @@ use mathlib.Core.Logic.{⊎_elim}
 use mathlib.Core.Bool.{Bool, true, false}
 use lib.Dec.{eqb}
 use lib.Pow.{pow_pos, pow-add, shr-shr}
-use Rattle.stab.specs.Basic.{if◌then◌else◌}
 use Rattle.stab.specs.Meaning.{signed}
 use Rattle.stab.proofs.Scans.{below_suc}
 use Rattle.pairs.specs.Word.{word}
@@ -69,7 +69,7 @@ top_clear m w h =
     ap (λ (x : ℕ). eqb x 1) e
 
 pub word_digit : (p : ℕ → Bool) (w j : ℕ) → j < w → digit (word p w) j ≡ p j
-unfolding word if◌then◌else◌
+unfolding word
 word_digit p zero j h = absurd (omega arith)
 word_digit p (suc w) j h = go (p w) refl (word_digit p w j)
   where

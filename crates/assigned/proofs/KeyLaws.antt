@@ -1,4 +1,5 @@
 -- Assignments to pairs that are given by their keys.
+use Rattle.std.specs.Prelude.{if◌then◌else◌}
 use Prim.Native.Nat.{ℕ, suc, ◌+◌, ◌-◌, ◌<◌, ◌≤◌}
 use native.Mathlib.Omega.{arith}
 use native.Mathlib.Numerals.{add-one}
@@ -10,7 +11,6 @@ use lib.IntN.{ℤ}
 use lib.ListN.{length, get_or, drop, drop_of_length-le}
 use lib.Seq.{drop-cons}
 use borrow.Author.Tests.{eq-eqb, ne_eqb}
-use Rattle.stab.specs.Basic.{if◌then◌else◌}
 use Rattle.stab.proofs.Bools.{if_true, if_false}
 use Rattle.found.specs.Keys.{key_of}
 use Rattle.assigned.specs.Words.{digit}
@@ -52,7 +52,7 @@ module _ (s z : ℤ) where
   key = key_of (record { symbol = s; index = z })
 
   pub keyed_at : (ks : List ℕ) (m : ℕ) → place_of key ks < length ks → keyed ks m s z ≡ digit m (length ks - 1 - place_of key ks)
-  unfolding keyed place_of if◌then◌else◌
+  unfolding keyed place_of
   keyed_at [] m h = absurd (omega arith)
   keyed_at (k ∷ ks) m h = go (eqb k key) (keyed_at ks m) h
     where
@@ -61,7 +61,7 @@ module _ (s z : ℤ) where
       go false ih h = ih (omega arith) ∙ ap (digit m) (omega arith)
 
   pub keyed_elsewhere : (ks : List ℕ) (m : ℕ) → length ks ≤ place_of key ks → keyed ks m s z ≡ false
-  unfolding keyed place_of if◌then◌else◌
+  unfolding keyed place_of
   keyed_elsewhere [] m h = refl
   keyed_elsewhere (k ∷ ks) m h = go (eqb k key) (keyed_elsewhere ks m) h
     where

@@ -1,4 +1,5 @@
 -- The range of an iteration: where no literal on i stands in the body, one value of i stands for all. Smaller rows.
+use Rattle.std.specs.Prelude.{if◌then◌else◌}
 use Prim.Native.Nat.{ℕ, zero, suc, ◌+◌, ◌*◌, ◌<◌, ◌≤◌, min}
 use native.Mathlib.Omega.{arith}
 use native.Mathlib.Numerals.{add-one}
@@ -8,7 +9,7 @@ use mathlib.Core.List.{List}
 use lib.Dec.{eqb}
 use lib.IntN.{ℤ, pos, ◌+ℤ◌}
 use lib.ListN.{get_or}
-use Rattle.stab.specs.Basic.{if◌then◌else◌, ◌and◌, ◌or◌}
+use Rattle.stab.specs.Basic.{◌and◌, ◌or◌}
 use Rattle.stab.specs.Formula.{Op, conj, disj, nothing, parameter, index, Row, Formula, const, lit, join, iter, loose, on_index, tree}
 use Rattle.stab.specs.Meaning.{Assignment, base, op, empty, over, value}
 use Rattle.stab.proofs.Bools.{or_false_left, or_false_right}
@@ -55,7 +56,7 @@ over_next o p x k =
 -- ---- the values of i that are looked at
 
 pub looked_few : (x left : ℕ) → looked_at x left ≤ left
-unfolding looked_at if◌then◌else◌
+unfolding looked_at
 looked_few x left = go (eqb x 0)
   where
     go : (b : Bool) → (if b then min 1 left else left) ≤ left
@@ -64,7 +65,7 @@ looked_few x left = go (eqb x 0)
 
 module _ (o : Op) (σ : Assignment) (n : ℕ) (b : ℤ) (left : ℕ) where
   by_literals : (f : Formula) (v : Bool) → loose f ≡ v → over o (value σ n f) b (looked_at (bit v) left) ≡ over o (value σ n f) b left
-  unfolding looked_at if◌then◌else◌ bit
+  unfolding looked_at bit
   by_literals f true h = refl
   by_literals f false h = over_first o (value σ n f) b left (λ i j. still σ n f i j h)
 

@@ -1,6 +1,5 @@
 -- Assignments by number, to pairs that are given by their keys.
-use Rattle.std.specs.Prelude.{ℕ, suc, ◌+◌, ◌%◌, ◌≤◌, ◌<◌, min, ◌≡◌, false, List, [], ◌∷◌, eqb, ℤ, length, take}
-use Rattle.stab.specs.Basic.{if◌then◌else◌}
+use Rattle.std.specs.Prelude.{ℕ, suc, ◌+◌, ◌%◌, ◌≤◌, ◌<◌, min, ◌≡◌, false, List, [], ◌∷◌, eqb, ℤ, length, take, if◌then◌else◌}
 use Rattle.stab.specs.Formula.{Formula, row_at, tree}
 use Rattle.stab.specs.Meaning.{Assignment, value}
 use Rattle.stab.specs.Occurs.{occurring}

@@ -1,4 +1,5 @@
 -- Bounds, ranks and numbers of children, from node to node.
+use Rattle.std.specs.Prelude.{if◌then◌else◌}
 use Prim.Native.Nat.{ℕ, zero, suc, ◌+◌, ◌<◌, ◌≤◌}
 use native.Mathlib.Omega.{arith}
 use native.Mathlib.Numerals.{add-one}
@@ -9,7 +10,7 @@ use mathlib.Core.Option.{some}
 use lib.IntN.{ℤ, pos, negsuc, neg_ℤ}
 use lib.Signed.{lt_z}
 use borrow.Author.Tests.{le-ltb}
-use Rattle.stab.specs.Basic.{if◌then◌else◌, eq_z, nat, below, count}
+use Rattle.stab.specs.Basic.{eq_z, nat, below, count}
 use Rattle.stab.specs.Node.{Node, Bound, node_at, names, child_count_of, rank, split_at, split_bound, child_bound, first_bound, bound_of}
 use Rattle.stab.proofs.Bools.{and_first_false, and_second_false, if_true, if_false}
 use Rattle.stab.proofs.Whole.{eq_z_of, eq_z_not, nat_of}
@@ -54,7 +55,7 @@ child_second w B k h f = child_split w B k h ∙ split_second B (split_at B.L w.
 -- ---- ranks and numbers of children
 
 count_none : (p : ℕ → Bool) (n : ℕ) → ((i : ℕ) → i < n → p i ≡ false) → count p n ≡ 0
-unfolding count if◌then◌else◌
+unfolding count
 count_none p zero h = refl
 count_none p (suc n) h =
     ap (λ (b : Bool). if b then suc (count p n) else count p n) (h n (omega arith)) ∙ count_none p n (λ i q. h i (omega arith))

@@ -1,8 +1,8 @@
 -- What a step's code reads of the lent tables.
-use Rattle.std.specs.Prelude.{ℕ, zero, suc, ◌+◌, ◌*◌, ◌<◌, ◌≤◌, ◌≡◌, Bool, true, false, List, ℤ, pos, length, get_or}
+use Rattle.std.specs.Prelude.{ℕ, zero, suc, ◌+◌, ◌*◌, ◌<◌, ◌≤◌, ◌≡◌, Bool, true, false, List, ℤ, pos, length, get_or, if◌then◌else◌}
 use Rattle.std.proofs.Math.Option.{Option, none, some}
 use Rattle.std.specs.Int.Signed.{le_z}
-use Rattle.stab.specs.Basic.{if◌then◌else◌, ◌and◌, ◌or◌, eq_z, nat, below, has, ascending}
+use Rattle.stab.specs.Basic.{◌and◌, ◌or◌, eq_z, nat, below, has, ascending}
 use Rattle.stab.specs.Formula.{Row, tree, loose}
 use Rattle.stab.specs.Node as N
 use Rattle.stab.specs.Node.{Tableau, Bound, Node, node, node_at, set, set_of}

@@ -1,11 +1,12 @@
 -- A well-formed row by its kind: its formula, its shift, and what formulas of one class have in common.
+use Rattle.std.specs.Prelude.{if◌then◌else◌}
 use Prim.Native.Nat.{ℕ, zero, suc, ◌≤◌, ◌<◌}
 use native.Mathlib.Omega.{arith}
 use mathlib.Core.Path.{◌≡◌, refl, sym, ◌∙◌, ap, subst}
 use mathlib.Core.Bool.{Bool, true, false, false≢true}
 use mathlib.Core.Option.{Option, some}
 use lib.IntN.{ℤ, pos, neg_ℤ}
-use Rattle.stab.specs.Basic.{if◌then◌else◌, eq_z, within, nat, below}
+use Rattle.stab.specs.Basic.{eq_z, within, nat, below}
 use Rattle.stab.specs.Formula.{Row, Op, conj, disj, Kind, constant, literal, junction, iteration, unknown, kind_of, Base, nothing, parameter, index, base_of, Formula, const, lit, join, iter, tree, fixed, is_body, offset, well_formed_as, well_formed}
 use Rattle.stab.specs.Alike.{lower, instance, instance_lit}
 use Rattle.stab.specs.Keeps.{Alike, itself, sides, left, right, inside, next}
@@ -62,7 +63,7 @@ number (iteration disj) = 7
 number unknown = 8
 
 number_of : (k : ℕ) → k < 8 → number (kind_of (pos k)) ≡ k
-unfolding number kind_of if◌then◌else◌ eq_z
+unfolding number kind_of eq_z
 number_of zero l = refl
 number_of (suc zero) l = refl
 number_of (suc (suc zero)) l = refl

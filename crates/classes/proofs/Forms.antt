@@ -1,4 +1,5 @@
 -- The numbers of a row, by its kind and by what is kept for smaller rows.
+use Rattle.std.specs.Prelude.{if◌then◌else◌}
 use Prim.Native.Nat.{ℕ, ◌+◌, ◌*◌, ◌-◌, ◌≤◌, ◌<◌, ◌^◌}
 use native.Mathlib.Omega.{arith}
 use mathlib.Core.Path.{◌≡◌, refl, sym, ◌∙◌, ap, ap₂}
@@ -11,7 +12,7 @@ use lib.IntN.{ℤ, pos}
 use lib.ListN.{get_or}
 use lib.Signed.{le_z}
 use borrow.Author.Tests.{eqb-true, eqb-false}
-use Rattle.stab.specs.Basic.{if◌then◌else◌, eq_z, within, nat}
+use Rattle.stab.specs.Basic.{eq_z, within, nat}
 use Rattle.stab.specs.Formula.{Row, Op, Kind, constant, literal, junction, iteration, unknown, kind_of, Base, nothing, parameter, index, base_of, tree, well_formed}
 use Rattle.stab.proofs.Bools.{decide, if_true, if_false, and_left, and_right}
 use Rattle.stab.proofs.Whole.{atom, num, of_le, nonneg_minus, plus_nat, nat_pos, eq_z_of, eq_z_not}
@@ -40,7 +41,7 @@ module _ (z : ℤ) (c : ℤ) where
   base_other h = if_false _ _ _ (eq_z_not z (pos 0) (λ e. h (ap nat e)))
 
   off_other : (nat z ≡ 0 → ⊥) → off_lit (base_of z) c ≡ some c
-  unfolding off_lit if◌then◌else◌
+  unfolding off_lit
   off_other h = ap (λ (x : Base). off_lit x c) (base_other h) ∙ go (eq_z z (pos 1))
     where
       go : (t : Bool) → off_lit (if t then parameter else index) c ≡ some c
@@ -48,7 +49,7 @@ module _ (z : ℤ) (c : ℤ) where
       go false = refl
 
   added_other : (nat z ≡ 0 → ⊥) → added_of (base_of z) c ≡ 0
-  unfolding added_of if◌then◌else◌
+  unfolding added_of
   added_other h = ap (λ (x : Base). added_of x c) (base_other h) ∙ go (eq_z z (pos 1))
     where
       go : (t : Bool) → added_of (if t then parameter else index) c ≡ 0
@@ -151,7 +152,7 @@ module _ (rows : ℕ → Row) (r : ℕ) (few : r < 1024) (formed : AllFormed row
 -- ---- the numbers are small
 
 above_small : (m p : ℕ) → p ≤ 32767 → above m p ≤ 32767
-unfolding above if◌then◌else◌
+unfolding above
 above_small m p l = go (eqb p 0)
   where
     go : (t : Bool) → (if t then 32767 else p - m) ≤ 32767
@@ -176,7 +177,6 @@ module _ (rows : ℕ → Row) (r : ℕ) (few : r < 1024) (formed : AllFormed row
 
   -- one of two
   chosen : (t : Bool) (a b : ℕ) → Small a → Small b → Small (if t then a else b)
-  unfolding if◌then◌else◌
   chosen true a b p q = p
   chosen false a b p q = q
 
@@ -198,9 +198,9 @@ module _ (rows : ℕ → Row) (r : ℕ) (few : r < 1024) (formed : AllFormed row
   small_as_lem (junction o) e =
       let a = left_less rows r (here rows r formed) o e in
       let b = right_less rows r (here rows r formed) o e in (
-        chosen _ _ _ (omega arith) (omega arith),
-        chosen _ _ _ (code_small _ _ a) (code_small _ _ b),
-        chosen _ _ _ (code_small _ _ b) (code_small _ _ a),
+        chosen (leb (left_code rows r) (right_code rows r)) _ _ (omega arith) (omega arith),
+        chosen (leb (left_code rows r) (right_code rows r)) _ _ (code_small _ _ a) (code_small _ _ b),
+        chosen (leb (left_code rows r) (right_code rows r)) _ _ (code_small _ _ b) (code_small _ _ a),
       )
   small_as_lem (iteration o) e =
       let a = body_less rows r (here rows r formed) o e in (

@@ -1,4 +1,5 @@
 -- Two well-formed rows have the same key exactly if they are akin; then leading parts meet, and so do the others.
+use Rattle.std.specs.Prelude.{if◌then◌else◌}
 use Prim.Native.Nat.{ℕ, ◌+◌, ◌*◌, ◌≤◌, ◌<◌}
 use native.Mathlib.Omega.{arith}
 use mathlib.Core.Path.{◌≡◌, refl, sym, ◌∙◌, ap, ap₂, subst}
@@ -8,7 +9,7 @@ use mathlib.Core.Option.{Option, none, some}
 use lib.Dec.{leb}
 use lib.IntN.{ℤ, pos}
 use borrow.Author.Tests.{eq-eqb, ne_eqb, leb-true, leb-false}
-use Rattle.stab.specs.Basic.{if◌then◌else◌, ◌and◌, within, nat}
+use Rattle.stab.specs.Basic.{◌and◌, within, nat}
 use Rattle.stab.specs.Formula.{Row, Op, Kind, constant, literal, junction, iteration, unknown, kind_of, Base, nothing, parameter, index, Formula, const, lit, join, iter, tree, fixed, offset}
 use Rattle.stab.specs.Alike.{lower_base, lower, instance, instance_lit, eq_op, alike}
 use Rattle.stab.specs.Keeps.{Alike, itself, sides, left, right, inside, next}

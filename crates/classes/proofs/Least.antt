@@ -1,9 +1,9 @@
 -- Rows have the same class exactly if they are akin.
+use Rattle.std.specs.Prelude.{if◌then◌else◌}
 use Prim.Native.Nat.{ℕ, zero, suc, ◌≤◌, ◌<◌}
 use native.Mathlib.Omega.{arith}
 use mathlib.Core.Path.{◌≡◌, refl, sym, ◌∙◌, subst}
 use mathlib.Core.Bool.{Bool, true, false, false≢true}
-use Rattle.stab.specs.Basic.{if◌then◌else◌}
 use Rattle.stab.specs.Formula.{Row, Formula, tree}
 use Rattle.stab.proofs.Alikes.{alike_refl, alike_sym, alike_trans}
 use Rattle.classes.specs.Class.{level, akin, least, class_of}
@@ -15,7 +15,7 @@ abbrev later : (ℕ → Bool) → ℕ → Bool
 later p m = p (suc m)
 
 least_small : (p : ℕ → Bool) (n : ℕ) → least p n ≤ n
-unfolding least if◌then◌else◌
+unfolding least
 least_small p zero = omega arith
 least_small p (suc n) = go (p zero) (least_small (later p) n)
   where
@@ -24,7 +24,7 @@ least_small p (suc n) = go (p zero) (least_small (later p) n)
     go false l = omega arith
 
 least_before : (p : ℕ → Bool) (n q : ℕ) → q < least p n → p q ≡ false
-unfolding least if◌then◌else◌
+unfolding least
 least_before p zero q l = absurd (omega arith)
 least_before p (suc n) q l = go (p zero) q refl l (least_before (later p) n)
   where
@@ -34,7 +34,7 @@ least_before p (suc n) q l = go (p zero) q refl l (least_before (later p) n)
     go false (suc m) e k f = f m (omega arith)
 
 least_passes : (p : ℕ → Bool) (n : ℕ) → p n ≡ true → p (least p n) ≡ true
-unfolding least if◌then◌else◌
+unfolding least
 least_passes p zero h = h
 least_passes p (suc n) h = go (p zero) refl (least_passes (later p) n h)
   where

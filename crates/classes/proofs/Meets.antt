@@ -1,4 +1,5 @@
 -- Two rows side by side: when they are alike, by their kinds, numbers and parts.
+use Rattle.std.specs.Prelude.{if◌then◌else◌}
 use Prim.Native.Nat.{ℕ, ◌+◌, ◌≤◌, ◌<◌}
 use native.Mathlib.Omega.{arith}
 use mathlib.Core.Path.{◌≡◌, refl, sym, ◌∙◌, ap, ap₂}
@@ -9,7 +10,7 @@ use mathlib.Core.Option.{Option, none, some}
 use lib.Dec.{eqb}
 use lib.IntN.{ℤ, pos, neg_ℤ, ◌+ℤ◌, ◌-ℤ◌}
 use borrow.Author.Tests.{eqb-true, eq-eqb, ne_eqb}
-use Rattle.stab.specs.Basic.{if◌then◌else◌, ◌and◌, eq_z, within, nat}
+use Rattle.stab.specs.Basic.{◌and◌, eq_z, within, nat}
 use Rattle.stab.specs.Formula.{Row, Op, Base, nothing, parameter, index, base_of, literal, junction, iteration, kind_of, Formula, lit, tree, loose, fixed, offset, well_formed}
 use Rattle.stab.specs.Alike.{lower_base, lower, instance_lit, instance, eq_bool, eq_op, eq_base, alike}
 use Rattle.stab.proofs.Bools.{decide, same_test, if_true, if_false, and_left, and_right, and_both, and_first_true, and_first_false}
@@ -133,7 +134,7 @@ module _ (z : ℤ) (k c : ℤ) where
   on_nothing h e = let b = base_nothing z c h e in (ap based b, ap (λ (x : Base). moved k x c) b)
 
   on_other : (nat z ≡ 0 → ⊥) → (based (base_of z) ≡ parameter) × (moved k (base_of z) c ≡ (c -ℤ k))
-  unfolding based moved if◌then◌else◌
+  unfolding based moved
   on_other h = let b = base_other z c h in (ap based b ∙ (go (eq_z z (pos 1))).0, ap (λ (x : Base). moved k x c) b ∙ (go (eq_z z (pos 1))).1)
     where
       go : (t : Bool) → (based (if t then parameter else index) ≡ parameter) × (moved k (if t then parameter else index) c ≡ (c -ℤ k))

@@ -1,4 +1,5 @@
 -- Shifts as numbers.
+use Rattle.std.specs.Prelude.{if◌then◌else◌}
 use Prim.Native.Nat.{ℕ, zero, suc, ◌+◌, ◌-◌, ◌≤◌, ◌<◌, ◌^◌}
 use native.Mathlib.Omega.{arith}
 use mathlib.Core.Path.{◌≡◌, refl, sym, ◌∙◌, ap}
@@ -11,7 +12,7 @@ use lib.Signed.{mag, le_z}
 use mir.Syntax.{w32}
 use mir.Val.{of_z, to_z, hbits}
 use borrow.Author.Tests.{eq-eqb, ne_eqb, le-leb, lt-leb, leb-true, leb-false}
-use Rattle.stab.specs.Basic.{if◌then◌else◌, nat}
+use Rattle.stab.specs.Basic.{nat}
 use Rattle.stab.specs.Formula.{offset}
 use Rattle.stab.proofs.Bools.{decide, if_true, if_false}
 use Rattle.stab.proofs.Whole.{plus, minus, atom, num, ◌⊕◌, ◌⊖◌, less, parts, eq_of, of_eq, le_of, of_le, of_not_le, plus_nat, minus_nat, nonneg_minus}
@@ -97,7 +98,7 @@ lesser_code (some a) (some b) h k = go (le_z a b) refl
     go false e = ap shift_code (if_false _ (some a) (some b) e) ∙ sym (smaller_lt _ _ h.some_where k.some_where (omega (arith, h.more, k.more, of_not_le (atom a) (atom b) e)))
 
 pub lesser_coded : (x y : Option ℤ) → Coded x (shift_code x) → Coded y (shift_code y) → Coded (lesser x y) (shift_code (lesser x y))
-unfolding lesser if◌then◌else◌
+unfolding lesser
 lesser_coded none y h k = k
 lesser_coded (some a) none h k = h
 lesser_coded (some a) (some b) h k = go (le_z a b)

@@ -1,4 +1,5 @@
 -- Two formulas, lowered, are alike exactly if they are akin and their shifts fit.
+use Rattle.std.specs.Prelude.{if◌then◌else◌}
 use native.Mathlib.Omega.{arith}
 use mathlib.Core.Path.{◌≡◌, refl, sym, ◌∙◌, ap, ap₂, subst}
 use mathlib.Core.Logic.{⊎_elim}
@@ -6,7 +7,7 @@ use mathlib.Core.Bool.{Bool, true, false, false≢true}
 use mathlib.Core.Option.{Option, none, some}
 use lib.IntN.{ℤ, pos, ◌+ℤ◌, ◌-ℤ◌}
 use lib.Signed.{le_z}
-use Rattle.stab.specs.Basic.{if◌then◌else◌, ◌or◌}
+use Rattle.stab.specs.Basic.{◌or◌}
 use Rattle.stab.specs.Formula.{nothing, parameter, index, Formula, const, lit, join, iter, loose, fixed, on_index}
 use Rattle.stab.specs.Alike.{lower_base, lower, instance_lit, instance, alike}
 use Rattle.stab.specs.Keeps.{Alike, itself, sides, left, right, inside, next}

@@ -1,6 +1,5 @@
 -- What is remembered of comparisons, so that parts that rows share are gone down once: one number a row, 0 at first.
-use Rattle.std.specs.Prelude.{ℕ, ◌+◌, ◌-◌, ◌≡◌, true, List, eqb, ltb, get_or, set}
-use Rattle.stab.specs.Basic.{if◌then◌else◌}
+use Rattle.std.specs.Prelude.{ℕ, ◌+◌, ◌-◌, ◌≡◌, true, List, eqb, ltb, get_or, set, if◌then◌else◌}
 use Rattle.stab.specs.Formula.{Row, tree}
 use Rattle.classes.specs.Class.{akin}
 

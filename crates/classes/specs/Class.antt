@@ -1,9 +1,9 @@
 -- What is worked out once for each formula row, so that two rows are compared by going down one path (02, No. 4): a class of
 -- formulas that are alike up to one shift of all n + c and limits, and the shift itself.
-use Rattle.std.specs.Prelude.{ℕ, zero, suc, ◌+◌, ◌*◌, ◌-◌, ◌<◌, ◌≤◌, ◌≡◌, Bool, List, eqb, leb, ℤ, pos, neg_ℤ, ◌+ℤ◌, get_or}
+use Rattle.std.specs.Prelude.{ℕ, zero, suc, ◌+◌, ◌*◌, ◌-◌, ◌<◌, ◌≤◌, ◌≡◌, Bool, List, eqb, leb, ℤ, pos, neg_ℤ, ◌+ℤ◌, get_or, if◌then◌else◌}
 use Rattle.std.proofs.Math.Option.{Option, none, some}
 use Rattle.std.specs.Int.Signed.{le_z}
-use Rattle.stab.specs.Basic.{if◌then◌else◌, nat}
+use Rattle.stab.specs.Basic.{nat}
 use Rattle.stab.specs.Formula.{Row, Kind, constant, literal, junction, iteration, unknown, kind_of, Base, nothing, parameter, index, Formula, const, lit, join, iter, tree}
 use Rattle.formula.specs.Facts.{AllFormed}
 use Rattle.stab.specs.Alike.{lower, instance, alike}

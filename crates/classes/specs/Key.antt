@@ -1,8 +1,8 @@
 -- The key of a row: its kind and two numbers that decide its class, made of what is known of smaller rows. Two well-formed rows
 -- have the same key exactly if they are akin.
-use Rattle.std.specs.Prelude.{ℕ, zero, suc, ◌+◌, ◌*◌, ◌/◌, ◌<◌, ◌≡◌, Bool, true, List, eqb, leb, ℤ, neg_ℤ, get_or, set}
+use Rattle.std.specs.Prelude.{ℕ, zero, suc, ◌+◌, ◌*◌, ◌/◌, ◌<◌, ◌≡◌, Bool, true, List, eqb, leb, ℤ, neg_ℤ, get_or, set, if◌then◌else◌}
 use Rattle.std.proofs.Math.Option.{some}
-use Rattle.stab.specs.Basic.{if◌then◌else◌, nat}
+use Rattle.stab.specs.Basic.{nat}
 use Rattle.stab.specs.Formula.{Row, Kind, constant, literal, junction, iteration, unknown, kind_of, Base, nothing, parameter, index, base_of, well_formed}
 use Rattle.formula.specs.Spread.{spread_of}
 use Rattle.classes.specs.Class.{shift_code, above, class_of, shift_of, left_code, right_code, lead_of, AllWorked}

@@ -1,6 +1,6 @@
 // When two formulas are alike, one of them lowered or an instance, found by going down the two side by side.
-ghost use Rattle.std.specs.Prelude.{◌≡◌, false, ℕ, ◌<◌, ◌≤◌, ◌^◌, eqb, pos, ◌-ℤ◌, length};
-ghost use Rattle.stab.specs.Basic.{if◌then◌else◌, nat};
+ghost use Rattle.std.specs.Prelude.{◌≡◌, false, ℕ, ◌<◌, ◌≤◌, ◌^◌, eqb, pos, ◌-ℤ◌, length, if◌then◌else◌};
+ghost use Rattle.stab.specs.Basic.{nat};
 ghost use Rattle.stab.specs.Formula.{formula_rows, tree, loose};
 ghost use Rattle.stab.specs.Alike.{lower, instance, alike};
 ghost use Rattle.formula.specs.Facts.{AllKnown};

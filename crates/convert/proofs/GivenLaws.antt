@@ -1,4 +1,5 @@
 -- What a wide row gives, by the number of its kind.
+use Rattle.std.specs.Prelude.{if◌then◌else◌}
 use Prim.Native.Nat.{ℕ, zero, suc, ◌+◌, ◌<◌, ◌≤◌}
 use native.Mathlib.Omega.{arith}
 use mathlib.Core.Path.{◌≡◌, refl, sym, ◌∙◌, ap, ap₂, subst}
@@ -8,7 +9,7 @@ use mathlib.Core.List.{List, [], ◌∷◌}
 use lib.Dec.{eqb}
 use lib.IntN.{ℤ, pos}
 use borrow.Author.Tests.{eqb-true, eqb-false}
-use Rattle.stab.specs.Basic.{if◌then◌else◌, ◌and◌, eq_z, nat, below}
+use Rattle.stab.specs.Basic.{◌and◌, eq_z, nat, below}
 use Rattle.stab.specs.Formula.{Row, conj, disj, kind_of}
 use Rattle.stab.proofs.Bools.{decide, and_left, and_right}
 use Rattle.stab.proofs.Whole.{eq_z_true}
@@ -45,7 +46,7 @@ module _ (rows : ℕ → Row) (r : ℕ) where
 
     -- kinds 0 to 3
     pub leaf_given : (k : ℕ) → k < 4 → (rows r).kind ≡ pos k → row k (rows r).a (rows r).b (rows r).c ∷ row (paired k) (rows r).a (rows r).b (rows r).c ∷ [] ≡ given rows r
-    unfolding wide_kind_of kind_of eq_z if◌then◌else◌ wide_formed_as given_as constant_row literal_row row paired
+    unfolding wide_kind_of kind_of eq_z wide_formed_as given_as constant_row literal_row row paired
     leaf_given zero l e =
         let z = three_zeros (formed_number 0 e) in
         (λ i. row 0 (z.0 i) (z.1 i) (z.2 i) ∷ row 1 (z.0 i) (z.1 i) (z.2 i) ∷ []) ∙ given_number 0 e
@@ -64,11 +65,11 @@ module _ (rows : ℕ → Row) (r : ℕ) where
         (and_left _ _ h, and_left _ _ (and_right (below r (rows r).a) _ h))
 
     pub body_below : (k : ℕ) → 6 ≤ k → k < 8 → (rows r).kind ≡ pos k → below r (rows r).a ≡ true
-    unfolding wide_kind_of kind_of eq_z if◌then◌else◌ wide_formed_as
+    unfolding wide_kind_of kind_of eq_z wide_formed_as
     body_below k l h = each_of (λ (n : ℕ). (rows r).kind ≡ pos n → below r (rows r).a ≡ true) 6 k l h (λ e. and_left _ _ (formed_number 6 e)) (λ e. and_left _ _ (formed_number 7 e))
 
     pub negation_below : (rows r).kind ≡ pos 8 → below r (rows r).a ≡ true
-    unfolding wide_kind_of eq_z if◌then◌else◌ wide_formed_as
+    unfolding wide_kind_of eq_z wide_formed_as
     negation_below e = and_left _ _ (formed_number 8 e)
 
 -- ---- the images of the parts
@@ -110,7 +111,7 @@ module _ (rows : ℕ → Row) (r : ℕ) (formed : wide_formed rows r ≡ true) (
 
   -- kinds 4 and 5
   pub junction_given : (k : ℕ) → 4 ≤ k → k < 6 → (rows r).kind ≡ pos k → both_rows k (paired k) left right ≡ given rows r
-  unfolding wide_kind_of kind_of eq_z if◌then◌else◌ given_as join_row other row both_rows parts_row paired stands_of
+  unfolding wide_kind_of kind_of eq_z given_as join_row other row both_rows parts_row paired stands_of
   junction_given k l h =
       each_of (λ (n : ℕ). (rows r).kind ≡ pos n → both_rows n (paired n) left right ≡ given rows r) 4 k l h
       (λ e. both_given (joining conj) (ap wide_kind_of e) (both_rows 4 5) (given_number rows r 4 e))
@@ -118,24 +119,24 @@ module _ (rows : ℕ → Row) (r : ℕ) (formed : wide_formed rows r ≡ true) (
 
   -- kind 9
   pub implication_given : (rows r).kind ≡ pos 9 → both_rows 5 4 (swapped left) right ≡ given rows r
-  unfolding wide_kind_of eq_z if◌then◌else◌ given_as join_row row both_rows parts_row stands_of swapped
+  unfolding wide_kind_of eq_z given_as join_row row both_rows parts_row stands_of swapped
   implication_given e = both_given implying (ap wide_kind_of e) (λ m n. both_rows 5 4 (swapped m) n) (given_number rows r 9 e)
 
   -- kinds 10 and 11
   pub equivalent_given : (rows r).kind ≡ pos 10 → six_rows (start_of rows r) left right ≡ given rows r
-  unfolding wide_kind_of eq_z if◌then◌else◌ given_as three_rows join_row row six_rows both_rows parts_row stands_of swapped
+  unfolding wide_kind_of eq_z given_as three_rows join_row row six_rows both_rows parts_row stands_of swapped
   equivalent_given e =
       both_given (comparing true) (ap wide_kind_of e) (six_rows (start_of rows r)) (given_number rows r 10 e)
 
   pub exclusive_given : (rows r).kind ≡ pos 11 → six_rows (start_of rows r) left (swapped right) ≡ given rows r
-  unfolding wide_kind_of eq_z if◌then◌else◌ given_as three_rows join_row row six_rows both_rows parts_row stands_of swapped
+  unfolding wide_kind_of eq_z given_as three_rows join_row row six_rows both_rows parts_row stands_of swapped
   exclusive_given e =
       both_given (comparing false) (ap wide_kind_of e) (λ m n. six_rows (start_of rows r) m (swapped n)) (given_number rows r 11 e)
 
   -- kinds 6 and 7
   pub iteration_given : (k : ℕ) → 6 ≤ k → k < 8 → (rows r).kind ≡ pos k
       → row k (pos left.own) (rows r).b (rows r).c ∷ row (paired k) (pos left.negated) (rows r).b (rows r).c ∷ [] ≡ given rows r
-  unfolding wide_kind_of kind_of eq_z if◌then◌else◌ given_as iter_row other row paired stands_of
+  unfolding wide_kind_of kind_of eq_z given_as iter_row other row paired stands_of
   iteration_given k l h =
       each_of (λ (n : ℕ). (rows r).kind ≡ pos n → row n (pos left.own) (rows r).b (rows r).c ∷ row (paired n) (pos left.negated) (rows r).b (rows r).c ∷ [] ≡ given rows r) 6 k l h
       (λ e. ap (λ (m : Stands). row 6 (pos m.own) (rows r).b (rows r).c ∷ row 7 (pos m.negated) (rows r).b (rows r).c ∷ []) (image_known imaged _ (body_below rows r formed 6 (omega arith) (omega arith) e)) ∙ given_number rows r 6 e)
@@ -144,7 +145,7 @@ module _ (rows : ℕ → Row) (r : ℕ) (formed : wide_formed rows r ≡ true) (
 -- ---- how many rows a kind gives
 
 pub two_given : (k : ℕ) → (k ≡ 8 → ⊥) → (k ≡ 10 → ⊥) → (k ≡ 11 → ⊥) → rows_given (wide_kind_of (pos k)) ≡ 2
-unfolding rows_given wide_kind_of eq_z if◌then◌else◌
+unfolding rows_given wide_kind_of eq_z
 two_given k a b c =
     ⊎_elim
     (λ e. ap (λ (n : ℕ). rows_given (wide_kind_of (pos n))) (eqb-true k 9 e))
@@ -152,11 +153,11 @@ two_given k a b c =
     (decide (eqb k 9))
 
 pub six_given : (k : ℕ) → 10 ≤ k → k < 12 → rows_given (wide_kind_of (pos k)) ≡ 6
-unfolding rows_given wide_kind_of eq_z if◌then◌else◌
+unfolding rows_given wide_kind_of eq_z
 six_given k l h = each_of (λ (n : ℕ). rows_given (wide_kind_of (pos n)) ≡ 6) 10 k l h refl refl
 
 -- ---- kinds with two parts
 
 pub join_kind : (k : ℕ) → 4 ≤ k → k < 6 → TwoKind (wide_kind_of (pos k))
-unfolding wide_kind_of kind_of eq_z if◌then◌else◌
+unfolding wide_kind_of kind_of eq_z
 join_kind k l h = each_of (λ (n : ℕ). TwoKind (wide_kind_of (pos n))) 4 k l h (joining conj) (joining disj)

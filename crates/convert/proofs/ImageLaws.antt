@@ -1,4 +1,5 @@
 -- What is kept of each wide row, one row after the other.
+use Rattle.std.specs.Prelude.{if◌then◌else◌}
 use Prim.Native.Nat.{ℕ, suc, ◌+◌, ◌*◌, ◌<◌, ◌≤◌}
 use native.Mathlib.Omega.{arith}
 use mathlib.Core.Path.{◌≡◌, refl, sym, ◌∙◌, ap, subst}
@@ -10,7 +11,7 @@ use lib.IntN.{ℤ, pos, negsuc}
 use lib.ListN.{length, get_or, set, length-set}
 use lib.Seq.{get_or-set_same, get_or-set_other}
 use borrow.Author.Tests.{eqb-true, eqb-false, ltb-true, ltb-false}
-use Rattle.stab.specs.Basic.{if◌then◌else◌, eq_z, nat}
+use Rattle.stab.specs.Basic.{eq_z, nat}
 use Rattle.stab.specs.Formula.{Row, kind_of}
 use Rattle.stab.proofs.Bools.{decide}
 use Rattle.wide.specs.WideFormula.{WideKind, plain, negation, implication, equivalence, wide_kind_of, wide_formed, wide_formed_as}
@@ -27,7 +28,7 @@ use Rattle.convert.proofs.GivenLaws.{each_of, given_number, Plains}
 
 module _ (rows : ℕ → Row) (r : ℕ) (formed : wide_formed rows r ≡ true) where
   pub kind_number : (rows r).kind ≡ pos (nat (rows r).kind)
-  unfolding wide_kind_of kind_of eq_z if◌then◌else◌ wide_formed_as nat
+  unfolding wide_kind_of kind_of eq_z wide_formed_as nat
   kind_number = go (rows r).kind refl
     where
       go : (z : ℤ) → (rows r).kind ≡ z → z ≡ pos (nat z)
@@ -56,7 +57,7 @@ module _ (rows : ℕ → Row) (r : ℕ) (formed : (a : ℕ) → a < suc r → wi
   image_as_lem k e = image_is rows (suc r) formed r (omega arith) k e
 
   pub image_two : (k : ℕ) → (rows r).kind ≡ pos k → (k ≡ 8 → ⊥) → (k ≡ 10 → ⊥) → (k ≡ 11 → ⊥) → stands_of (image rows r) ≡ record { own = start_of rows r; negated = start_of rows r + 1 }
-  unfolding stands_of image_as wide_kind_of eq_z if◌then◌else◌
+  unfolding stands_of image_as wide_kind_of eq_z
   image_two k e a b c =
       ⊎_elim
       (λ h. ap stands_of (image_as_lem implication (ap wide_kind_of (e ∙ ap pos (eqb-true k 9 h)))))
@@ -64,19 +65,19 @@ module _ (rows : ℕ → Row) (r : ℕ) (formed : (a : ℕ) → a < suc r → wi
       (decide (eqb k 9))
 
   pub image_six : (k : ℕ) → 10 ≤ k → k < 12 → (rows r).kind ≡ pos k → stands_of (image rows r) ≡ record { own = start_of rows r + 2; negated = start_of rows r + 5 }
-  unfolding stands_of image_as wide_kind_of eq_z if◌then◌else◌
+  unfolding stands_of image_as wide_kind_of eq_z
   image_six k l h =
       each_of (λ (n : ℕ). (rows r).kind ≡ pos n → stands_of (image rows r) ≡ record { own = start_of rows r + 2; negated = start_of rows r + 5 }) 10 k l h
       (λ e. ap stands_of (image_as_lem _ (ap wide_kind_of e)))
       (λ e. ap stands_of (image_as_lem _ (ap wide_kind_of e)))
 
   pub image_not : (rows r).kind ≡ pos 8 → stands_of (image rows r) ≡ swapped (stands_of (image rows (nat (rows r).a)))
-  unfolding stands_of swapped image_as wide_kind_of eq_z if◌then◌else◌
+  unfolding stands_of swapped image_as wide_kind_of eq_z
   image_not e = ap stands_of (image_as_lem negation (ap wide_kind_of e))
 
   -- a not gives no row
   pub not_given : (rows r).kind ≡ pos 8 → [] ≡ given rows r
-  unfolding given_as wide_kind_of eq_z if◌then◌else◌
+  unfolding given_as wide_kind_of eq_z
   not_given e = given_number rows r 8 e
 
 -- ---- one row more

@@ -1,7 +1,7 @@
 -- The plain rows as they are written, one wide row after the other, and what is kept of each wide row.
-use Rattle.std.specs.Prelude.{ℕ, ◌+◌, ◌-◌, ◌*◌, ◌%◌, ◌<◌, ◌≤◌, ◌≡◌, true, List, [], ◌∷◌, ◌++◌, eqb, leb, ℤ, pos, length, get_or, set}
+use Rattle.std.specs.Prelude.{ℕ, ◌+◌, ◌-◌, ◌*◌, ◌%◌, ◌<◌, ◌≤◌, ◌≡◌, true, List, [], ◌∷◌, ◌++◌, eqb, leb, ℤ, pos, length, get_or, set, if◌then◌else◌}
 use Rattle.std.proofs.lemmas.List.Edits.{sets}
-use Rattle.stab.specs.Basic.{if◌then◌else◌, ◌otherwise◌}
+use Rattle.stab.specs.Basic.{◌otherwise◌}
 use Rattle.stab.specs.Formula.{Row, row_at}
 use Rattle.stab.specs.Check.{at_unless, whole_unless, holds}
 use Rattle.stab.specs.declared.Refusal.TheVariants.{TableTooShort, TooMany}

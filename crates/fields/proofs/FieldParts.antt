@@ -1,10 +1,11 @@
 -- What it says of a node that its fields fit.
+use Rattle.std.specs.Prelude.{if◌then◌else◌}
 use Prim.Native.Nat.{ℕ}
 use mathlib.Core.Path.{◌≡◌, refl, sym, ◌∙◌, ap, subst}
 use mathlib.Core.Bool.{Bool, true, false}
 use mathlib.Core.List.{List, []}
 use lib.IntN.{ℤ, pos}
-use Rattle.stab.specs.Basic.{if◌then◌else◌, ◌and◌, ◌or◌, ◌implies◌, eq_z, nat, below, has}
+use Rattle.stab.specs.Basic.{◌and◌, ◌or◌, ◌implies◌, eq_z, nat, below, has}
 use Rattle.stab.specs.Node.{Tableau, node, set, rows, row_count, row, is_row}
 use Rattle.stab.specs.Rule as R
 use Rattle.stab.specs.Rule.{unused, entry, rule_table, rule_of, rule, of_rule, kind_fits, on_stands, symbol_fits, fields_fit}
@@ -70,7 +71,7 @@ module _ (T : Tableau) (j : ℕ) where
 
   -- a kind that is needed is the kind of the row named
   pub named : (need z : ℤ) (k : ℕ) → need ≡ pos k → kind_fits T need z ≡ true → (below (row_count T) z ≡ true) × ((row T z).kind ≡ pos k)
-  unfolding kind_fits is_row if◌then◌else◌ eq_z unused
+  unfolding kind_fits is_row eq_z unused
   named need z k e h =
       let both : (below (row_count T) z and eq_z (row T z).kind (pos k)) ≡ true = subst (λ (n : ℤ). kind_fits T n z ≡ true) e h in
       (and_left _ _ both, eq_z_true (row T z).kind (pos k) (and_right (below (row_count T) z) _ both))

@@ -1,4 +1,5 @@
 -- The pairs of an assignment, put in a table one by one.
+use Rattle.std.specs.Prelude.{if◌then◌else◌}
 use Prim.Native.Nat.{ℕ, zero, suc, ◌+◌, ◌*◌, ◌/◌, ◌%◌, ◌<◌, ◌≤◌}
 use native.Mathlib.Omega.{arith}
 use native.Mathlib.Numerals.{add-one}
@@ -10,7 +11,7 @@ use mathlib.Core.List.{List, [], ◌∷◌, ◌++◌, append-nil, append_assoc}
 use lib.IntN.{ℤ, pos, ◌+ℤ◌}
 use lib.ListN.{length, get_or, take, drop, set, length-set, drop_of_length-le}
 use lib.Seq.{take-suc-set, length-take-le, get_or-take}
-use Rattle.stab.specs.Basic.{if◌then◌else◌, nat}
+use Rattle.stab.specs.Basic.{nat}
 use Rattle.stab.specs.Occurs.{Wire, table}
 use Rattle.stab.proofs.Bools.{if_true, if_false, decide}
 use Rattle.stab.proofs.Wires.Lists.{same_wire}

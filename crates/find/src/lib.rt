@@ -1,8 +1,7 @@
 // A failing width, shown: the first assignment that makes a schema true at n.
 #![tactic(auto)]
 
-ghost use Rattle.std.specs.Prelude.{◌≡◌, ◌+◌, ◌*◌, ◌<◌, ◌≤◌, pos, length, take, get_or};
-ghost use Rattle.stab.specs.Basic.{if◌then◌else◌};
+ghost use Rattle.std.specs.Prelude.{◌≡◌, ◌+◌, ◌*◌, ◌<◌, ◌≤◌, pos, length, take, get_or, if◌then◌else◌};
 ghost use Rattle.stab.specs.Lent.{lent_schema};
 ghost use Rattle.stab.specs.Occurs.{table as wireTable};
 ghost use Rattle.stab.specs.Text.{padded};

@@ -1,4 +1,5 @@
 -- The earliest row with the columns of another, by links; and rows that agree below a number.
+use Rattle.std.specs.Prelude.{if◌then◌else◌}
 use Prim.Native.Nat.{ℕ, zero, suc, ◌-◌, ◌<◌, ◌≤◌}
 use native.Mathlib.Omega.{arith}
 use mathlib.Core.Path.{◌≡◌, refl, sym, ◌∙◌, ap, ap₂, subst}
@@ -7,7 +8,7 @@ use mathlib.Core.Bool.{true, false, false≢true}
 use mathlib.Core.List.{List}
 use mathlib.Core.Option.{Option, none, some, or_else}
 use lib.ListN.{get_or}
-use Rattle.stab.specs.Basic.{if◌then◌else◌, ◌or◌, first}
+use Rattle.stab.specs.Basic.{◌or◌, first}
 use Rattle.stab.specs.Formula.{Row}
 use Rattle.stab.specs.Check.{same_row, stands_before}
 use Rattle.stab.proofs.Bools.{decide, or_first_false, or_false_left, or_false_right, if_true, if_false}

@@ -1,4 +1,5 @@
 -- New numbers kept in a table that is 0 past them.
+use Rattle.std.specs.Prelude.{if◌then◌else◌}
 use Prim.Native.Nat.{ℕ, zero, suc, ◌-◌, ◌<◌, ◌≤◌}
 use native.Mathlib.Omega.{arith}
 use mathlib.Core.Path.{◌≡◌, refl, sym, ◌∙◌, ap}
@@ -10,7 +11,7 @@ use lib.Signed.{le_z, lt_z}
 use lib.ListN.{length, get_or, set, replicate, length-append}
 use lib.Seq.{set_at}
 use borrow.Author.Tests.{le-ltb}
-use Rattle.stab.specs.Basic.{if◌then◌else◌, nat}
+use Rattle.stab.specs.Basic.{nat}
 use Rattle.stab.specs.Text.{padded}
 use Rattle.stab.proofs.Bools.{if_true, if_false}
 use Rattle.stab.proofs.Whole.{atom, num, of_lt, of_not_lt, le_of, not_le_of, nat_pos}

@@ -1,4 +1,5 @@
 -- The columns of a row whose parts are put through, by its kind.
+use Rattle.std.specs.Prelude.{if◌then◌else◌}
 use Prim.Native.Nat.{ℕ, ◌<◌, ◌≤◌}
 use native.Mathlib.Omega.{arith}
 use mathlib.Core.Path.{◌≡◌, refl, ap}
@@ -6,7 +7,7 @@ use mathlib.Core.Logic.{⊎_elim}
 use lib.Dec.{ltb}
 use lib.IntN.{ℤ, pos, negsuc}
 use borrow.Author.Tests.{ltb-true, ltb-false}
-use Rattle.stab.specs.Basic.{if◌then◌else◌, eq_z, nat}
+use Rattle.stab.specs.Basic.{eq_z, nat}
 use Rattle.stab.specs.Formula.{Row, Kind, constant, literal, junction, iteration, unknown, kind_of}
 use Rattle.stab.proofs.Bools.{decide}
 use Rattle.formula.proofs.RowLaws.{constant_kind, literal_kind, junction_kind, iteration_kind, unknown_kind}
@@ -27,7 +28,7 @@ module _ (new : ℕ → ℕ) (w : Row) where
       (λ t. ap (renumbered_as new w) (constant_kind n (ltb-true n 2 t)).1)
       (λ t. ap (renumbered_as new w) (literal_kind n (ltb-false n 2 t) h).1)
       (decide (ltb n 2))
-  low (negsuc n) h = unfold kind_of eq_z if◌then◌else◌ in refl
+  low (negsuc n) h = unfold kind_of eq_z in refl
 
   high : (z : ℤ) → 8 ≤ nat z → renumbered_as new w (kind_of z) ≡ w
   unfolding renumbered_as nat

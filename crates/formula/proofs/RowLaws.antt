@@ -1,4 +1,5 @@
 -- Laws of formula rows: their columns as tests on naturals, their formulas by kind, and what is kept of them.
+use Rattle.std.specs.Prelude.{if◌then◌else◌}
 use Prim.Native.Nat.{ℕ, zero, suc, ◌+◌, ◌-◌, ◌*◌, ◌<◌, ◌≤◌, max}
 use native.Mathlib.Omega.{arith}
 use native.Mathlib.Numerals.{add-one}
@@ -10,7 +11,7 @@ use lib.Dec.{eqb, leb, ltb, leb-zero, leb-suc-suc}
 use lib.ListN.{length}
 use lib.IntN.{ℤ, pos, negsuc, neg_ℤ}
 use borrow.Author.Tests.{eqb-true, eqb-false, le-leb, lt-leb, leb-true}
-use Rattle.stab.specs.Basic.{if◌then◌else◌, ◌and◌, ◌or◌, eq_z, within, nat, below, ◌otherwise◌, scan, unless}
+use Rattle.stab.specs.Basic.{◌and◌, ◌or◌, eq_z, within, nat, below, ◌otherwise◌, scan, unless}
 use Rattle.stab.specs.Formula as F
 use Rattle.stab.specs.Formula.{Row, Op, conj, disj, Kind, constant, literal, junction, iteration, unknown, kind_of, Base, nothing, parameter, index, base_of, Formula, lit, join, iter, decode, tree, on_index, is_body, mixes, offset, well_formed_as, well_formed, small_enough}
 use Rattle.stab.specs.Check.{at_unless, whole_unless, row_refusal, root_fits}
@@ -90,7 +91,7 @@ test_same m n a b there back =
 -- ---- kinds
 
 pub kind_negative : (z : ℤ) → 0 < nat (neg_ℤ z) → kind_of (pos 8) ≡ kind_of z
-unfolding kind_of eq_z if◌then◌else◌ nat
+unfolding kind_of eq_z nat
 kind_negative (pos zero) h = absurd (omega arith)
 kind_negative (pos (suc n)) h = absurd (omega arith)
 kind_negative (negsuc n) h = refl
@@ -111,19 +112,19 @@ by_two k n f x y p q l h =
     (two k n l h)
 
 pub constant_kind : (k : ℕ) → k < 2 → (v : Bool) × (kind_of (pos k) ≡ constant v)
-unfolding kind_of eq_z if◌then◌else◌
+unfolding kind_of eq_z
 constant_kind k h = by_two k 0 constant true false refl refl (omega arith) (omega arith)
 
 pub literal_kind : (k : ℕ) → 2 ≤ k → k < 4 → (v : Bool) × (kind_of (pos k) ≡ literal v)
-unfolding kind_of eq_z if◌then◌else◌
+unfolding kind_of eq_z
 literal_kind k l h = by_two k 2 literal true false refl refl l h
 
 pub junction_kind : (k : ℕ) → 4 ≤ k → k < 6 → (o : Op) × (kind_of (pos k) ≡ junction o)
-unfolding kind_of eq_z if◌then◌else◌
+unfolding kind_of eq_z
 junction_kind k l h = by_two k 4 junction conj disj refl refl l h
 
 pub iteration_kind : (k : ℕ) → 6 ≤ k → k < 8 → (o : Op) × (kind_of (pos k) ≡ iteration o)
-unfolding kind_of eq_z if◌then◌else◌
+unfolding kind_of eq_z
 iteration_kind k l h = by_two k 6 iteration conj disj refl refl l h
 
 apart : (k n : ℕ) → n < k → eq_z (pos k) (pos n) ≡ false
@@ -252,7 +253,7 @@ unmixed_is l d f p q = ap₂ (λ (m n : ℕ). if eqb m 0 or eqb n 0 then Formed 
 -- a row with two parts that passes three tests, and mixes only where l and d
 pub pair_same : (x y z l d : Bool) (f : Facts) {g : Facts} → f.loose ≡ bit l → f.fixed ≡ bit d → ((x and y and z) ≡ true → g ≡ f)
     → (if x and y and z then unmixed g else Ill) ≡ (if x and y and z and not (l and d) then Formed f else Ill)
-unfolding if◌then◌else◌ ◌and◌
+unfolding ◌and◌
 pair_same true true true l d f p q h = ap unmixed (h refl) ∙ unmixed_is l d f p q
 pair_same true true false l d f p q h = refl
 pair_same true false z l d f p q h = refl
@@ -261,7 +262,7 @@ pair_same false y z l d f p q h = refl
 -- an iteration that passes three tests, and whose body is fixed only where d
 pub body_same : (x y z d : Bool) (f g : Facts) → (x ≡ true → g.fixed ≡ bit d) → (x ≡ true → over_facts g ≡ f)
     → (if x and y and z and eqb g.fixed 0 then Formed (over_facts g) else Ill) ≡ (if x and y and z and not d then Formed f else Ill)
-unfolding if◌then◌else◌ ◌and◌
+unfolding ◌and◌
 body_same true true true d f g p q = ap₂ (λ (t : Bool) (h : Facts). if t then Formed h else Ill) (ap (λ (n : ℕ). eqb n 0) (p refl) ∙ bit_none d) (q refl)
 body_same true true false d f g p q = refl
 body_same true false z d f g p q = refl
@@ -350,7 +351,7 @@ module _ (facts : List ℕ) (r : ℕ) {j : Judged} where
 
 module _ (ok : Bool) (f : Facts) (r : ℕ) where
   pub judged_refusal_lem : judged_refusal (if ok then Formed f else Ill) r ≡ (at_unless ok IllFormed r otherwise at_unless (leb f.size 4096 and leb f.depth 64) TooLarge r)
-  unfolding judged_refusal if◌then◌else◌ at_unless unless ◌otherwise◌
+  unfolding judged_refusal at_unless unless ◌otherwise◌
   judged_refusal_lem = go ok
     where
       go : (t : Bool) → judged_refusal (if t then Formed f else Ill) r ≡ (at_unless t IllFormed r otherwise at_unless (leb f.size 4096 and leb f.depth 64) TooLarge r)
@@ -358,7 +359,7 @@ module _ (ok : Bool) (f : Facts) (r : ℕ) where
       go false = refl
 
   pub judged_kept : (facts : List ℕ) → kept_judged (if ok then Formed f else Ill) facts r ≡ kept_if (judged_refusal (if ok then Formed f else Ill) r) facts r f
-  unfolding kept_judged judged_refusal kept_if if◌then◌else◌
+  unfolding kept_judged judged_refusal kept_if
   judged_kept facts = go ok
     where
       go : (t : Bool) → kept_judged (if t then Formed f else Ill) facts r ≡ kept_if (judged_refusal (if t then Formed f else Ill) r) facts r f

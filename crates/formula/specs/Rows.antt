@@ -1,6 +1,6 @@
 -- What the pass over formula rows works out for a row, and what holds of rows that passed.
-use Rattle.std.specs.Prelude.{ℕ, zero, suc, ◌+◌, ◌-◌, ◌*◌, ◌<◌, ◌≤◌, max, ◌≡◌, Bool, true, List, eqb, leb, ℤ, pos, length, get_or}
-use Rattle.stab.specs.Basic.{if◌then◌else◌, ◌and◌, ◌or◌, eq_z, nat, below, ◌otherwise◌, scan}
+use Rattle.std.specs.Prelude.{ℕ, zero, suc, ◌+◌, ◌-◌, ◌*◌, ◌<◌, ◌≤◌, max, ◌≡◌, Bool, true, List, eqb, leb, ℤ, pos, length, get_or, if◌then◌else◌}
+use Rattle.stab.specs.Basic.{◌and◌, ◌or◌, eq_z, nat, below, ◌otherwise◌, scan}
 use Rattle.stab.specs.Check.{at_unless, row_refusal, formula_refusal, root_fits}
 use Rattle.stab.specs.declared.Place.TheVariants.{At}
 use Rattle.stab.specs.declared.Refusal.TheVariants.{IllFormed, TooLarge}

@@ -1,4 +1,5 @@
 -- The number of any assignment, by its values at some pairs: an earlier assignment has a smaller number.
+use Rattle.std.specs.Prelude.{if◌then◌else◌}
 use Prim.Native.Nat.{ℕ, suc, ◌+◌, ◌-◌, ◌^◌, ◌<◌}
 use native.Mathlib.Omega.{arith}
 use native.Mathlib.Nat.{two-pow-succ}
@@ -9,7 +10,6 @@ use mathlib.Core.Bool.{Bool, true, false}
 use mathlib.Core.List.Memᴰ
 use mathlib.Core.List.{List, [], ◌∷◌, Memᴰ}
 use lib.ListN.{length}
-use Rattle.stab.specs.Basic.{if◌then◌else◌}
 use Rattle.stab.specs.Meaning.{Assignment}
 use Rattle.stab.specs.Occurs.{Wire, Ascends}
 use Rattle.stab.proofs.Bools.{if_true, if_false}
@@ -26,7 +26,7 @@ number_of [] σ = 0
 number_of (w ∷ ws) σ = (if value_at σ w then 2 ^ length ws else 0) + number_of ws σ
 
 pub number_below : (ws : List Wire) (σ : Assignment) → number_of ws σ < 2 ^ length ws
-unfolding number_of if◌then◌else◌
+unfolding number_of
 number_below [] σ = omega arith
 number_below (w ∷ ws) σ = go (value_at σ w) (number_below ws σ)
   where
@@ -44,7 +44,7 @@ number_false w ws σ h = let e : 0 + number_of ws σ ≡ number_of ws σ = omega
 
 -- the first pair by its value, and the others
 number_first : (w : Wire) (ws : List Wire) (σ : Assignment) → numbered (w ∷ ws) (number_of (w ∷ ws) σ) ≡ (if value_at σ w then w ∷ numbered ws (number_of ws σ) else numbered ws (number_of ws σ))
-unfolding number_of if◌then◌else◌
+unfolding number_of
 number_first w ws σ = go (value_at σ w) (number_below ws σ)
   where
     go : (b : Bool) → number_of ws σ < 2 ^ length ws → numbered (w ∷ ws) ((if b then 2 ^ length ws else 0) + number_of ws σ) ≡ (if b then w ∷ numbered ws (number_of ws σ) else numbered ws (number_of ws σ))
@@ -71,7 +71,7 @@ number_same (w ∷ ws) σ τ h =
 
 -- the number of a number's assignment is that number
 pub number_back : (ws : List Wire) → Ascends ws → (m : ℕ) → m < 2 ^ length ws → number_of ws (among (numbered ws m)) ≡ m
-unfolding number_of if◌then◌else◌
+unfolding number_of
 number_back [] a m l = omega arith
 number_back (w ∷ ws) a m l = go (number_back ws a.1) (dec_lt m (2 ^ length ws))
   where

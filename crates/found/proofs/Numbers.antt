@@ -1,4 +1,5 @@
 -- Assignments by number: the first one that passes is that of the least number that does, and its digits are the pairs' values.
+use Rattle.std.specs.Prelude.{if◌then◌else◌}
 use Prim.Native.Nat.{ℕ, zero, suc, ◌+◌, ◌-◌, ◌*◌, ◌/◌, ◌%◌, ◌^◌, ◌<◌, ◌≤◌}
 use native.Mathlib.Omega.{arith}
 use native.Mathlib.Nat.{add-zero, add-suc, pow-suc, two-pow-succ, add-mul-div_left, add-div_left, div-eq_of_lt, mul_assoc}
@@ -14,7 +15,7 @@ use lib.Signed.{<ℤ_irrefl}
 use lib.ListN.{length, length-drop, get_or, drop}
 use lib.Seq.{drop-cons}
 use lib.Pow.{pow_pos}
-use Rattle.stab.specs.Basic.{if◌then◌else◌, first}
+use Rattle.stab.specs.Basic.{first}
 use Rattle.stab.specs.Occurs.{Wire, Before, Ascends}
 use Rattle.stab.proofs.Bools.{if_true, if_false, decide, same_test}
 use Rattle.stab.proofs.Firsts.{else_assoc, search_none, none_search, search_found, search_at, search_same}
@@ -42,11 +43,9 @@ numbered_low (w ∷ ws) m c =
 
 -- the lower half of the numbers has the first pair false, the upper half true
 pub lower_half : (w : Wire) (ws : List Wire) (m : ℕ) → m < 2 ^ length ws → numbered (w ∷ ws) m ≡ numbered ws m
-unfolding if◌then◌else◌
 lower_half w ws m h = first_digit_lem w ws m 0 (omega (arith, div-eq_of_lt h))
 
 pub upper_half : (w : Wire) (ws : List Wire) (m : ℕ) → m < 2 ^ length ws → numbered (w ∷ ws) (2 ^ length ws + m) ≡ w ∷ numbered ws m
-unfolding if◌then◌else◌
 upper_half w ws m h =
     let e : 2 ^ length ws + m ≡ m + 2 ^ length ws * 1 = omega arith in
     first_digit_lem w ws (2 ^ length ws + m) 1 (omega (arith, div-eq_of_lt h, add-div_left m (pow_pos (length ws))))
@@ -67,12 +66,10 @@ least_is p k m l t h = search_found _ k m m l (search_none _ m (λ j i. if_false
 
 -- and the other way
 unpassed : (b : Bool) (m : ℕ) → ◌≡◌ {A = Option ℕ} (if b then some m else none) none → b ≡ false
-unfolding if◌then◌else◌
 unpassed true m e = absurd (some-ne-none m e)
 unpassed false m e = refl
 
 passed : (b : Bool) (i m : ℕ) → ◌≡◌ {A = Option ℕ} (if b then some i else none) (some m) → (b ≡ true) × (i ≡ m)
-unfolding if◌then◌else◌
 passed true i m e = (refl, some-injective i m e)
 passed false i m e = absurd (none-ne-some m e)
 
@@ -92,7 +89,7 @@ is_least p k m h =
 
 -- what the least number gives
 least_gives : {A : Type 0} (p : ℕ → Bool) (g : ℕ → A) (k : ℕ) → first (λ m. if p m then some (g m) else none) k ≡ map g (least_below p k)
-unfolding least_below first if◌then◌else◌ or_else
+unfolding least_below first or_else
 least_gives p g zero = refl
 least_gives {A} p g (suc k) =
     ap₂ or_else (least_gives p g k) (gives_if (p k))
@@ -171,7 +168,7 @@ numbered_step ws m k d l =
     ∙ ap (λ (x : ℕ). if eqb (m / 2 ^ x % 2) 1 then get_or ws k d ∷ numbered (drop (suc k) ws) m else numbered (drop (suc k) ws) m) e
 
 pub numbered_length : (ws : List Wire) (m : ℕ) → length (numbered ws m) ≤ length ws
-unfolding numbered if◌then◌else◌
+unfolding numbered
 numbered_length [] m = omega arith
 numbered_length (w ∷ ws) m = go (eqb (m / 2 ^ length ws % 2) 1) (numbered_length ws m)
   where
@@ -180,7 +177,7 @@ numbered_length (w ∷ ws) m = go (eqb (m / 2 ^ length ws % 2) 1) (numbered_leng
     go false h = omega arith
 
 pub numbered_mem : (ws : List Wire) (m : ℕ) (x : Wire) → Memᴰ x (numbered ws m) → Memᴰ x ws
-unfolding numbered if◌then◌else◌
+unfolding numbered
 numbered_mem [] m x h = h
 numbered_mem (w ∷ ws) m x h = go (eqb (m / 2 ^ length ws % 2) 1) (numbered_mem ws m x) h
   where
@@ -189,7 +186,7 @@ numbered_mem (w ∷ ws) m x h = go (eqb (m / 2 ^ length ws % 2) 1) (numbered_mem
     go false f t = Memᴰ.tail (f t)
 
 pub numbered_ascends : (ws : List Wire) (m : ℕ) → Ascends ws → Ascends (numbered ws m)
-unfolding numbered if◌then◌else◌
+unfolding numbered
 numbered_ascends [] m a = tt
 numbered_ascends (w ∷ ws) m a = go (eqb (m / 2 ^ length ws % 2) 1) (numbered_ascends ws m a.1)
   where
@@ -216,12 +213,10 @@ among_elsewhere ws w h = ⊎_elim (λ t. absurd (h ((among_tests ws w).0 t))) (�
 
 -- with one pair more, or not: its value is which, and no other's changes
 pub its_value : (w : Wire) (vs : List Wire) → (Memᴰ w vs → ⊥) → (b : Bool) → among (if b then w ∷ vs else vs) w.symbol w.index ≡ b
-unfolding if◌then◌else◌
 its_value w vs away true = (among_tests (w ∷ vs) w).1 (Memᴰ.head refl)
 its_value w vs away false = among_elsewhere vs w away
 
 pub others_value : (w : Wire) (vs : List Wire) (x : Wire) → (x ≡ w → ⊥) → (b : Bool) → among (if b then w ∷ vs else vs) x.symbol x.index ≡ among vs x.symbol x.index
-unfolding if◌then◌else◌
 others_value w vs x other true =
     same_test _ _
     (λ h. (among_tests vs x).1 (⊎_elim (λ e. absurd (other e)) (λ m. m) (Memᴰ.cases_cons ((among_tests (w ∷ vs) x).0 h))))

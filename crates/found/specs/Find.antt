@@ -1,8 +1,8 @@
 -- 02, No. 13: a failing width, shown.
-use Rattle.std.specs.Prelude.{ℕ, ◌≡◌, ◌⊎◌, Bool, true, false, List, [], ◌∷◌, ◌++◌, leb, ℤ, pos, length}
+use Rattle.std.specs.Prelude.{ℕ, ◌≡◌, ◌⊎◌, Bool, true, false, List, [], ◌∷◌, ◌++◌, leb, ℤ, pos, length, if◌then◌else◌}
 use Rattle.std.proofs.Math.Option.{Option, none, some, or_else}
 use Rattle.std.specs.Int.Signed.{le_z}
-use Rattle.stab.specs.Basic.{if◌then◌else◌, ◌and◌, ◌or◌, eq_z, nat, ◌otherwise◌}
+use Rattle.stab.specs.Basic.{◌and◌, ◌or◌, eq_z, nat, ◌otherwise◌}
 use Rattle.stab.specs.Formula.{Schema, Formula, schema_formula}
 use Rattle.stab.specs.Meaning.{Assignment, truth}
 use Rattle.stab.specs.Check.{whole_unless, at_unless, holds, schema_refusal}

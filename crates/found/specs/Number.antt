@@ -1,7 +1,7 @@
 -- Assignments to some pairs as numbers: the digits of a number, the first pair's the most significant. The search goes by these.
-use Rattle.std.specs.Prelude.{ℕ, ◌/◌, ◌%◌, ◌^◌, Bool, List, [], ◌∷◌, eqb, length}
+use Rattle.std.specs.Prelude.{ℕ, ◌/◌, ◌%◌, ◌^◌, Bool, List, [], ◌∷◌, eqb, length, if◌then◌else◌}
 use Rattle.std.proofs.Math.Option.{Option, none, some}
-use Rattle.stab.specs.Basic.{if◌then◌else◌, first}
+use Rattle.stab.specs.Basic.{first}
 use Rattle.stab.specs.Occurs.{Wire}
 
 -- the pairs that are true in assignment number m

@@ -1,4 +1,5 @@
 -- What a call answers and leaves, from what is found.
+use Rattle.std.specs.Prelude.{if◌then◌else◌}
 use Prim.Native.Nat.{ℕ, suc, ◌+◌, ◌*◌, ◌<◌}
 use native.Mathlib.Omega.{arith}
 use native.Mathlib.Numerals.{add-one}
@@ -10,7 +11,7 @@ use lib.IntN.{ℤ, pos}
 use lib.ListN.{length, take}
 use lib.Seq.{sets, length-sets}
 use borrow.Author.Tests.{le-ltb, lt-ltb}
-use Rattle.stab.specs.Basic.{if◌then◌else◌, count, ◌otherwise◌}
+use Rattle.stab.specs.Basic.{count, ◌otherwise◌}
 use Rattle.stab.specs.Node.{Tableau, node}
 use Rattle.stab.specs.Lent.{lent, header}
 use Rattle.stab.specs.Check.{whole_unless, parent_refusal, link_count, refusal, held_mode}
@@ -86,7 +87,7 @@ module _ (T : Tableau) (why : Refusal) (p : Place) where
 
 -- a row that is refused is not there, kept or not
 pub turned_tried : (keep : Bool) (T : Tableau) (w : NodeRow) → after T (add w) ≡ T → T ≡ tried keep T w
-unfolding tried if◌then◌else◌
+unfolding tried
 turned_tried true T w e = sym e
 turned_tried false T w e = refl
 

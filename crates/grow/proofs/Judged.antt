@@ -1,5 +1,6 @@
 -- The rows held with an accepted or refused row more: what the check of the rows held finds is what is found of the added row, but for the
 -- place of a child beyond.
+use Rattle.std.specs.Prelude.{if◌then◌else◌}
 use Prim.Native.Nat.{ℕ, zero, suc, ◌*◌, ◌<◌}
 use native.Mathlib.Omega.{arith}
 use mathlib.Core.Path.{◌≡◌, refl, sym, ◌∙◌, ap, ap₂, subst}
@@ -7,7 +8,7 @@ use mathlib.Core.Logic.{◌⊎◌, inl, inr, ⊎_elim}
 use mathlib.Core.Bool.{Bool, true, false}
 use lib.IntN.{pos, pos-ne-negsuc}
 use borrow.Author.Tests.{le-leb}
-use Rattle.stab.specs.Basic.{if◌then◌else◌, ◌implies◌, nat, unless, ◌otherwise◌, scan}
+use Rattle.stab.specs.Basic.{◌implies◌, nat, unless, ◌otherwise◌, scan}
 use Rattle.stab.specs.Node.{Tableau, rows, row_count, node_at, node, names}
 use Rattle.stab.specs.Rule.{drawn, fields_fit, target_fits, bound_fits, partners_fit, lowered_fits, children_held, children_as}
 use Rattle.stab.specs.Check.{whole_unless, at_unless, holds, formulas_refusal, set_refusal, parent_refusal, step_refusal, node_refusal, tables_hold, within_limits, enough_nodes, refusal, held_mode}
@@ -43,7 +44,7 @@ moved_last n true why j e = refl
 moved_last n false why j e = ap (λ (p : Place). Found why p) e
 
 moved_step : (T : Tableau) (n j : ℕ) → moved n (step_refusal T j) ≡ step_refusal T j
-unfolding step_refusal placed if◌then◌else◌
+unfolding step_refusal placed
 moved_step T n j =
     moved_then n (drawn T j) Drawn j _ _ refl
     (moved_then n (fields_fit T j) Fields j _ _ refl
@@ -53,7 +54,7 @@ moved_step T n j =
     (moved_last n (lowered_fits T j) Lowered j refl)))))
 
 moved_children : (n p : ℕ) → moved n (Found Children (At p)) ≡ Found Children (At n)
-unfolding moved placed if◌then◌else◌
+unfolding moved placed
 moved_children n p = refl
 
 -- ---- the parent of the last row
@@ -168,7 +169,7 @@ module _ (T : Tableau) (H : Holds T) (w : NodeRow) (room : room_for T w ≡ true
       ∙ ap (λ (x : Finding). x otherwise scan (node_refusal false U) (suc n)) (scan_last (parent_refusal U) n (λ j h. (parent_clears U j).1 (old_parent T H w room j h))))
 
   moved_both : (x : Finding) → moved n (set_refusal U n otherwise (parent_refusal U n otherwise x)) ≡ (set_refusal U n otherwise (parent_refusal U n otherwise moved n x))
-  unfolding set_refusal parent_refusal placed if◌then◌else◌
+  unfolding set_refusal parent_refusal placed
   moved_both x = moved_then n _ Set n _ _ refl (moved_then n _ Parent n _ _ refl refl)
 
   pub judged_last : moved n (refusal held_mode U) ≡ added_refusal U n

@@ -1,6 +1,5 @@
 -- A child beyond the number that its parent's rule has is found at the parent; of an added row it is said at the row.
-use Rattle.std.specs.Prelude.{ℕ, eqb}
-use Rattle.stab.specs.Basic.{if◌then◌else◌}
+use Rattle.std.specs.Prelude.{ℕ, eqb, if◌then◌else◌}
 use Rattle.stab.specs.Answer.{refusal_number}
 use Rattle.stab.specs.declared.Place.{Place}
 use Rattle.stab.specs.declared.Place.TheVariants.{At}

@@ -1,4 +1,5 @@
 -- 02, No. 7: the rows held are those that the accepted calls leave, and "closed" is shown exactly when the whole check accepts them.
+use Rattle.std.specs.Prelude.{if◌then◌else◌}
 use Prim.Native.Nat.{ℕ, zero, suc, ◌-◌, ◌<◌, ◌≤◌}
 use native.Mathlib.Omega.{arith}
 use mathlib.Core.Path.{◌≡◌, refl, sym, ◌∙◌, ap, ap₂, subst}
@@ -11,7 +12,6 @@ use lib.IntN.{ℤ}
 use lib.ListN.{length, take, length-append}
 use lib.Seq.{take-append_seam}
 use borrow.Author.Tests.{le-leb, ltb-true, lt-ltb, eq-eqb}
-use Rattle.stab.specs.Basic.{if◌then◌else◌}
 use Rattle.stab.specs.Node.{Tableau, Node, set, child_count}
 use Rattle.stab.specs.Rule.{rule, children_fit, children_held, children_as}
 use Rattle.stab.specs.Check.{whole_unless, at_unless, step_refusal, node_refusal, refusal, held_mode, link_count, check}
@@ -161,7 +161,6 @@ shown_is Nothing old new = refl
 shown_is (Found why p) old new = refl
 
 shows : (b : Bool) → (◌≡◌ {A = ℕ} (if b then 1 else 0) 1) ↔ (b ≡ true)
-unfolding if◌then◌else◌
 shows true = (λ e. refl, λ e. refl)
 shows false = (λ e. absurd (omega arith), λ e. absurd (false≢true e))
 
@@ -205,7 +204,7 @@ begun_open T = by (closed (begun T)) refl
     by false c = c
 
 pub begun_shows_none : (T : Tableau) → shown_number (begin_answer T) ≡ 0
-unfolding begin_answer if◌then◌else◌
+unfolding begin_answer
 begun_shows_none T =
     shown_is (begin_refusal T) (begun T) (begun T)
     ∙ ap (λ (b : Bool). if b then 1 else 0) (ap closed (left_same (begin_refusal T) (begun T)) ∙ begun_open T)

@@ -1,4 +1,5 @@
 -- Rows that have passed still pass with an accepted row more, and without their last row.
+use Rattle.std.specs.Prelude.{if◌then◌else◌}
 use Prim.Native.Nat.{ℕ, zero, suc, ◌+◌, ◌*◌, ◌-◌, ◌<◌, ◌≤◌}
 use native.Mathlib.Omega.{arith}
 use mathlib.Core.Path.{◌≡◌, refl, sym, ◌∙◌, ap, ap₂, subst}
@@ -11,7 +12,7 @@ use lib.Signed.{le_z}
 use lib.ListN.{length, take, drop, replicate, length-append, length-replicate}
 use lib.Seq.{length-take-le}
 use borrow.Author.Tests.{leb-true, le-leb, ltb-true}
-use Rattle.stab.specs.Basic.{if◌then◌else◌, eq_z, nat, count}
+use Rattle.stab.specs.Basic.{eq_z, nat, count}
 use Rattle.stab.specs.Node.{Tableau, Node, rows, row_count, formula, node_at, node, set_of, set, set_start, set_end, names, child_count_of, child_count}
 use Rattle.stab.specs.Rule.{rule, rule_of, children_held, children_as}
 use Rattle.stab.specs.Check.{whole_unless, at_unless, set_refusal, parent_refusal, step_refusal, node_refusal}
@@ -84,7 +85,7 @@ module _ {T U : Tableau} {k : ℕ} (A : Alike T U k) where
 
 -- one number more is counted or not
 count_more : (p : ℕ → Bool) (n : ℕ) → count p n ≤ count p (suc n)
-unfolding count if◌then◌else◌
+unfolding count
 count_more p n = go (p n)
   where
     go : (v : Bool) → count p n ≤ (if v then suc (count p n) else count p n)

@@ -1,6 +1,6 @@
 -- 02, No. 7: a tableau that grows on screen.
-use Rattle.std.specs.Prelude.{ℕ, zero, suc, ◌+◌, ◌*◌, ◌-◌, Bool, true, false, List, [], ◌∷◌, ◌++◌, leb, ltb, ℤ, pos, length, take}
-use Rattle.stab.specs.Basic.{if◌then◌else◌, ◌and◌, nat, ◌otherwise◌}
+use Rattle.std.specs.Prelude.{ℕ, zero, suc, ◌+◌, ◌*◌, ◌-◌, Bool, true, false, List, [], ◌∷◌, ◌++◌, leb, ltb, ℤ, pos, length, take, if◌then◌else◌}
+use Rattle.stab.specs.Basic.{◌and◌, nat, ◌otherwise◌}
 use Rattle.stab.specs.Node.{Tableau, node_at, node, set}
 use Rattle.stab.specs.Rule.{children_held}
 use Rattle.stab.specs.Check.{whole_unless, at_unless, set_refusal, parent_refusal, step_refusal, refusal, held_mode, link_count, check}

@@ -1,4 +1,5 @@
 -- The nodes and sets that are put are those of the joined record, tidied.
+use Rattle.std.specs.Prelude.{if◌then◌else◌}
 use Prim.Native.Nat.{ℕ, zero, suc, ◌+◌, ◌<◌, ◌≤◌}
 use native.Mathlib.Omega.{arith}
 use native.Mathlib.Nat.{add-zero}
@@ -9,7 +10,7 @@ use mathlib.Core.List.{List, [], ◌∷◌, ◌++◌, append_assoc, append-nil, 
 use lib.Dec.{leb}
 use lib.IntN.{ℤ, pos, neg_ℤ}
 use lib.ListN.{length, get_or, take, drop, length-append}
-use Rattle.stab.specs.Basic.{if◌then◌else◌, nat, below, eq_z}
+use Rattle.stab.specs.Basic.{nat, below, eq_z}
 use Rattle.stab.specs.Node.{Tableau, Node, row_count, node_at, node, set, set_of}
 use Rattle.stab.specs.Rule.{unused, entry, rule_table, rule_of, rule}
 use Rattle.stab.specs.Keeps.{KeepsKind, KeepsStep, KeepsSet, KeepsOlder, Keeps}

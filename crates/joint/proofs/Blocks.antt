@@ -1,4 +1,5 @@
 -- The nodes of one record as a block of the joined one, d nodes further on: ranks, children and bounds are those they were.
+use Rattle.std.specs.Prelude.{if◌then◌else◌}
 use Prim.Native.Nat.{ℕ, zero, suc, ◌+◌, ◌-◌, ◌<◌, ◌≤◌}
 use native.Mathlib.Omega.{arith}
 use mathlib.Core.Path.{◌≡◌, refl, sym, ◌∙◌, ap, ap₂}
@@ -7,7 +8,7 @@ use mathlib.Core.Bool.{false}
 use mathlib.Core.List.{List}
 use lib.IntN.{ℤ, pos, pos-ne-negsuc}
 use lib.Signed.{le_z}
-use Rattle.stab.specs.Basic.{if◌then◌else◌, ◌and◌, eq_z, nat, below, count}
+use Rattle.stab.specs.Basic.{◌and◌, eq_z, nat, below, count}
 use Rattle.stab.specs.Node.{Tableau, Node, Bound, node_at, node, names, child_count_of, rank, split_at, split_bound, child_bound, first_bound, bound_of}
 use Rattle.stab.specs.Rule.{unused}
 use Rattle.stab.specs.Keeps.{KeepsParent}
@@ -29,7 +30,7 @@ parent_pos d q =
     if_true (le_z (pos 0) (pos q)) _ _ (le_of (num 0) (num q) (omega arith)) ∙ ap pos e
 
 pub parent_none : (d : ℕ) → parent_of d unused ≡ pos 0
-unfolding parent_of unused if◌then◌else◌
+unfolding parent_of unused
 parent_none d = refl
 
 -- a node's parent is none, or a smaller node
@@ -47,7 +48,7 @@ none_below j = refl
 -- a node that is no split hands its bound on
 unsplit : (w : Node) → w.rule ≡ pos 1 → (B : Bound) (k : ℕ) → child_bound w B k ≡ B
 unfolding child_bound eq_z
-unsplit w e B k = ap (λ (r : ℤ). if eq_z r (pos 2) then split_bound B (split_at B.L w.by) k else B) e ∙ if_false (eq_z (pos 1) (pos 2)) _ _ refl
+unsplit w e B k = ap (λ (r : ℤ). if eq_z r (pos 2) then split_bound B (split_at B.L w.by) k else B) e ∙ if_false (eq_z (pos 1) (pos 2)) (split_bound B (split_at B.L w.by) k) B refl
 
 pub record Block (N : List ℤ) (T : Tableau) (d total : ℕ) : Type 0 where
   pub further : 1 ≤ d

@@ -1,4 +1,5 @@
 -- 02, No. 11: what the check accepts of either record, it accepts of the join, with the links of both.
+use Rattle.std.specs.Prelude.{if◌then◌else◌}
 use Prim.Native.Nat.{ℕ, zero, suc, ◌+◌, ◌-◌, ◌<◌, ◌≤◌}
 use native.Mathlib.Omega.{arith}
 use mathlib.Core.Path.{◌≡◌, refl, sym, ◌∙◌, ap, ap₂, subst}
@@ -8,7 +9,7 @@ use mathlib.Core.List.Memᴰ
 use mathlib.Core.List.{List, [], ◌∷◌, Memᴰ}
 use lib.IntN.{ℤ, pos, ◌+ℤ◌, pos-ne-negsuc}
 use lib.ListN.{length, take, drop}
-use Rattle.stab.specs.Basic.{if◌then◌else◌, eq_z, nat, below, count}
+use Rattle.stab.specs.Basic.{eq_z, nat, below, count}
 use Rattle.stab.specs.Formula.{Row, disj, kind_of, join, tree, well_formed, size, depth}
 use Rattle.stab.specs.Node.{Tableau, Node, rows, row_count, row, formula, node_at, node, set_of, set, set_start, set_end, names, child_count_of, child_count, rank}
 use Rattle.stab.specs.Rule.{unused, entry, rule_table, rule_of, rule, of_rule, one_of, given}
@@ -393,7 +394,7 @@ module _ (A B : Tableau) (KA : KeepsRules A) (KB : KeepsRules B) (some_a : 0 < A
   -- ---- parents, and what sets are drawn from
 
   J-given : (k : ℕ) → given (untidied A B) (node (untidied A B) 0) k ≡ one_of (through (of_first A B) A.root) (through (of_second A B) B.root) k
-  unfolding given of_rule eq_z if◌then◌else◌ row nat
+  unfolding given of_rule eq_z row nat
   J-given k = rw (zero_field (λ w. w.rule) (pos 1) refl, zero_field (λ w. w.on) (pos (or_row A B)) refl) (ap₂ (λ (a b : ℤ). one_of a b k) or_a or_b)
 
   first_a_parent : (j : ℕ) → j < A.node_rows → KeepsParent (untidied A B) (1 + j)

@@ -1,4 +1,5 @@
 -- Tables made of parts that follow one another; counting over such parts.
+use Rattle.std.specs.Prelude.{if◌then◌else◌}
 use Prim.Native.Nat.{ℕ, zero, suc, ◌+◌, ◌*◌, ◌-◌, ◌<◌}
 use native.Mathlib.Omega.{arith}
 use mathlib.Core.Path.{◌≡◌, refl, sym, ◌∙◌, ap, ap₂}
@@ -9,7 +10,7 @@ use mathlib.Core.List.{List, [], ◌∷◌, ◌++◌, Memᴰ}
 use lib.IntN.{ℤ, pos, ◌+ℤ◌}
 use lib.ListN.{length, get_or, take, drop, length-append}
 use lib.Seq.{get_or-append-add}
-use Rattle.stab.specs.Basic.{if◌then◌else◌, count}
+use Rattle.stab.specs.Basic.{count}
 use Rattle.stab.specs.Formula.{row_at}
 use Rattle.stab.specs.Node.{Tableau, Node, node_at, node}
 use Rattle.stab.proofs.Scans.{below_suc, count_true}
@@ -137,7 +138,7 @@ module _ (new : ℕ → ℕ) where
 
 -- over one part and the next
 pub count_add : (p : ℕ → Bool) (a b : ℕ) → count p (a + b) ≡ count p a + count (λ i. p (a + i)) b
-unfolding count if◌then◌else◌
+unfolding count
 count_add p a zero = let e : a + 0 ≡ a = omega arith in rw e (omega arith)
 count_add p a (suc b) = let e : a + suc b ≡ suc (a + b) = omega arith in rw e (go (p (a + b)) (count_add p a b))
   where

@@ -1,4 +1,5 @@
 -- The nodes of the joined record: node 0, the first's, the second's.
+use Rattle.std.specs.Prelude.{if◌then◌else◌}
 use Prim.Native.Nat.{ℕ, zero, suc, ◌+◌, ◌*◌, ◌-◌, ◌<◌, ◌≤◌}
 use native.Mathlib.Omega.{arith}
 use mathlib.Core.Path.{◌≡◌, refl, sym, ◌∙◌, ap}
@@ -8,7 +9,7 @@ use mathlib.Core.List.{List, ◌++◌}
 use lib.IntN.{ℤ, pos, ◌+ℤ◌, pos-ne-negsuc}
 use lib.Signed.{le_z}
 use lib.ListN.{length, take, drop, length-append}
-use Rattle.stab.specs.Basic.{if◌then◌else◌, eq_z, nat}
+use Rattle.stab.specs.Basic.{eq_z, nat}
 use Rattle.stab.specs.Node.{Tableau, Node, rows, node_at, node, set_of, set, names, child_count, bound_of, bound}
 use Rattle.stab.specs.Rule.{unused}
 use Rattle.stab.specs.Keeps.{KeepsSet, KeepsParent}
@@ -32,7 +33,7 @@ further_pos d q =
     if_true (le_z (pos 0) (pos q)) _ _ (le_of (num 0) (num q) (omega arith)) ∙ ap pos e
 
 further_none : (d : ℕ) → further d unused ≡ unused
-unfolding further unused if◌then◌else◌
+unfolding further unused
 further_none d = refl
 
 module _ (A B : Tableau) where

@@ -1,7 +1,7 @@
 -- 02, No. 11: one record for either fault.
-use Rattle.std.specs.Prelude.{ℕ, zero, suc, ◌+◌, ◌-◌, ◌≤◌, Bool, List, [], ◌∷◌, ◌++◌, leb, ltb, ℤ, pos, neg_ℤ, ◌+ℤ◌, take}
+use Rattle.std.specs.Prelude.{ℕ, zero, suc, ◌+◌, ◌-◌, ◌≤◌, Bool, List, [], ◌∷◌, ◌++◌, leb, ltb, ℤ, pos, neg_ℤ, ◌+ℤ◌, take, if◌then◌else◌}
 use Rattle.std.specs.Int.Signed.{le_z}
-use Rattle.stab.specs.Basic.{if◌then◌else◌, ◌and◌, eq_z, nat, ◌otherwise◌}
+use Rattle.stab.specs.Basic.{◌and◌, eq_z, nat, ◌otherwise◌}
 use Rattle.stab.specs.Formula.{Row, row_at, small_enough}
 use Rattle.stab.specs.Node.{Tableau, Node, rows, row_count, node}
 use Rattle.stab.specs.Check.{whole_unless, at_unless, refusal, present_mode}

@@ -3,8 +3,7 @@
 
 mod node;
 
-ghost use Rattle.std.specs.Prelude.{◌≡◌, [], ◌+◌, ◌<◌, ◌≤◌, leb, pos, length};
-ghost use Rattle.stab.specs.Basic.{if◌then◌else◌};
+ghost use Rattle.std.specs.Prelude.{◌≡◌, [], ◌+◌, ◌<◌, ◌≤◌, leb, pos, length, if◌then◌else◌};
 ghost use Rattle.stab.specs.Text.{padded};
 ghost use Rattle.tidied.specs.Tidied.{new_number};
 ghost use Rattle.folds.specs.Folds.{AllSmall};

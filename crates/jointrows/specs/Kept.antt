@@ -1,6 +1,6 @@
 -- What the passes over the formula rows of two records put.
-use Rattle.std.specs.Prelude.{ℕ, zero, suc, ◌+◌, ◌-◌, ◌≤◌, ◌≡◌, true, List, [], ◌∷◌, ◌++◌, leb, ltb, ℤ, pos, length}
-use Rattle.stab.specs.Basic.{if◌then◌else◌, below}
+use Rattle.std.specs.Prelude.{ℕ, zero, suc, ◌+◌, ◌-◌, ◌≤◌, ◌≡◌, true, List, [], ◌∷◌, ◌++◌, leb, ltb, ℤ, pos, length, if◌then◌else◌}
+use Rattle.stab.specs.Basic.{below}
 use Rattle.stab.specs.Formula.{Row, formula_rows}
 use Rattle.stab.specs.Node.{Tableau}
 use Rattle.stab.specs.Text.{padded}

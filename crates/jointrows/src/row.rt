@@ -1,6 +1,5 @@
 // The formula rows of two records, one after another.
-ghost use Rattle.std.specs.Prelude.{◌≡◌, [], ◌++◌, ◌+◌, ◌*◌, ◌<◌, ◌≤◌, leb, pos, length, take, replicate};
-ghost use Rattle.stab.specs.Basic.{if◌then◌else◌};
+ghost use Rattle.std.specs.Prelude.{◌≡◌, [], ◌++◌, ◌+◌, ◌*◌, ◌<◌, ◌≤◌, leb, pos, length, take, replicate, if◌then◌else◌};
 ghost use Rattle.stab.specs.Text.{padded};
 ghost use Rattle.tidied.specs.Tidied.{new_number, folding};
 ghost use Rattle.folds.specs.Folds.{AllSmall};

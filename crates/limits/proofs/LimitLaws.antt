@@ -1,4 +1,5 @@
 -- The tests on bounds and indices, by natural parts.
+use Rattle.std.specs.Prelude.{if◌then◌else◌}
 use Prim.Native.Nat.{ℕ, zero, suc, ◌+◌, ◌-◌, ◌<◌, ◌≤◌}
 use native.Mathlib.Omega.{arith}
 use mathlib.Core.Path.{◌≡◌, refl, sym, ◌∙◌, ap, ap₂}
@@ -9,7 +10,7 @@ use lib.Dec.{leb, ltb, eqb}
 use lib.IntN.{ℤ, pos, neg_ℤ, ◌+ℤ◌, ◌-ℤ◌}
 use lib.Signed.{le_z, lt_z}
 use borrow.Author.Tests.{le-leb, leb-true, lt-leb, lt-ltb, ltb-true, eq-eqb, eqb-true, ne_eqb}
-use Rattle.stab.specs.Basic.{if◌then◌else◌, eq_z, nat}
+use Rattle.stab.specs.Basic.{eq_z, nat}
 use Rattle.stab.specs.Formula.{Row, nothing, parameter, index, base_of}
 use Rattle.stab.specs.Meaning.{base}
 use Rattle.stab.specs.Node.{Bound, is_upper, is_exact}
@@ -48,11 +49,11 @@ not_reached b c l =
 
 module _ (b : ℤ) (l : ℕ) where
   pub base_parameter : eq_z b (pos 1) ≡ true → pos l ≡ base l (pos 0) (base_of b)
-  unfolding base base_of if◌then◌else◌ eq_z
+  unfolding base base_of eq_z
   base_parameter h = ap (λ (z : ℤ). base l (pos 0) (base_of z)) (sym (eq_z_true b (pos 1) h))
 
   pub base_other : eq_z b (pos 1) ≡ false → pos 0 ≡ base l (pos 0) (base_of b)
-  unfolding base_of base if◌then◌else◌
+  unfolding base_of base
   base_other h = go (eq_z b (pos 0)) (eq_z b (pos 1)) h
     where
       go : (t u : Bool) → u ≡ false → pos 0 ≡ base l (pos 0) (if t then nothing else if u then parameter else index)

@@ -1,4 +1,5 @@
 -- The lines of a text, found by their bytes 10.
+use Rattle.std.specs.Prelude.{if◌then◌else◌}
 use Prim.Native.Nat.{ℕ, zero, suc, ◌+◌, ◌-◌, ◌<◌, ◌≤◌}
 use native.Mathlib.Omega.{arith}
 use native.Mathlib.Numerals.{add-one}
@@ -10,7 +11,6 @@ use lib.Dec.{eqb}
 use lib.ListN.{length, take, drop, get_or, length-drop, drop_of_length-le}
 use lib.Seq.{drop-cons, drop-drop, length-take-le}
 use borrow.Author.Tests.{eq-eqb, ne_eqb, eqb-true, eqb-false}
-use Rattle.stab.specs.Basic.{if◌then◌else◌}
 use Rattle.stab.specs.Text.{Line, newline, in_front, lines}
 use Rattle.stab.specs.LineNumber.{Span, empty_start, spanned, span_from, line_span, line_of}
 use Rattle.stab.proofs.Bools.{if_true, if_false, decide}
@@ -83,7 +83,7 @@ lines_open x (y ∷ ys) h =
     ∙ ap (in_front x) (lines_open y ys (omega (arith, line_more x (y ∷ ys) (eqb-false x 10 (not_here x (y ∷ ys) h)))))
 
 open_span : (at k : ℕ) (l : List ℕ) → span_from at (suc k) (record { content = l; ended = false } ∷ []) ≡ empty_start
-unfolding span_from if◌then◌else◌
+unfolding span_from
 open_span at zero l = refl
 open_span at (suc k) l = refl
 
@@ -91,7 +91,7 @@ open_span at (suc k) l = refl
 
 module _ (l : List ℕ) (h : line_length l < length l) where
   pub span_first : (at : ℕ) → span_from at 1 (lines l) ≡ record { start = at; len = line_length l }
-  unfolding ended span_from if◌then◌else◌
+  unfolding ended span_from
   span_first at =
       ap (span_from at 1) (lines_ended l h)
       ∙ ap (λ (n : ℕ). record { start = at; len = n }) (length-take-le (line_length l) l (omega arith))

@@ -1,7 +1,6 @@
 -- A line as that very part of a lent text.
-use Rattle.std.specs.Prelude.{ℕ, suc, ◌+◌, ◌≡◌, Bool, true, false, List, [], ◌∷◌, eqb}
+use Rattle.std.specs.Prelude.{ℕ, suc, ◌+◌, ◌≡◌, Bool, true, false, List, [], ◌∷◌, eqb, if◌then◌else◌}
 use Rattle.std.specs.Borrow.{Bor}
-use Rattle.stab.specs.Basic.{if◌then◌else◌}
 use Rattle.stab.specs.Text.{newline}
 use Rattle.stab.specs.LineNumber.{Span, spanned}
 

@@ -1,4 +1,5 @@
 -- A table of such rows is on the list exactly if its formulas pass.
+use Rattle.std.specs.Prelude.{if◌then◌else◌}
 use Prim.Native.Nat.{ℕ, zero, suc, ◌+◌, ◌-◌, ◌<◌, ◌≤◌}
 use native.Mathlib.Omega.{arith}
 use mathlib.Core.Path.{◌≡◌, refl, sym, ◌∙◌}
@@ -7,7 +8,7 @@ use mathlib.Core.Bool.{Bool, true, false}
 use mathlib.Core.List.{List, Memᴰ}
 use lib.IntN.{ℤ, pos}
 use borrow.Author.Tests.{le-leb}
-use Rattle.stab.specs.Basic.{if◌then◌else◌, ◌and◌, eq_z, within, nat, below, scan, unless, all_of}
+use Rattle.stab.specs.Basic.{◌and◌, eq_z, within, nat, below, scan, unless, all_of}
 use Rattle.stab.specs.Formula.{Row, row_at, Kind, constant, literal, junction, iteration, unknown, kind_of, Formula, part_if, part, decode, tree_n, tree, size, depth, is_outer, well_formed, small_enough}
 use Rattle.stab.specs.Check.{at_unless, whole_unless, row_refusal, root_fits, formula_refusal, formulas_refusal, schema_refusal}
 use Rattle.stab.specs.Lent.{lent_schema, schema_header}
@@ -81,7 +82,7 @@ small_row : List ℤ → Bool
 small_row w = small_as (row_at w 0) (kind_of (row_at w 0).kind)
 
 rows_small : (r : ℕ) → r < 3 → all_of small_row (rows_for r) ≡ true
-unfolding small_row all_of small_as row_at kind_of if◌then◌else◌ eq_z ◌and◌ within over_each row_of literal_rows junction_rows iteration_rows rows_for
+unfolding small_row all_of small_as row_at kind_of eq_z ◌and◌ within over_each row_of literal_rows junction_rows iteration_rows rows_for
 rows_small zero l = refl
 rows_small (suc zero) l = refl
 rows_small (suc (suc zero)) l = refl

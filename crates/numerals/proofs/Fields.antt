@@ -1,4 +1,5 @@
 -- The first field of a text, and the natural number that it is, by the run of digits that it starts with.
+use Rattle.std.specs.Prelude.{if◌then◌else◌}
 use Prim.Native.Nat.{ℕ, zero, suc, ◌+◌, ◌*◌, ◌-◌, ◌≤◌}
 use native.Mathlib.Omega.{arith}
 use native.Mathlib.Nat.{add-zero}
@@ -12,7 +13,7 @@ use lib.IntN.{ℤ, pos, negsuc, neg_ℤ}
 use lib.ListN.{length, get_or, drop}
 use lib.Seq.{get_or-drop}
 use borrow.Author.Tests.{leb-true, le-leb, eqb-true, eq-eqb, ne_eqb}
-use Rattle.stab.specs.Basic.{if◌then◌else◌, ◌and◌, ◌or◌, all_of}
+use Rattle.stab.specs.Basic.{◌and◌, ◌or◌, all_of}
 use Rattle.stab.specs.Text.{newline, space, minus, zero_digit, same_bytes, is_digit, digits_value, is_natural, some_if, number_of}
 use Rattle.stab.proofs.Bools.{and_left, and_right, and_both, and_first_false, and_second_false, or_cases, or_left, or_right, or_false, if_true, if_false, decide, not_of_false}
 use Rattle.stab.proofs.Texts.Numbers.{digit_low, natural_positive, same_bytes_true}
@@ -240,7 +241,7 @@ natural_zero at (x ∷ xs) = ⊎_elim alone longer (decide (ends_field x))
         let g = f ∙ ap (λ (l : List ℕ). 48 ∷ l) (field_none x xs h) in
         let l = e ∙ end_here x xs h in
         numeral_is _ 0 _ (at + 1) _ x
-        (natural_closed (48 ∷ (x ∷ xs)) (ap ends_field l ∙ h) ∙ ap natural_of g ∙ unfold natural_of same_bytes ◌and◌ if◌then◌else◌ in refl)
+        (natural_closed (48 ∷ (x ∷ xs)) (ap ends_field l ∙ h) ∙ ap natural_of g ∙ unfold natural_of same_bytes ◌and◌ in refl)
         (omega (arith, past_field_lem (48 ∷ (x ∷ xs)) _ g))
         l
         h
@@ -331,7 +332,7 @@ less_digits f true h = less_positive (digits_value 0 f) (natural_positive f h)
 less_digits f false h = refl
 
 number_less : (f : List ℕ) → number_of (45 ∷ f) ≡ less_of (natural_of f)
-unfolding number_of minus if◌then◌else◌ same_bytes zero_digit ◌and◌ natural_of
+unfolding number_of minus same_bytes zero_digit ◌and◌ natural_of
 number_less f = go (same_bytes f (48 ∷ [])) refl
   where
     go : (t : Bool) → same_bytes f (48 ∷ []) ≡ t
@@ -345,7 +346,7 @@ plain_if true n = refl
 plain_if false n = refl
 
 number_plain : (x : ℕ) (f : List ℕ) → (x ≡ 45 → ⊥) → number_of (x ∷ f) ≡ plain_of (natural_of (x ∷ f))
-unfolding number_of minus natural_of zero_digit if◌then◌else◌
+unfolding number_of minus natural_of zero_digit
 number_plain x f h = go (same_bytes (x ∷ f) (48 ∷ []))
   where
     go : (t : Bool)
@@ -355,7 +356,7 @@ number_plain x f h = go (same_bytes (x ∷ f) (48 ∷ []))
     go false = if_false (eqb x 45) _ _ (ne_eqb x 45 h) ∙ plain_if (is_natural (x ∷ f)) (digits_value 0 (x ∷ f))
 
 number_empty : number_of [] ≡ plain_of (natural_of [])
-unfolding number_of natural_of same_bytes is_natural some_if plain_of if◌then◌else◌
+unfolding number_of natural_of same_bytes is_natural some_if plain_of
 number_empty = refl
 
 -- a minus in front
@@ -369,8 +370,8 @@ here_less xs =
     stays = ends_neither 45 (λ e. omega arith) (λ e. omega arith)
 
     go : (t : Bool) → (if t then none else number_of (45 ∷ field xs)) ≡ less_of (if t then none else natural_of (field xs))
-    go true = unfold if◌then◌else◌ less_of in refl
-    go false = unfold if◌then◌else◌ in number_less (field xs)
+    go true = unfold less_of in refl
+    go false = number_less (field xs)
 
 field_plain : (xs : List ℕ) → (get_or xs 0 256 ≡ 45 → ⊥) → number_of (field xs) ≡ plain_of (natural_of (field xs))
 field_plain [] h = unfold field in number_empty
@@ -386,8 +387,8 @@ unfolding number_here natural_here
 here_plain xs h = go (eqb (field_end xs) 0)
   where
     go : (t : Bool) → (if t then none else number_of (field xs)) ≡ plain_of (if t then none else natural_of (field xs))
-    go true = unfold if◌then◌else◌ plain_of in refl
-    go false = unfold if◌then◌else◌ in field_plain xs h
+    go true = unfold plain_of in refl
+    go false = field_plain xs h
 
 -- ---- at a place of a text
 

@@ -1,4 +1,5 @@
 -- The first line of a text: as the definitions have it, and by its first field.
+use Rattle.std.specs.Prelude.{if◌then◌else◌}
 use Prim.Native.Nat.{ℕ, suc, ◌+◌, ◌≤◌}
 use native.Mathlib.Omega.{arith}
 use mathlib.Core.Path.{◌≡◌, refl, sym, ◌∙◌, ap, ap₂}
@@ -10,7 +11,6 @@ use lib.Dec.{eqb}
 use lib.IntN.{ℤ}
 use lib.ListN.{length, drop}
 use borrow.Author.Tests.{eq-eqb, ne_eqb}
-use Rattle.stab.specs.Basic.{if◌then◌else◌}
 use Rattle.stab.specs.Text.{Line, newline, lines, in_front, in_front_of, numbers_in, numbers, number_of, is_digit, fields, space, into_field, lacks}
 use Rattle.stab.proofs.Bools.{and_both, if_true, if_false, decide, not_of_false}
 use Rattle.stab.proofs.Texts.Lines.{fields_last, fields_space}
@@ -236,11 +236,11 @@ unfolding first_numbers
 first_is xs t fs p q = ap₂ numbers_up_to p q
 
 first_open : (xs : List ℕ) → field_end xs ≡ 0 → first_numbers xs ≡ []
-unfolding numbers_up_to if◌then◌else◌
+unfolding numbers_up_to
 first_open xs h = first_is xs false (field xs ∷ []) (no_end xs h) (ap fields (line_open xs h) ∙ fields_last (field xs) (field_lacks xs))
 
 first_end : (xs : List ℕ) → field_end xs ≡ 10 → first_numbers xs ≡ if_number (number_of (field xs)) []
-unfolding numbers_up_to if◌then◌else◌
+unfolding numbers_up_to
 first_end xs h =
     let g = line_ends xs h in
     first_is xs true (field xs ∷ []) g.ended (ap fields g.content ∙ fields_last (field xs) (field_lacks xs))
@@ -263,7 +263,7 @@ front_up (some z) none us vs k h = absurd (none-ne-some vs h)
 front_up (some z) (some ws) us vs k h = ap (λ (l : List ℤ). z ∷ l) (k ws refl) ∙ some-injective (z ∷ ws) vs h
 
 up_to_all : (fs : List (List ℕ)) (vs : List ℤ) → numbers_in fs ≡ some vs → numbers_up_to true fs ≡ vs
-unfolding numbers_in numbers_up_to if◌then◌else◌
+unfolding numbers_in numbers_up_to
 up_to_all [] vs h = some-injective [] vs h
 up_to_all (f ∷ []) vs h = front_up (number_of f) (some []) [] vs (λ ws e. some-injective [] ws e) h
 up_to_all (f ∷ (g ∷ fs)) vs h = front_up (number_of f) (numbers_in (g ∷ fs)) (numbers_up_to true (g ∷ fs)) vs (λ ws e. up_to_all (g ∷ fs) ws e) h
@@ -284,7 +284,7 @@ number_few none vs n h = omega arith
 number_few (some z) vs n h = omega arith
 
 up_to_few : (t : Bool) (fs : List (List ℕ)) → length (numbers_up_to t fs) ≤ length fs
-unfolding numbers_up_to if◌then◌else◌
+unfolding numbers_up_to
 up_to_few t [] = omega arith
 up_to_few true (f ∷ []) = omega (arith, number_few (number_of f) [] 0 (omega arith))
 up_to_few false (f ∷ []) = omega arith

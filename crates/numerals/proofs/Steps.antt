@@ -1,4 +1,5 @@
 -- A number with its sign, by the natural number that stands for it.
+use Rattle.std.specs.Prelude.{if◌then◌else◌}
 use Prim.Native.Nat.{ℕ, zero, suc, ◌+◌, ◌≤◌}
 use native.Mathlib.Omega.{arith}
 use mathlib.Core.Path.{◌≡◌, refl, sym, ◌∙◌, ap, ap₂}
@@ -10,7 +11,6 @@ use lib.Dec.{eqb}
 use lib.IntN.{ℤ}
 use lib.ListN.{length, get_or, drop, set}
 use borrow.Author.Tests.{eq-eqb, ne_eqb}
-use Rattle.stab.specs.Basic.{if◌then◌else◌}
 use Rattle.stab.specs.Text.{space, newline, same_bytes, is_natural, digits_value, some_if}
 use Rattle.stab.proofs.Bools.{if_true, if_false, decide}
 use Rattle.stab.proofs.Texts.Numbers.{natural_below}
@@ -63,7 +63,7 @@ natural_ends xs v h =
 -- ---- five digits
 
 natural_small : (f : List ℕ) (v : ℕ) → natural_of f ≡ some v → v ≤ 99999
-unfolding natural_of if◌then◌else◌ some_if
+unfolding natural_of some_if
 natural_small f v h = go (same_bytes f (48 ∷ [])) (is_natural f) refl h
   where
     go : (s t : Bool) → is_natural f ≡ t → (if s then some 0 else some_if t (digits_value 0 f)) ≡ some v → v ≤ 99999
@@ -72,7 +72,7 @@ natural_small f v h = go (same_bytes f (48 ∷ [])) (is_natural f) refl h
     go false false n e = absurd (none-ne-some v e)
 
 here_small : (xs : List ℕ) (v : ℕ) → natural_here xs ≡ some v → v ≤ 99999
-unfolding natural_here if◌then◌else◌
+unfolding natural_here
 here_small xs v h = go (eqb (field_end xs) 0) h
   where
     go : (t : Bool) → (if t then none else natural_of (field xs)) ≡ some v → v ≤ 99999

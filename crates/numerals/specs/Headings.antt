@@ -1,6 +1,6 @@
 -- A heading, and the place after it.
-use Rattle.std.specs.Prelude.{ℕ, suc, ◌+◌, Bool, List, length, drop}
-use Rattle.stab.specs.Basic.{if◌then◌else◌, ◌and◌}
+use Rattle.std.specs.Prelude.{ℕ, suc, ◌+◌, Bool, List, length, drop, if◌then◌else◌}
+use Rattle.stab.specs.Basic.{◌and◌}
 use Rattle.stab.specs.Text.{same_bytes}
 use Rattle.numerals.specs.Here.{first_line}
 

@@ -1,7 +1,7 @@
 -- A text from a place on: its first line, what follows that line, and the number that the line starts with.
-use Rattle.std.specs.Prelude.{ℕ, zero, suc, ◌+◌, ◌*◌, ◌-◌, Bool, true, false, List, [], ◌∷◌, eqb, ℤ, length}
+use Rattle.std.specs.Prelude.{ℕ, zero, suc, ◌+◌, ◌*◌, ◌-◌, Bool, true, false, List, [], ◌∷◌, eqb, ℤ, length, if◌then◌else◌}
 use Rattle.std.proofs.Math.Option.{Option, none, some}
-use Rattle.stab.specs.Basic.{if◌then◌else◌, ◌or◌}
+use Rattle.stab.specs.Basic.{◌or◌}
 use Rattle.stab.specs.Text.{Line, newline, space, same_bytes, is_digit, digits_value, is_natural, some_if, number_of, fields, numbers}
 
 -- ---- the first line

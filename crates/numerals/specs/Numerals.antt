@@ -1,7 +1,6 @@
 -- What the functions on fields give.
-use Rattle.std.specs.Prelude.{ℕ, ◌+◌, List, eqb, ℤ, drop, set}
+use Rattle.std.specs.Prelude.{ℕ, ◌+◌, List, eqb, ℤ, drop, set, if◌then◌else◌}
 use Rattle.std.proofs.Math.Option.{Option, none, some}
-use Rattle.stab.specs.Basic.{if◌then◌else◌}
 use Rattle.stab.specs.Text.{space, newline}
 use Rattle.numerals.specs.Here.{ends_field, field_end, past_field, natural_here, number_here}
 use Rattle.numerals.specs.declared.Numeral.{Numeral}

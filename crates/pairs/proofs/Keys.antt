@@ -1,4 +1,5 @@
 -- The order of pairs in range is the order of their keys.
+use Rattle.std.specs.Prelude.{if◌then◌else◌}
 use Prim.Native.Nat.{ℕ, zero, suc, ◌+◌, ◌-◌, ◌*◌, ◌^◌, ◌<◌, ◌≤◌}
 use native.Mathlib.Omega.{arith}
 use native.Mathlib.Numerals.{add-one, sub-one}
@@ -10,7 +11,7 @@ use lib.Dec.{ltb, eqb}
 use lib.IntN.{ℤ, pos, neg_ℤ, ◌+ℤ◌}
 use lib.Signed.{le_z, lt_z}
 use borrow.Author.Tests.{ltb-true, ltb-false, lt-ltb, le-ltb, eqb-true, eq-eqb, ne_eqb}
-use Rattle.stab.specs.Basic.{if◌then◌else◌, ◌and◌, eq_z, nat, within, count, scan}
+use Rattle.stab.specs.Basic.{◌and◌, eq_z, nat, within, count, scan}
 use Rattle.stab.specs.Model.{pair_symbol, pair_index, pair_in_range, pair_before, pair_follows, pair_refusal, is_pair, listed}
 use Rattle.stab.specs.Check.{at_unless}
 use Rattle.stab.specs.declared.Place.TheVariants.{At}
@@ -234,7 +235,6 @@ sorted_less : (t : List ℤ) (n : ℕ) → Sorted t (suc n) → Sorted t n
 sorted_less t n s = record { in_range = λ k p. s.in_range k (omega arith); follows = λ k p. s.follows k (omega arith) }
 
 parted_more : (t : List ℤ) (n key r : ℕ) (v : Bool) → Sorted t (suc n) → Parted t n key r → ltb (key_at t n) key ≡ v → Parted t (suc n) key (if v then suc r else r)
-unfolding if◌then◌else◌
 parted_more t n key r true s b e =
     let here : key_at t n < key = ltb-true (key_at t n) key e in
     let all : r ≡ n =

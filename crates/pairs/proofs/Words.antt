@@ -1,4 +1,5 @@
 -- The laws of words.
+use Rattle.std.specs.Prelude.{if◌then◌else◌}
 use Prim.Native.Nat.{ℕ, zero, suc, ◌+◌, ◌*◌, ◌%◌, ◌^◌, ◌≤◌, ◌<◌}
 use native.Mathlib.Omega.{arith}
 use native.Mathlib.Nat.{add-zero, zero-lt-suc}
@@ -10,7 +11,7 @@ use lib.Dec.{eqb}
 use lib.IntN.{ℤ}
 use lib.Pow.{pow_pos, pow_mono, shl_exact}
 use borrow.Author.Tests.{eqb-true, eq-eqb, ne_eqb}
-use Rattle.stab.specs.Basic.{if◌then◌else◌, ◌and◌, ◌or◌}
+use Rattle.stab.specs.Basic.{◌and◌, ◌or◌}
 use Rattle.stab.specs.Meaning.{op, empty, over}
 use Rattle.stab.proofs.Bools.{and_second_false, or_right, same_test}
 use Rattle.stab.proofs.Scans.{below_suc}
@@ -33,7 +34,7 @@ bit true = 1
 bit false = 0
 
 top : (v : Bool) (d m : ℕ) → (if v then m + d else m) ≡ bit v * d + m
-unfolding if◌then◌else◌ bit
+unfolding bit
 top true d m = omega arith
 top false d m = omega arith
 
@@ -65,7 +66,7 @@ word_same p q (suc w) h =
 -- ---- no digit set, all set, each the other way
 
 pub word_none : (w : ℕ) → word (λ j. false) w ≡ 0
-unfolding word if◌then◌else◌
+unfolding word
 word_none zero = refl
 word_none (suc w) = word_none w
 
@@ -218,7 +219,6 @@ over_word false p x (suc w) =
 -- ---- a word of one digit
 
 one_is : (v : Bool) → eqb (if v then 1 else 0) 1 ≡ v
-unfolding if◌then◌else◌
 one_is true = refl
 one_is false = refl
 

@@ -1,7 +1,6 @@
 -- Many tests at once, as the digits of one number.
-use Rattle.std.specs.Prelude.{ℕ, zero, suc, ◌+◌, ◌^◌, Bool, true, false, not, eqb, ℤ}
+use Rattle.std.specs.Prelude.{ℕ, zero, suc, ◌+◌, ◌^◌, Bool, true, false, not, eqb, ℤ, if◌then◌else◌}
 use Rattle.std.specs.Int.Bits.{bit_and, bit_or}
-use Rattle.stab.specs.Basic.{if◌then◌else◌}
 use Rattle.pairs.specs.Index.{unbiased}
 
 -- digit j of a word of w digits is set where j passes

@@ -1,6 +1,6 @@
 -- What the programs say of a line: the name of its file, its number, the line.
-use Rattle.std.specs.Prelude.{ℕ, List, [], ◌∷◌, ◌++◌, leb, pos, length}
-use Rattle.stab.specs.Basic.{if◌then◌else◌, ◌and◌}
+use Rattle.std.specs.Prelude.{ℕ, List, [], ◌∷◌, ◌++◌, leb, pos, length, if◌then◌else◌}
+use Rattle.stab.specs.Basic.{◌and◌}
 use Rattle.stab.specs.Text.{bytes, newline, decimal}
 use Rattle.stab.specs.LineNumber.{line_of}
 use Rattle.stab.specs.declared.Fault.{Fault}

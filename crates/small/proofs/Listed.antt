@@ -1,4 +1,5 @@
 -- Which tables are on the list.
+use Rattle.std.specs.Prelude.{if◌then◌else◌}
 use Prim.Native.Nat.{ℕ, zero, suc, ◌+◌, ◌*◌, ◌-◌, ◌<◌, ◌≤◌}
 use native.Mathlib.Omega.{arith}
 use mathlib.Core.Path.{◌≡◌, refl, sym, ◌∙◌, ap, subst}
@@ -11,7 +12,7 @@ use lib.IntN.{ℤ, pos, negsuc, neg_ℤ}
 use lib.ListN.{length, get_or, take, drop, length-append, take-append-drop, drop_of_length-le, get_or-append}
 use lib.Seq.{drop-cons, drop_at, get_or-take, length-take-le}
 use borrow.Author.Tests.{leb-true, le-leb}
-use Rattle.stab.specs.Basic.{if◌then◌else◌, ◌and◌, eq_z, within, nat, below}
+use Rattle.stab.specs.Basic.{◌and◌, eq_z, within, nat, below}
 use Rattle.stab.specs.Formula.{Row, row_at, Kind, constant, literal, junction, iteration, unknown, kind_of, Formula, tree, is_body, mixes, is_outer, offset, well_formed_as, well_formed}
 use Rattle.stab.proofs.Bools.{and_left, and_right, and_both}
 use Rattle.stab.proofs.Scans.{below_suc}
@@ -146,7 +147,7 @@ module _ (r : ℕ) (x : List ℤ) where
 small_columns : (rows : ℕ → Row) (r : ℕ) (k a b c : ℤ)
     → (well_formed_as rows r (record { kind = k; a = a; b = b; c = c }) (kind_of k) and small_as (record { kind = k; a = a; b = b; c = c }) (kind_of k)) ≡ true
     → Memᴰ (k ∷ a ∷ b ∷ c ∷ []) (rows_for r)
-unfolding well_formed_as small_as kind_of if◌then◌else◌ eq_z ◌and◌
+unfolding well_formed_as small_as kind_of eq_z ◌and◌
 small_columns rows r (pos zero) a b c h = of_constants r _ (Memᴰ.head (constant_row_lem 0 a b c (and_left _ true h)))
 small_columns rows r (pos (suc zero)) a b c h = of_constants r _ (Memᴰ.tail (Memᴰ.head (constant_row_lem 1 a b c (and_left _ true h))))
 small_columns rows r (pos (suc (suc zero))) a b c h = of_literals_2 r _ (literal_row_lem 2 a b c h)

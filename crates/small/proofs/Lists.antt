@@ -1,4 +1,5 @@
 -- Laws of the lists that the list of small schemata is made of.
+use Rattle.std.specs.Prelude.{if◌then◌else◌}
 use Prim.Native.Nat.{ℕ, zero, suc, ◌<◌}
 use native.Mathlib.Omega.{arith}
 use mathlib.Core.Path.{◌≡◌, refl, sym, ◌∙◌, ap, subst}
@@ -7,7 +8,6 @@ use mathlib.Core.Bool.{Bool, true, false, true≢false}
 use mathlib.Core.List.Memᴰ
 use mathlib.Core.List.{List, [], ◌∷◌, ◌++◌, Memᴰ}
 use lib.IntN.{ℤ}
-use Rattle.stab.specs.Basic.{if◌then◌else◌}
 use Rattle.stab.proofs.Scans.{below_suc}
 use Rattle.small.specs.Small.{over_each, extended, extended_all, filtered}
 
@@ -15,7 +15,7 @@ use Rattle.small.specs.Small.{over_each, extended, extended_all, filtered}
 
 module _ (p : List ℤ → Bool) where
   pub filtered_in : (t : List ℤ) (ts : List (List ℤ)) → Memᴰ t ts → p t ≡ true → Memᴰ t (filtered p ts)
-  unfolding filtered if◌then◌else◌
+  unfolding filtered
   filtered_in t [] m h = absurd (Memᴰ.not-nil m)
   filtered_in t (u ∷ us) m h = go (p u) refl (λ k. filtered_in t us k h) (Memᴰ.cases_cons m)
     where
@@ -26,7 +26,7 @@ module _ (p : List ℤ → Bool) where
       go false e f (inr q) = f q
 
   pub filtered_out : (t : List ℤ) (ts : List (List ℤ)) → Memᴰ t (filtered p ts) → Memᴰ t ts × (p t ≡ true)
-  unfolding filtered if◌then◌else◌
+  unfolding filtered
   filtered_out t [] m = absurd (Memᴰ.not-nil m)
   filtered_out t (u ∷ us) m = go (p u) refl (filtered_out t us) m
     where
@@ -39,7 +39,7 @@ module _ (p : List ℤ → Bool) where
       go false e f k = (Memᴰ.tail (f k).0, (f k).1)
 
   pub filtered_none : (ts : List (List ℤ)) → ((t : List ℤ) → p t ≡ false) → filtered p ts ≡ []
-  unfolding filtered if◌then◌else◌
+  unfolding filtered
   filtered_none [] h = refl
   filtered_none (t ∷ ts) h =
       ap (λ (b : Bool). if b then t ∷ filtered p ts else filtered p ts) (h t) ∙ filtered_none ts h

@@ -1,4 +1,5 @@
 -- The next table on the list, and repeated calls.
+use Rattle.std.specs.Prelude.{if◌then◌else◌}
 use Prim.Native.Nat.{ℕ, zero, suc, ◌*◌, ◌≤◌}
 use native.Mathlib.Omega.{arith}
 use mathlib.Core.Path.{◌≡◌, refl, sym, ◌∙◌, ap, ap₂, subst}
@@ -11,7 +12,7 @@ use lib.IntN.{ℤ, pos}
 use lib.ListN.{length, take, replicate, length-take}
 use lib.Seq.{take_at}
 use borrow.Author.Tests.{le-leb}
-use Rattle.stab.specs.Basic.{if◌then◌else◌, ◌and◌, ◌or◌, eq_z, within, nat, below}
+use Rattle.stab.specs.Basic.{◌and◌, ◌or◌, eq_z, within, nat, below}
 use Rattle.stab.specs.Formula.{row_at, kind_of, base_of, part_if, part, decode, tree_n, tree, on_index, loose, fixed, is_body, is_outer, mixes, offset, well_formed_as, well_formed}
 use Rattle.stab.specs.Check.{whole_unless, holds}
 use Rattle.stab.specs.Text.{padded}
@@ -31,7 +32,7 @@ use Rattle.small.proofs.Listed.{listed_exactly, list_carried}
 -- ---- the first of an ascending list that comes after a table
 
 first_is : (t u : List ℤ) (us : List (List ℤ)) → Ascends us → first_after t us ≡ some u → NextIn us t u
-unfolding first_after if◌then◌else◌
+unfolding first_after
 first_is t u [] a h = absurd (none-ne-some u h)
 first_is t u (v ∷ us) a h = go (table_before t v) refl h (first_is t u us a.1)
   where
@@ -60,7 +61,7 @@ first_is t u (v ∷ us) a h = go (table_before t v) refl h (first_is t u us a.1)
         }
 
 is_first : (t u : List ℤ) (us : List (List ℤ)) → Ascends us → NextIn us t u → first_after t us ≡ some u
-unfolding first_after if◌then◌else◌
+unfolding first_after
 is_first t u [] a n = absurd (Memᴰ.not-nil n.listed)
 is_first t u (v ∷ us) a n = go (table_before t v) refl (Memᴰ.cases_cons n.listed) (is_first t u us a.1)
   where
@@ -71,7 +72,7 @@ is_first t u (v ∷ us) a n = go (table_before t v) refl (Memᴰ.cases_cons n.li
     go false e (inr m) ih = ih (record { listed = m; after = n.after; least = λ w k. n.least w (Memᴰ.tail k) })
 
 none_after : (t : List ℤ) (us : List (List ℤ)) → first_after t us ≡ none → (v : List ℤ) → Memᴰ v us → table_before t v ≡ false
-unfolding first_after if◌then◌else◌
+unfolding first_after
 none_after t [] h v m = absurd (Memᴰ.not-nil m)
 none_after t (u ∷ us) h v m = go (table_before t u) refl h (λ k. none_after t us k v)
   where
@@ -194,7 +195,7 @@ split_first (u ∷ us) t h = (us, let e : u ≡ t = cc in ap (λ (x : List ℤ).
 
 -- "the first table, which is all 0"
 pub first_zeros : (n : ℕ) → 1 ≤ n → n ≤ 3 → first_of (small_tables n) ≡ some (replicate (4 * n) (pos 0))
-unfolding if◌then◌else◌ ◌and◌ ◌or◌ eq_z within nat below row_at kind_of base_of part_if part decode tree_n tree on_index loose fixed is_body is_outer mixes offset well_formed_as well_formed small_as is_small all_small on_list over_each row_of literal_rows junction_rows iteration_rows rows_for extended extended_all tables filtered small_tables
+unfolding ◌and◌ ◌or◌ eq_z within nat below row_at kind_of base_of part_if part decode tree_n tree on_index loose fixed is_body is_outer mixes offset well_formed_as well_formed small_as is_small all_small on_list over_each row_of literal_rows junction_rows iteration_rows rows_for extended extended_all tables filtered small_tables
 first_zeros zero l m = absurd (omega arith)
 first_zeros (suc zero) l m = refl
 first_zeros (suc (suc zero)) l m = refl

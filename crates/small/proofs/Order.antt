@@ -1,4 +1,5 @@
 -- The order of tables, and that the list is ascending by it.
+use Rattle.std.specs.Prelude.{if◌then◌else◌}
 use Prim.Native.Nat.{ℕ, zero, suc, ◌*◌, ◌<◌, ◌≤◌}
 use native.Mathlib.Omega.{arith}
 use native.Mathlib.Decide.{dec_le}
@@ -12,7 +13,7 @@ use lib.IntN.{ℤ}
 use lib.ListN.{length, length-append}
 use lib.Signed.{lt_z}
 use borrow.Author.Tests.{eqb-true, lt-leb}
-use Rattle.stab.specs.Basic.{if◌then◌else◌, ◌and◌, ◌or◌, eq_z, all_of}
+use Rattle.stab.specs.Basic.{◌and◌, ◌or◌, eq_z, all_of}
 use Rattle.stab.proofs.Bools.{and_left, and_right, and_both, and_first_false, and_second_false, or_cases, or_left, or_right, or_false, or_first_false, and_first_true}
 use Rattle.stab.proofs.Whole.{atom, of_lt, not_lt_of, eq_z_true, eq_z_refl}
 use Rattle.stab.proofs.Scans.{all_use}
@@ -119,7 +120,7 @@ extended_all_ascends k (t ∷ ts) ws same a b =
     ∙ before_append t q.0 p.0 q.2 (same t (Memᴰ.head refl) ∙ sym (same q.0 (Memᴰ.tail q.1))) (a.0 q.0 q.1))
 
 filtered_ascends : (p : List ℤ → Bool) (ts : List (List ℤ)) → Ascends ts → Ascends (filtered p ts)
-unfolding filtered if◌then◌else◌
+unfolding filtered
 filtered_ascends p [] a = tt
 filtered_ascends p (t ∷ ts) a = go (p t) (filtered_ascends p ts a.1)
   where
@@ -131,7 +132,7 @@ filtered_ascends p (t ∷ ts) a = go (p t) (filtered_ascends p ts a.1)
 
 -- ascending, each of four numbers
 rows_ascend : (r : ℕ) → r < 3 → ascending (rows_for r) ≡ true
-unfolding ascending all_of table_before if◌then◌else◌ ◌and◌ ◌or◌ eq_z over_each row_of literal_rows junction_rows iteration_rows rows_for
+unfolding ascending all_of table_before ◌and◌ ◌or◌ eq_z over_each row_of literal_rows junction_rows iteration_rows rows_for
 rows_ascend zero l = refl
 rows_ascend (suc zero) l = refl
 rows_ascend (suc (suc zero)) l = refl

@@ -1,9 +1,10 @@
 -- Trials of the definitions. Each expected answer is worked out from the text of 02.
+use Rattle.std.specs.Prelude.{if◌then◌else◌}
 use Prim.Native.Nat.{ℕ}
 use mathlib.Core.Path.{◌≡◌, refl}
 use mathlib.Core.List.{List, [], ◌∷◌, ◌++◌}
 use lib.IntN.{ℤ, pos, negsuc}
-use Rattle.stab.specs.Basic.{if◌then◌else◌, ◌and◌, ◌or◌, eq_z, within, nat, below, ◌otherwise◌, unless}
+use Rattle.stab.specs.Basic.{◌and◌, ◌or◌, eq_z, within, nat, below, ◌otherwise◌, unless}
 use Rattle.stab.specs.Formula.{row_at, kind_of, base_of, part_if, part, decode, tree_n, tree, on_index, loose, fixed, is_body, is_outer, mixes, offset, well_formed_as, well_formed}
 use Rattle.stab.specs.Check.{whole_unless, holds}
 use Rattle.stab.specs.Text.{padded}
@@ -49,6 +50,6 @@ pub trials :
     -- a table too short goes first, the result table too
     × answered 2 (zeros 9) (Refused TableTooShort Whole) (zeros 0 ++ zeros 0)
     × (next_small 3 (zeros 0 ++ zeros 0 ++ zeros 0) 11 ≡ Refused TableTooShort Whole)
-unfolding if◌then◌else◌ ◌and◌ ◌or◌ eq_z within nat below ◌otherwise◌ unless row_at kind_of base_of part_if part decode tree_n tree on_index loose fixed is_body is_outer mixes offset well_formed_as well_formed whole_unless holds padded small_as is_small all_small on_list table_before over_each row_of literal_rows junction_rows iteration_rows rows_for extended extended_all tables filtered small_tables first_after next_table next_refusal next_or next_by next_small numbers_or next_numbers next_small_table
+unfolding ◌and◌ ◌or◌ eq_z within nat below ◌otherwise◌ unless row_at kind_of base_of part_if part decode tree_n tree on_index loose fixed is_body is_outer mixes offset well_formed_as well_formed whole_unless holds padded small_as is_small all_small on_list table_before over_each row_of literal_rows junction_rows iteration_rows rows_for extended extended_all tables filtered small_tables first_after next_table next_refusal next_or next_by next_small numbers_or next_numbers next_small_table
 trials =
     ((refl, refl), (refl, refl), (refl, refl), (refl, refl), (refl, refl), (refl, refl), (refl, refl), (refl, refl), (refl, refl), (refl, refl), (refl, refl), (refl, refl), (refl, refl), (refl, refl), (refl, refl), refl, (refl, refl), refl)

@@ -1,8 +1,8 @@
 -- 02, No. 14: all small schemata.
-use Rattle.std.specs.Prelude.{ℕ, zero, suc, ◌*◌, ◌-◌, Bool, true, false, List, [], ◌∷◌, ◌++◌, leb, ℤ, pos, neg_ℤ, take}
+use Rattle.std.specs.Prelude.{ℕ, zero, suc, ◌*◌, ◌-◌, Bool, true, false, List, [], ◌∷◌, ◌++◌, leb, ℤ, pos, neg_ℤ, take, if◌then◌else◌}
 use Rattle.std.proofs.Math.Option.{Option, none, some}
 use Rattle.std.specs.Int.Signed.{lt_z}
-use Rattle.stab.specs.Basic.{if◌then◌else◌, ◌and◌, ◌or◌, eq_z, within, ◌otherwise◌}
+use Rattle.stab.specs.Basic.{◌and◌, ◌or◌, eq_z, within, ◌otherwise◌}
 use Rattle.stab.specs.Formula.{Row, row_at, Kind, kind_of, constant, literal, junction, iteration, unknown, tree, is_outer, well_formed}
 use Rattle.stab.specs.Check.{whole_unless, holds}
 use Rattle.stab.specs.Text.{padded}

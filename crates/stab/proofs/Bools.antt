@@ -1,8 +1,9 @@
 -- Laws of the tests that the definitions are made of.
+use Rattle.std.specs.Prelude.{if◌then◌else◌}
 use mathlib.Core.Path.{◌≡◌, refl, sym, ◌∙◌, ap}
 use mathlib.Core.Logic.{◌⊎◌, inl, inr}
 use mathlib.Core.Bool.{Bool, true, false, not, true≢false, false≢true}
-use Rattle.stab.specs.Basic.{if◌then◌else◌, ◌and◌, ◌or◌, ◌implies◌, ◌otherwise◌, unless}
+use Rattle.stab.specs.Basic.{◌and◌, ◌or◌, ◌implies◌, ◌otherwise◌, unless}
 use Rattle.stab.specs.declared.Place.{Place}
 use Rattle.stab.specs.declared.Refusal.{Refusal}
 use Rattle.stab.specs.declared.Finding.{Finding}
@@ -102,12 +103,10 @@ decide true = inl refl
 decide false = inr refl
 
 pub if_true : {A : Type 0} (a : Bool) (x y : A) → a ≡ true → (if a then x else y) ≡ x
-unfolding if◌then◌else◌
 if_true true x y h = refl
 if_true false x y h = absurd (false≢true h)
 
 pub if_false : {A : Type 0} (a : Bool) (x y : A) → a ≡ false → (if a then x else y) ≡ y
-unfolding if◌then◌else◌
 if_false true x y h = absurd (true≢false h)
 if_false false x y h = refl
 

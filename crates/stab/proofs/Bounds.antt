@@ -1,4 +1,5 @@
 -- A node's bound is made of its parent's; children stand where the count of children says.
+use Rattle.std.specs.Prelude.{if◌then◌else◌}
 use Prim.Native.Nat.{ℕ, zero, suc, ◌<◌}
 use native.Mathlib.Omega.{arith}
 use mathlib.Core.Path.{◌≡◌, refl, sym, ◌∙◌, ap}
@@ -6,7 +7,7 @@ use mathlib.Core.Logic.{⊎_elim}
 use mathlib.Core.Bool.{Bool, true, false}
 use mathlib.Core.List.{List}
 use lib.IntN.{ℤ, pos}
-use Rattle.stab.specs.Basic.{if◌then◌else◌, nat, below, count}
+use Rattle.stab.specs.Basic.{nat, below, count}
 use Rattle.stab.specs.Node.{Tableau, Node, node_at, node, child_bound, first_bound, inherit_if, inherit_n, inherited, bound_of, rank}
 use Rattle.stab.specs.Keeps.{KeepsParent}
 use Rattle.stab.proofs.Whole.{num, less, of_eq}
@@ -65,7 +66,7 @@ bound_child nodes least j h = inherit_child (first_bound least) child_bound node
 -- ---- the m-th of those that are counted
 
 pub counted : (p : ℕ → Bool) (n m : ℕ) → m < count p n → (i : ℕ) × (i < n) × (p i ≡ true) × (count p i ≡ m)
-unfolding count if◌then◌else◌
+unfolding count
 counted p zero m h = absurd (omega arith)
 counted p (suc n) m h = go (p n) refl h (λ k. counted p n m k)
   where

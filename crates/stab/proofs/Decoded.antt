@@ -1,10 +1,11 @@
 -- The formula of a well-formed row, kind by kind.
+use Rattle.std.specs.Prelude.{if◌then◌else◌}
 use Prim.Native.Nat.{ℕ, zero, suc, ◌<◌}
 use native.Mathlib.Omega.{arith}
 use mathlib.Core.Path.{◌≡◌, refl, sym, ◌∙◌, ap, ap₂, subst}
 use mathlib.Core.Bool.{Bool, true, false, false≢true}
 use lib.IntN.{ℤ, pos}
-use Rattle.stab.specs.Basic.{if◌then◌else◌, eq_z, nat, below}
+use Rattle.stab.specs.Basic.{eq_z, nat, below}
 use Rattle.stab.specs.Formula.{Row, Op, conj, disj, Kind, constant, literal, junction, iteration, unknown, kind_of, base_of, Formula, const, lit, join, iter, decode, tree, well_formed_as, well_formed, offset, is_body}
 use Rattle.stab.proofs.Bools.{and_left, and_right}
 use Rattle.stab.proofs.Trees.{tree_is, part_of, below_nat}
@@ -13,7 +14,7 @@ use Rattle.stab.proofs.Meanings.{Proper}
 -- ---- the eight kinds by their numbers
 
 kinds_are : (kind_of (pos 0) ≡ constant true) × (kind_of (pos 1) ≡ constant false) × (kind_of (pos 2) ≡ literal true) × (kind_of (pos 3) ≡ literal false) × (kind_of (pos 4) ≡ junction conj) × (kind_of (pos 5) ≡ junction disj) × (kind_of (pos 6) ≡ iteration conj) × (kind_of (pos 7) ≡ iteration disj)
-unfolding kind_of if◌then◌else◌ eq_z
+unfolding kind_of eq_z
 kinds_are = (refl, refl, refl, refl, refl, refl, refl, refl)
 
 module _ {z : ℤ} where

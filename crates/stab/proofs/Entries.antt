@@ -1,5 +1,6 @@
 -- What the text entries give fits into the numbers that they give: the counts of what is read, the places of refusals, the bytes of a text,
 -- the line at fault.
+use Rattle.std.specs.Prelude.{if◌then◌else◌, ltb}
 use Prim.Native.Nat.{ℕ, suc, ◌+◌, ◌-◌, ◌*◌, ◌/◌, ◌%◌, ◌≤◌, ◌<◌}
 use native.Mathlib.Omega.{arith}
 use mathlib.Core.Path.{◌≡◌, refl, sym, ◌∙◌, ap}
@@ -10,7 +11,7 @@ use lib.Dec.{leb, eqb}
 use lib.IntN.{ℤ, pos, ◌-ℤ◌}
 use lib.ListN.{length}
 use borrow.Author.Tests.{leb-true}
-use Rattle.stab.specs.Basic.{if◌then◌else◌, ◌and◌, ◌otherwise◌, nat}
+use Rattle.stab.specs.Basic.{◌and◌, ◌otherwise◌, nat}
 use Rattle.stab.specs.Text.{Line, lines, numbers, text_limit}
 use Rattle.stab.specs.Read.{Reading, read, stopped, ◌and_then◌, require, heading_at, values_of, values, values_at, rows_from, nodes_from, proof_rows_from, read_schema_lines, read_proof_lines, read_model_lines, read_text, read_schema, read_proof, read_model, schema_answer, proof_answer, model_answer}
 use Rattle.stab.specs.Write.{writing_of, writing, output_refusal, written, write_refusal}
@@ -96,7 +97,6 @@ stops_nodes b m start k (l ∷ ls) near =
     (λ rest. tt)))
 
 stops_if : {A : Type 0} (b : ℕ) (t : Bool) (x y : Reading A) → Stops b x → Stops b y → Stops b (if t then x else y)
-unfolding if◌then◌else◌
 stops_if b true x y h g = h
 stops_if b false x y h g = g
 
@@ -233,7 +233,6 @@ written_read_back (WriteRefused why p) h =
 -- ---- where a refusal points: on a line below 16384, and read back from its number
 
 if_fits : (b : ℕ) (t : Bool) (f g : Fault) → f.line < b → g.line < b → (if t then f else g).line < b
-unfolding if◌then◌else◌
 if_fits b true f g h k = h
 if_fits b false f g h k = k
 
@@ -241,9 +240,9 @@ check_points_fit : (S P : ℕ) → P ≤ 1024 → (why : Refusal) (k : ℕ) → 
 unfolding check_points row_fault no_fault in_first in_second schema_row_line proof_row_line node_line
 check_points_fit S P few why k h =
     if_fits 16384 (among 7 8 why) _ _
-    (if_fits 16384 _ _ _ (omega arith) (omega arith))
+    (if_fits 16384 (ltb k S) _ _ (omega arith) (omega arith))
     (if_fits 16384 (among 9 17 why) _ _ (omega arith)
-    (if_fits 16384 (among 27 27 why) _ _ (if_fits 16384 _ _ _ (omega arith) (omega arith)) (omega arith)))
+    (if_fits 16384 (among 27 27 why) _ _ (if_fits 16384 (ltb k S) _ _ (omega arith) (omega arith)) (omega arith)))
 
 model_points_fit : (why : Refusal) (k : ℕ) → k + 1 < 8192 → (model_points why k).line < 16384
 unfolding model_points no_fault in_first in_second schema_row_line pair_line
@@ -278,7 +277,6 @@ model_fault_fits schema model =
     (λ a b e. verdict_fits model_points model_points_fit (check_model (model_of a b)) (model_packs _))
 
 fault_parts : (second : Bool) (n : ℕ) → (eqb ((2 * n + (if second then 1 else 0)) % 2) 1 ≡ second) × ((2 * n + (if second then 1 else 0)) / 2 ≡ n)
-unfolding if◌then◌else◌
 fault_parts true n = let e : (2 * n + 1) % 2 ≡ 1 = omega arith in (ap (λ (x : ℕ). eqb x 1) e, omega arith)
 fault_parts false n = let e : (2 * n + 0) % 2 ≡ 0 = omega arith in (ap (λ (x : ℕ). eqb x 1) e, omega arith)
 
@@ -310,7 +308,6 @@ packed_below (Refused why Whole) h = omega (arith, packed_refusal why Whole, (nu
 packed_below (Refused why (At k)) h = omega (arith, packed_refusal why (At k), (number_range why).1)
 
 if_one : (t : Bool) → (if t then 1 else 0) ≤ 1
-unfolding if◌then◌else◌
 if_one true = omega arith
 if_one false = omega arith
 

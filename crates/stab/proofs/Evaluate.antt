@@ -1,22 +1,6 @@
 -- Opens every definition that computes: a fact under `unfolding evaluated` is computed by the checker.
-use Rattle.stab.specs.Basic.{
-  if◌then◌else◌,
-  ◌and◌,
-  ◌or◌,
-  ◌implies◌,
-  eq_z,
-  within,
-  nat,
-  below,
-  has,
-  all_of,
-  ascending,
-  same_list,
-  count,
-  ◌otherwise◌,
-  scan,
-  unless,
-}
+use Rattle.std.specs.Prelude.{if◌then◌else◌}
+use Rattle.stab.specs.Basic.{◌and◌, ◌or◌, ◌implies◌, eq_z, within, nat, below, has, all_of, ascending, same_list, count, ◌otherwise◌, scan, unless}
 use Rattle.stab.specs.Formula.{
   row_at,
   formula_rows,
@@ -287,5 +271,5 @@ use Rattle.stab.specs.Program.{
 }
 
 unfoldable pub evaluated : {A : Type 0} → A → A
-unfolding if◌then◌else◌ ◌and◌ ◌or◌ ◌implies◌ eq_z within nat below has all_of ascending same_list count ◌otherwise◌ scan unless row_at formula_rows kind_of base_of part_if part decode tree_n tree size depth on_index loose fixed is_body is_outer mixes offset well_formed_as well_formed small_enough base signed op empty over range_size value truth lower_base lower instance_lit instance eq_bool eq_op eq_base alike rows row_count is_row row formula node_at node set_of set set_start set_end set_follows is_outer_row set_fits parent_fits names child_count_of child_count rank is_upper is_exact split_at split_bound child_bound first_bound inherit_if inherit_n inherited bound_of bound unused entry rule_table rule_of rule of_rule one_of given drawn_from drawn kind_fits on_stands other_fits link_fits symbol_fits fields_fit target_fits stays_below split_fits unfold_fits index_at clash_fits void_fits upper_fits loop_fits bound_fits shortened is_instance partners_fit is_lowered has_lowered lowered_fits children_fit children_held children_as whole_unless at_unless holds row_refusal root_fits same_row stands_before repeat_refusal formula_refusal formulas_refusal schema_refusal set_refusal parent_refusal step_refusal node_refusal tables_hold within_limits enough_nodes present_mode older_mode is_link link_count verdict refusal verdict_on check check_older check_as pair_symbol pair_index pair_in_range pair_before pair_follows is_pair listed assignment pair_refusal satisfied model_refusal check_model bytes same_bytes newline in_front lines space minus zero_digit is_digit digits_value is_natural some_if number_of into_field fields in_front_of numbers_in numbers digits_n five_digits decimal row_line heading_line schema_heading row_heading node_heading model_heading pair_heading text_limit padded ◌and_then◌ require heading_at values_of values values_at rows_from read_schema_lines starts_with_u node_numbers nodes_from proof_rows_from read_proof_lines read_model_lines read_text read_schema read_proof read_model table_of schema_answer schema_table proof_answer proof_table node_table member_table model_answer pair_table row_lines node_values node_lines schema_text proof_text model_text rows_writable node_writable nodes_writable sets_writable write_refusal output_refusal writing_of writing write_schema write_proof write_model written output empty_start span_from line_span spanned line_of schema_row_line proof_row_line node_line refused_numbers verdict_numbers schema_numbers proof_numbers model_numbers written_numbers one_number packed printed tableau_of model_of after_reading check_texts model_texts check_program model_program
+unfolding ◌and◌ ◌or◌ ◌implies◌ eq_z within nat below has all_of ascending same_list count ◌otherwise◌ scan unless row_at formula_rows kind_of base_of part_if part decode tree_n tree size depth on_index loose fixed is_body is_outer mixes offset well_formed_as well_formed small_enough base signed op empty over range_size value truth lower_base lower instance_lit instance eq_bool eq_op eq_base alike rows row_count is_row row formula node_at node set_of set set_start set_end set_follows is_outer_row set_fits parent_fits names child_count_of child_count rank is_upper is_exact split_at split_bound child_bound first_bound inherit_if inherit_n inherited bound_of bound unused entry rule_table rule_of rule of_rule one_of given drawn_from drawn kind_fits on_stands other_fits link_fits symbol_fits fields_fit target_fits stays_below split_fits unfold_fits index_at clash_fits void_fits upper_fits loop_fits bound_fits shortened is_instance partners_fit is_lowered has_lowered lowered_fits children_fit children_held children_as whole_unless at_unless holds row_refusal root_fits same_row stands_before repeat_refusal formula_refusal formulas_refusal schema_refusal set_refusal parent_refusal step_refusal node_refusal tables_hold within_limits enough_nodes present_mode older_mode is_link link_count verdict refusal verdict_on check check_older check_as pair_symbol pair_index pair_in_range pair_before pair_follows is_pair listed assignment pair_refusal satisfied model_refusal check_model bytes same_bytes newline in_front lines space minus zero_digit is_digit digits_value is_natural some_if number_of into_field fields in_front_of numbers_in numbers digits_n five_digits decimal row_line heading_line schema_heading row_heading node_heading model_heading pair_heading text_limit padded ◌and_then◌ require heading_at values_of values values_at rows_from read_schema_lines starts_with_u node_numbers nodes_from proof_rows_from read_proof_lines read_model_lines read_text read_schema read_proof read_model table_of schema_answer schema_table proof_answer proof_table node_table member_table model_answer pair_table row_lines node_values node_lines schema_text proof_text model_text rows_writable node_writable nodes_writable sets_writable write_refusal output_refusal writing_of writing write_schema write_proof write_model written output empty_start span_from line_span spanned line_of schema_row_line proof_row_line node_line refused_numbers verdict_numbers schema_numbers proof_numbers model_numbers written_numbers one_number packed printed tableau_of model_of after_reading check_texts model_texts check_program model_program
 evaluated a = a

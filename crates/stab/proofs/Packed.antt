@@ -1,11 +1,12 @@
 -- The one number that provers get: its parts do not run into one another and are read back, its answer is 0 exactly for an acceptance,
 -- and demand 3 holds of it.
+use Rattle.std.specs.Prelude.{if◌then◌else◌}
 use Prim.Native.Nat.{ℕ, ◌+◌, ◌*◌, ◌/◌, ◌%◌, ◌<◌, ◌≤◌}
 use native.Mathlib.Omega.{arith}
 use mathlib.Core.Path.{◌≡◌, refl, ◌∙◌, ap}
 use mathlib.Core.Bool.{Bool, true, false}
 use lib.IntN.{pos, ◌+ℤ◌, ◌-ℤ◌}
-use Rattle.stab.specs.Basic.{if◌then◌else◌, nat}
+use Rattle.stab.specs.Basic.{nat}
 use Rattle.stab.specs.Node.{Tableau, schema_of}
 use Rattle.stab.specs.Check.{refusal, present_mode, older_mode, verdict_on, check, check_older, check_as, verdict, link_count}
 use Rattle.stab.specs.Model.{Model, model_refusal, check_model}
@@ -84,7 +85,7 @@ older_packs T =
     packs_of T (refusal older_mode T) (λ e. ((older_clears T).0 e).tables.node_limit) (of_refusal older_mode T)
 
 pub checked_packs : (older : Bool) (T : Tableau) → Packs (check_as older T)
-unfolding check_as if◌then◌else◌
+unfolding check_as
 checked_packs true T = older_packs T
 checked_packs false T = check_packs T
 

@@ -1,4 +1,5 @@
 -- A line is its row: in a text that is read, the line with a row's number is the text of that row as writing gives it.
+use Rattle.std.specs.Prelude.{if◌then◌else◌}
 use Prim.Native.Nat.{ℕ, zero, suc, ◌+◌, ◌-◌, ◌*◌, ◌/◌, ◌<◌}
 use native.Mathlib.Omega.{arith}
 use native.Mathlib.Nat.{add-zero, zero-add, mul-zero}
@@ -9,7 +10,7 @@ use lib.Dec.{leb}
 use lib.IntN.{ℤ}
 use lib.ListN.{length, take, drop, length-append}
 use lib.Seq.{drop-drop, take_at, drop-append_seam, take-append_seam}
-use Rattle.stab.specs.Basic.{if◌then◌else◌, ◌and◌}
+use Rattle.stab.specs.Basic.{◌and◌}
 use Rattle.stab.specs.Text.{newline, lines, row_line, heading_line, schema_heading, row_heading, node_heading, model_heading, pair_heading, lacks}
 use Rattle.stab.specs.Read.{read, SchemaText, ProofText, ModelText, read_schema_lines, read_proof_lines, read_model_lines, read_schema, read_proof, read_model}
 use Rattle.stab.specs.Write.{row_lines, node_values, node_lines, schema_text, proof_text, model_text}
@@ -145,7 +146,7 @@ module _ (a : List ℕ) (k : ℕ) (vs : List ℤ) (rest : List ℕ) (h : Lined a
       ap (λ (n : ℕ). span_from 0 (suc n) (lines (a ++ (row_line vs ++ rest)))) (sym (add-zero k))
       ∙ h 0 0 (row_line vs ++ rest)
       ∙ ap₂ (λ (n : ℕ) (ls : List _). span_from n 1 ls) (zero-add (length a)) (lines_row vs rest)
-      ∙ (unfold span_from full if◌then◌else◌ in refl)
+      ∙ (unfold span_from full in refl)
 
   line_after : LineIs (a ++ (row_line vs ++ rest)) (suc k) (row_line vs)
   unfolding line_of spanned newline

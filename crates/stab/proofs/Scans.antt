@@ -1,4 +1,5 @@
 -- The laws of an ascending scan: what holds of each number passed, and what the first finding is.
+use Rattle.std.specs.Prelude.{if◌then◌else◌}
 use Prim.Native.Nat.{ℕ, zero, suc, ◌+◌, ◌<◌, ◌≤◌}
 use native.Mathlib.Omega.{arith}
 use native.Mathlib.Numerals.{add-one}
@@ -8,7 +9,7 @@ use mathlib.Core.Bool.{Bool, true, false, false≢true}
 use mathlib.Core.List.Memᴰ
 use mathlib.Core.List.{List, [], ◌∷◌, Memᴰ}
 use lib.IntN.{ℤ}
-use Rattle.stab.specs.Basic.{if◌then◌else◌, ◌otherwise◌, scan, count, has, all_of, eq_z}
+use Rattle.stab.specs.Basic.{◌otherwise◌, scan, count, has, all_of, eq_z}
 use Rattle.stab.specs.declared.Place.{Place}
 use Rattle.stab.specs.declared.Refusal.{Refusal}
 use Rattle.stab.specs.declared.Finding.{Finding}
@@ -81,16 +82,16 @@ scan_longer f m n l h = let k = scan_first f m h in scan_found f n k.0 (omega (a
 -- ---- counting
 
 pub count_true : (p : ℕ → Bool) (i : ℕ) → p i ≡ true → count p (i + 1) ≡ count p i + 1
-unfolding count if◌then◌else◌
+unfolding count
 count_true p i h =
     ap (count p) (add-one i) ∙ ap (λ (b : Bool). if b then suc (count p i) else count p i) h ∙ sym (add-one (count p i))
 
 pub count_false : (p : ℕ → Bool) (i : ℕ) → p i ≡ false → count p (i + 1) ≡ count p i
-unfolding count if◌then◌else◌
+unfolding count
 count_false p i h = ap (count p) (add-one i) ∙ ap (λ (b : Bool). if b then suc (count p i) else count p i) h
 
 pub count_le : (p : ℕ → Bool) (n : ℕ) → count p n ≤ n
-unfolding count if◌then◌else◌
+unfolding count
 count_le p zero = omega arith
 count_le p (suc n) = go (p n) (count p n) (count_le p n)
   where

@@ -1,4 +1,5 @@
 -- Each test of the definitions passes exactly if the statement that it stands for holds.
+use Rattle.std.specs.Prelude.{if◌then◌else◌}
 use Prim.Native.Nat.{ℕ, ◌≤◌, ◌<◌}
 use mathlib.Core.Path.{◌≡◌, refl, ◌∙◌, ap, ap₂}
 use mathlib.Core.Logic.Iff
@@ -9,7 +10,7 @@ use lib.Dec.{leb, ltb, eqb}
 use lib.IntN.{ℤ, pos}
 use lib.Signed.{le_z, lt_z, ◌≤ℤ◌, ◌<ℤ◌}
 use borrow.Author.Tests.{le-leb, leb-true, lt-ltb, ltb-true, eq-eqb, eqb-true}
-use Rattle.stab.specs.Basic.{if◌then◌else◌, ◌and◌, ◌or◌, ◌implies◌, eq_z, within, below, has, all_of, ascending, same_list, ◌otherwise◌, scan, unless}
+use Rattle.stab.specs.Basic.{◌and◌, ◌or◌, ◌implies◌, eq_z, within, below, has, all_of, ascending, same_list, ◌otherwise◌, scan, unless}
 use Rattle.stab.specs.Formula.{Row}
 use Rattle.stab.specs.Check.{same_row, whole_unless, at_unless}
 use Rattle.stab.specs.declared.Place.{Place}
@@ -49,7 +50,6 @@ pub not_tests : (a : Bool) → not a tests (a ≡ false)
 not_tests a = (false_of_not a, not_of_false a)
 
 pub if_tests : {a b : Bool} {A B : Type 0} (c : Bool) → a tests A → b tests B → (if c then a else b) tests ((c ≡ true → A) × (c ≡ false → B))
-unfolding if◌then◌else◌
 if_tests true e f = (λ h. (λ c. e.0 h, λ c. absurd (true≢false c)), λ p. e.1 (p.0 refl))
 if_tests false e f = (λ h. (λ c. absurd (false≢true c), λ c. f.0 h), λ p. f.1 (p.1 refl))
 

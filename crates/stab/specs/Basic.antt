@@ -1,16 +1,11 @@
 -- What the paper takes for granted: conjunction and choice, tests on whole numbers, counting and searching below a number.
-use Rattle.std.specs.Prelude.{ℕ, zero, suc, Bool, true, false, List, [], ◌∷◌, eqb, ℤ, pos, negsuc}
+use Rattle.std.specs.Prelude.{ℕ, zero, suc, Bool, true, false, List, [], ◌∷◌, eqb, ℤ, pos, negsuc, if◌then◌else◌}
 use Rattle.std.proofs.Math.Option.{Option, none, or_else}
 use Rattle.std.specs.Int.Signed.{le_z, lt_z}
 use Rattle.stab.specs.declared.Place.{Place}
 use Rattle.stab.specs.declared.Refusal.{Refusal}
 use Rattle.stab.specs.declared.Finding.{Finding}
 use Rattle.stab.specs.declared.Finding.TheVariants.{Nothing, Found}
-
-infixr 20 if◌then◌else◌
-unfoldable pub if◌then◌else◌ : {A : Type 0} → Bool → A → A → A
-if true then x else y = x
-if false then x else y = y
 
 infixr 35 ◌and◌
 unfoldable pub ◌and◌ : Bool → Bool → Bool

@@ -1,8 +1,8 @@
 -- What the theorems of 02, Nos. 3 to 6 hold the older check against: the same check with a test or two of a node replaced. No entry rests on
 -- these definitions, only those theorems do.
-use Rattle.std.specs.Prelude.{ℕ, zero, suc, ◌≡◌, Bool, true, false, not, List, [], ◌∷◌, leb, ℤ, pos, ◌+ℤ◌, ◌-ℤ◌}
+use Rattle.std.specs.Prelude.{ℕ, zero, suc, ◌≡◌, Bool, true, false, not, List, [], ◌∷◌, leb, ℤ, pos, ◌+ℤ◌, ◌-ℤ◌, if◌then◌else◌}
 use Rattle.std.specs.Int.Signed.{le_z, lt_z}
-use Rattle.stab.specs.Basic.{if◌then◌else◌, ◌and◌, ◌or◌, ◌implies◌, eq_z, nat, below, all_of, ◌otherwise◌, scan}
+use Rattle.stab.specs.Basic.{◌and◌, ◌or◌, ◌implies◌, eq_z, nat, below, all_of, ◌otherwise◌, scan}
 use Rattle.stab.specs.Formula.{Row, Formula, const, lit, join, iter}
 use Rattle.stab.specs.Alike.{lower, instance, eq_bool, eq_op, eq_base}
 use Rattle.stab.specs.Node.{Tableau, Node, rows, row_count, row, formula, node_at, node, set, is_exact, inherited, bound}

@@ -1,6 +1,6 @@
 -- 01, "Turning records away": checking tables; 02, Nos. 7 and 9. The order of refusals is the order of the lines below.
-use Rattle.std.specs.Prelude.{ℕ, zero, suc, ◌*◌, Bool, true, false, not, List, leb, eqb, ltb, ℤ, pos, length}
-use Rattle.stab.specs.Basic.{if◌then◌else◌, ◌and◌, ◌or◌, ◌implies◌, eq_z, within, nat, below, count, ◌otherwise◌, scan, unless}
+use Rattle.std.specs.Prelude.{ℕ, zero, suc, ◌*◌, Bool, true, false, not, List, leb, eqb, ltb, ℤ, pos, length, if◌then◌else◌}
+use Rattle.stab.specs.Basic.{◌and◌, ◌or◌, ◌implies◌, eq_z, within, nat, below, count, ◌otherwise◌, scan, unless}
 use Rattle.stab.specs.Formula.{Row, row_at, Schema, tree, is_outer, well_formed, small_enough}
 use Rattle.stab.specs.Node.{Tableau, rows, row_count, set_end, set_fits, parent_fits, node_at}
 use Rattle.stab.specs.Rule.{of_rule, drawn, fields_fit, target_fits, bound_fits, partners_fit, lowered_fits, children_as}

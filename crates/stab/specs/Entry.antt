@@ -1,6 +1,5 @@
 -- What the text entries give: the one number, and the numbers that were read, in lent results; of two texts also where a refusal points.
-use Rattle.std.specs.Prelude.{ℕ, ◌+◌, ◌*◌, ◌/◌, ◌%◌, ◌≤◌, List, [], ◌∷◌, eqb, ℤ, pos}
-use Rattle.stab.specs.Basic.{if◌then◌else◌}
+use Rattle.std.specs.Prelude.{ℕ, ◌+◌, ◌*◌, ◌/◌, ◌%◌, ◌≤◌, List, [], ◌∷◌, eqb, ℤ, pos, if◌then◌else◌}
 use Rattle.stab.specs.Answer.{WrittenNumbers, one_number, packed, answer_in, place_in, Packs, schema_numbers, proof_numbers, model_numbers, written_numbers}
 use Rattle.stab.specs.declared.Verdict.{Verdict}
 use Rattle.stab.specs.declared.Verdict.TheVariants.{Refused}

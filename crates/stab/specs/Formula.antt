@@ -1,6 +1,6 @@
 -- 01, "Formula rows".
-use Rattle.std.specs.Prelude.{ℕ, zero, suc, ◌+◌, ◌*◌, ◌-◌, max, Bool, true, false, not, List, ltb, leb, ℤ, pos, neg_ℤ, get_or}
-use Rattle.stab.specs.Basic.{if◌then◌else◌, ◌and◌, ◌or◌, eq_z, within, nat, below}
+use Rattle.std.specs.Prelude.{ℕ, zero, suc, ◌+◌, ◌*◌, ◌-◌, max, Bool, true, false, not, List, ltb, leb, ℤ, pos, neg_ℤ, get_or, if◌then◌else◌}
+use Rattle.stab.specs.Basic.{◌and◌, ◌or◌, eq_z, within, nat, below}
 
 -- ---- rows
 

@@ -1,8 +1,8 @@
 -- 01, "Nodes and their bounds"; 02, No. 5.
-use Rattle.std.specs.Prelude.{ℕ, zero, suc, ◌+◌, ◌*◌, ◌≤◌, Bool, true, false, List, [], ◌∷◌, eqb, ℤ, pos, neg_ℤ, ◌+ℤ◌, get_or, take, drop}
+use Rattle.std.specs.Prelude.{ℕ, zero, suc, ◌+◌, ◌*◌, ◌≤◌, Bool, true, false, List, [], ◌∷◌, eqb, ℤ, pos, neg_ℤ, ◌+ℤ◌, get_or, take, drop, if◌then◌else◌}
 use Rattle.std.proofs.Math.Option.{Option, none, some}
 use Rattle.std.specs.Int.Signed.{le_z}
-use Rattle.stab.specs.Basic.{if◌then◌else◌, ◌and◌, eq_z, nat, below, all_of, ascending, same_list, count}
+use Rattle.stab.specs.Basic.{◌and◌, eq_z, nat, below, all_of, ascending, same_list, count}
 use Rattle.stab.specs.Formula.{Row, Schema, formula_rows, Formula, tree, is_outer}
 
 -- What the check is lent: tables of numbers, with how many rows or members each is said to hold.

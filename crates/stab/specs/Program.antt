@@ -1,6 +1,6 @@
 -- 01, "A whole record, and its neighbours": what the programs print; "Model, texts, lines": where a refusal points.
-use Rattle.std.specs.Prelude.{ℕ, ◌/◌, Bool, true, false, List, [], ◌∷◌, ◌++◌, leb, ltb, pos, length}
-use Rattle.stab.specs.Basic.{if◌then◌else◌, ◌and◌}
+use Rattle.std.specs.Prelude.{ℕ, ◌/◌, Bool, true, false, List, [], ◌∷◌, ◌++◌, leb, ltb, pos, length, if◌then◌else◌}
+use Rattle.stab.specs.Basic.{◌and◌}
 use Rattle.stab.specs.Node.{Tableau}
 use Rattle.stab.specs.Check.{check_as}
 use Rattle.stab.specs.Model.{Model, check_model}

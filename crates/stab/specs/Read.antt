@@ -1,7 +1,7 @@
 -- 01, "Turning records away": reading a text. What is read, or the refusal and its line; and what the lent tables then hold.
-use Rattle.std.specs.Prelude.{ℕ, suc, ◌+◌, ◌-◌, ◌/◌, Bool, true, false, List, [], ◌∷◌, ◌++◌, leb, eqb, ℤ, pos, length, take, drop, get_or}
+use Rattle.std.specs.Prelude.{ℕ, suc, ◌+◌, ◌-◌, ◌/◌, Bool, true, false, List, [], ◌∷◌, ◌++◌, leb, eqb, ℤ, pos, length, take, drop, get_or, if◌then◌else◌}
 use Rattle.std.proofs.Math.Option.{Option, none, some}
-use Rattle.stab.specs.Basic.{if◌then◌else◌, ◌and◌}
+use Rattle.stab.specs.Basic.{◌and◌}
 use Rattle.stab.specs.Text.{Line, lines, same_bytes, numbers, schema_heading, row_heading, node_heading, model_heading, pair_heading, text_limit, padded}
 use Rattle.stab.specs.declared.Place.TheVariants.{At}
 use Rattle.stab.specs.declared.Refusal.{Refusal}

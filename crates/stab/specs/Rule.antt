@@ -1,10 +1,10 @@
 -- 01, "The rules"; 02, Nos. 3 to 7.
-use Rattle.std.specs.Prelude.{ℕ, zero, suc, Bool, leb, eqb, ℤ, pos, neg_ℤ, ◌+ℤ◌, ◌-ℤ◌, get_or}
+use Rattle.std.specs.Prelude.{ℕ, zero, suc, Bool, leb, eqb, ℤ, pos, neg_ℤ, ◌+ℤ◌, ◌-ℤ◌, get_or, if◌then◌else◌}
 use Rattle.std.proofs.Math.Bool.{true, false}
 use mathlib.Core.List.{List, [], ◌∷◌}
 use Rattle.std.proofs.Math.Option.{Option, none, some}
 use Rattle.std.specs.Int.Signed.{le_z, lt_z}
-use Rattle.stab.specs.Basic.{if◌then◌else◌, ◌and◌, ◌or◌, ◌implies◌, eq_z, nat, below, has, all_of}
+use Rattle.stab.specs.Basic.{◌and◌, ◌or◌, ◌implies◌, eq_z, nat, below, has, all_of}
 use Rattle.stab.specs.Formula.{Row, base_of}
 use Rattle.stab.specs.Meaning.{base}
 use Rattle.stab.specs.Alike.{lower, instance, alike}

@@ -1,7 +1,7 @@
 -- 02, No. 2: a search in a list that ends at the first member not below the number sought.
-use Rattle.std.specs.Prelude.{ℕ, zero, suc, Bool, false, List, [], ◌∷◌, ℤ}
+use Rattle.std.specs.Prelude.{ℕ, zero, suc, Bool, false, List, [], ◌∷◌, ℤ, if◌then◌else◌}
 use Rattle.std.specs.Int.Signed.{lt_z}
-use Rattle.stab.specs.Basic.{if◌then◌else◌, eq_z}
+use Rattle.stab.specs.Basic.{eq_z}
 
 -- "it is to end at the first member not below the row sought, in any list, and give that place, or the list's length if there is none"
 unfoldable pub place_of : ℤ → List ℤ → ℕ

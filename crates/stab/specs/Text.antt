@@ -1,9 +1,9 @@
 -- 01, "Model, texts, lines": numbers, lines, headings.
-use Rattle.std.specs.Prelude.{ℕ, zero, suc, ◌+◌, ◌*◌, ◌-◌, ◌/◌, ◌%◌, Bool, true, false, not, List, [], ◌∷◌, ◌++◌, leb, ltb, eqb, ℤ, pos, negsuc, neg_ℤ, length, replicate}
+use Rattle.std.specs.Prelude.{ℕ, zero, suc, ◌+◌, ◌*◌, ◌-◌, ◌/◌, ◌%◌, Bool, true, false, not, List, [], ◌∷◌, ◌++◌, leb, ltb, eqb, ℤ, pos, negsuc, neg_ℤ, length, replicate, if◌then◌else◌}
 use Prim.Native.Char.{code}
 use Prim.Native.String.{String, [] as «end», ◌∷◌ as ◌then◌}
 use Rattle.std.proofs.Math.Option.{Option, none, some}
-use Rattle.stab.specs.Basic.{if◌then◌else◌, ◌and◌, all_of}
+use Rattle.stab.specs.Basic.{◌and◌, all_of}
 
 -- the bytes of a text that is written out here
 unfoldable pub bytes : String → List ℕ

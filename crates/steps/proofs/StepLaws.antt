@@ -1,10 +1,11 @@
 -- A node's tests in the paper's order: what is found where one fails, and where none does.
+use Rattle.std.specs.Prelude.{if◌then◌else◌}
 use Prim.Native.Nat.{ℕ, zero, suc}
 use native.Mathlib.Omega.{arith}
 use mathlib.Core.Path.{◌≡◌, refl, sym, ◌∙◌, ap}
 use mathlib.Core.Bool.{Bool, true, false}
 use lib.Dec.{eqb, leb}
-use Rattle.stab.specs.Basic.{if◌then◌else◌, ◌otherwise◌, all_of, nat}
+use Rattle.stab.specs.Basic.{◌otherwise◌, all_of, nat}
 use Rattle.stab.specs.Node.{Tableau, node, set, rank, child_count}
 use Rattle.stab.specs.Rule.{drawn, drawn_from, fields_fit, target_fits, bound_fits, partners_fit, lowered_fits, rule, children_fit, children_held, children_as}
 use Rattle.stab.specs.Check.{at_unless, step_refusal, node_refusal}
@@ -107,7 +108,7 @@ module _ (T : Tableau) (j : ℕ) where
 
 -- a number of children that is the node's
 pub children_are : (whole : Bool) (T : Tableau) (j : ℕ) {n : ℕ} → n ≡ child_count T j → (if whole then eqb n (rule T j).children else leb n (rule T j).children) ≡ children_as whole T j
-unfolding children_as children_fit children_held if◌then◌else◌
+unfolding children_as children_fit children_held
 children_are true T j e = ap (λ (m : ℕ). eqb m (rule T j).children) e
 children_are false T j e = ap (λ (m : ℕ). leb m (rule T j).children) e
 

@@ -1,6 +1,6 @@
 // The judgement of nodes, one by one: refusals 11 to 17.
-ghost use Rattle.std.specs.Prelude.{◌≡◌, true, ◌+◌, ◌*◌, ◌<◌, ◌≤◌, ◌^◌, eqb, leb, length, get_or};
-ghost use Rattle.stab.specs.Basic.{if◌then◌else◌, ◌implies◌, nat, below, scan};
+ghost use Rattle.std.specs.Prelude.{◌≡◌, true, ◌+◌, ◌*◌, ◌<◌, ◌≤◌, ◌^◌, eqb, leb, length, get_or, if◌then◌else◌};
+ghost use Rattle.stab.specs.Basic.{◌implies◌, nat, below, scan};
 ghost use Rattle.stab.specs.Formula.{formula_rows};
 ghost use Rattle.stab.specs.Node.{node_at};
 ghost use Rattle.stab.specs.Rule.{rule_of, of_rule, drawn, lowered_fits};

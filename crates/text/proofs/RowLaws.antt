@@ -1,4 +1,5 @@
 -- Rows of a text, as the definitions have them and as they are stored.
+use Rattle.std.specs.Prelude.{if◌then◌else◌}
 use Prim.Native.Nat.{ℕ, suc, ◌+◌, ◌*◌, ◌-◌, ◌<◌, ◌≤◌}
 use native.Mathlib.Omega.{arith}
 use native.Mathlib.Numerals.{add-one}
@@ -11,7 +12,6 @@ use lib.IntN.{ℤ}
 use lib.ListN.{length, take, drop, get_or, length-append, length-drop, drop_of_length-le, get_or-append}
 use lib.Seq.{sets, sets-eq, length-sets, take_at, take_all, length-take-le, drop-cons, drop-drop}
 use borrow.Author.Tests.{eqb-true, eq-eqb, ne_eqb, le-leb, lt-leb}
-use Rattle.stab.specs.Basic.{if◌then◌else◌}
 use Rattle.stab.specs.Text.{Line, lines, fields, in_front_of, number_of, numbers_in, numbers, some_if}
 use Rattle.stab.specs.Read.{Reading, read, stopped, ◌and_then◌, require, values_of, values, values_at, rows_from}
 use Rattle.stab.specs.declared.Refusal.{Refusal}
@@ -33,7 +33,7 @@ front_length (some z) (some ws) vs h = omega (arith, ap length (some-injective (
 
 -- a row has a number
 pub row_length : (xs : List ℕ) (vs : List ℤ) → row xs ≡ some vs → 1 ≤ length vs
-unfolding row numbers if◌then◌else◌
+unfolding row numbers
 row_length xs vs h = go (first_line xs).ended h
   where
     go : (t : Bool) → (if t then numbers_in (fields (first_line xs).content) else none) ≡ some vs → 1 ≤ length vs
@@ -148,7 +148,7 @@ unfolding row_into
 into_none text at w to t h = sym (ap (λ (vs : List ℤ). sets t to (take w vs)) h ∙ ap (sets t to) (take_all w [] (omega arith)))
 
 pub first_over : (text : List ℕ) (at : ℕ) → length text ≤ at → first_numbers (drop at text) ≡ []
-first_over text at l = ap first_numbers (drop_of_length-le text l) ∙ first_none [] (unfold number_here field_end if◌then◌else◌ in refl)
+first_over text at l = ap first_numbers (drop_of_length-le text l) ∙ first_none [] (unfold number_here field_end in refl)
 
 pub into_over : (text : List ℕ) (at w to : ℕ) (t : List ℤ) → length text ≤ at → t ≡ row_into text at w to t
 into_over text at w to t l = into_none text at w to t (first_over text at l)
@@ -161,7 +161,7 @@ line_read k none = stopped BadLine k
 line_read k (some vs) = read vs
 
 pub values_are : (fits : ℕ → Bool) (k : ℕ) (xs : List ℕ) → values fits k (first_line xs) ≡ line_read k (wanted fits (row xs))
-unfolding values row require if◌then◌else◌
+unfolding values row require
 values_are fits k xs = go (first_line xs).ended (numbers (first_line xs).content)
   where
     count : (t : Bool) (vs : List ℤ) → require t BadLine k (read vs) ≡ line_read k (some_if t vs)
@@ -288,7 +288,7 @@ then_stops r f why k h = ap (λ s. s and_then f) h
 values_at_lem : (fits : ℕ → Bool) (k : ℕ) (xs : List ℕ)
     → values_at fits k (lines xs) ≡ (line_read k (wanted fits (row xs)) and_then λ vs. read (vs, lines (after_line xs)))
 unfolding values_at ◌and_then◌
-values_at_lem fits k [] = ap (values_at fits k) lines_nil ∙ unfold line_read wanted row first_line if◌then◌else◌ in refl
+values_at_lem fits k [] = ap (values_at fits k) lines_nil ∙ unfold line_read wanted row first_line in refl
 values_at_lem fits k (x ∷ xs) =
     ap (values_at fits k) (lines_first x xs)
     ∙ ap (λ (r : Reading (List ℤ)). r and_then λ vs. read (vs, lines (after_line (x ∷ xs)))) (values_are fits k (x ∷ xs))

@@ -1,4 +1,5 @@
 -- The step of the line reader: the functions' parts of it, and what it keeps.
+use Rattle.std.specs.Prelude.{if◌then◌else◌}
 use Prim.Native.Nat.{ℕ, ◌+◌, ◌*◌, ◌-◌, ◌<◌, ◌≤◌}
 use native.Mathlib.Omega.{arith}
 use mathlib.Core.Path.{◌≡◌, refl, sym, ◌∙◌, ap, ap₂, subst}
@@ -10,7 +11,7 @@ use lib.IntN.{ℤ, pos}
 use lib.ListN.{length, drop, get_or, set, drop_of_length-le}
 use lib.Seq.{sets, length-sets, drop-cons}
 use borrow.Author.Tests.{eqb-true, eqb-false, eq-eqb, ne_eqb, leb-true, leb-false, le-leb, lt-leb, ltb-true, ltb-false, lt-ltb, le-ltb}
-use Rattle.stab.specs.Basic.{if◌then◌else◌, ◌or◌}
+use Rattle.stab.specs.Basic.{◌or◌}
 use Rattle.stab.specs.Text.{node_heading, is_digit}
 use Rattle.stab.specs.Read.{node_numbers}
 use Rattle.stab.proofs.Bools.{and_second_false, or_left, or_right, or_false, if_true, if_false, decide}
@@ -63,7 +64,7 @@ module _ (text : List ℕ) (at j k : ℕ) where
   unfolding wanted
   node_over l =
       node_is text at [] 0 [] k [] [] Nothing
-      (ap (λ (xs : List ℕ). wanted (leb 7) (row xs)) (drop_of_length-le text l) ∙ ap (wanted (leb 7)) (row_none [] (unfold number_here field_end if◌then◌else◌ in refl)))
+      (ap (λ (xs : List ℕ). wanted (leb 7) (row xs)) (drop_of_length-le text l) ∙ ap (wanted (leb 7)) (row_none [] (unfold number_here field_end in refl)))
 
   pub nodes_end : (u : List ℤ) → length text ≤ at → u ≡ nodes_by text at j k u (node_found text at k)
   unfolding nodes_by

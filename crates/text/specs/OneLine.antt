@@ -1,8 +1,8 @@
 -- One step of the line reader: what the line at a place comes to where p is awaited, the place where the reader then stands, and what the lent tables then hold.
 -- It stands after that line's byte 10 where a line is awaited next, and stays where it was otherwise.
-use Rattle.std.specs.Prelude.{ℕ, ◌+◌, ◌*◌, ◌≡◌, List, eqb, leb, ltb, ℤ, length, drop, get_or}
+use Rattle.std.specs.Prelude.{ℕ, ◌+◌, ◌*◌, ◌≡◌, List, eqb, leb, ltb, ℤ, length, drop, get_or, if◌then◌else◌}
 use Rattle.std.proofs.lemmas.List.Edits.{sets}
-use Rattle.stab.specs.Basic.{if◌then◌else◌, ◌or◌}
+use Rattle.stab.specs.Basic.{◌or◌}
 use Rattle.stab.specs.Text.{schema_heading, row_heading, node_heading, model_heading, pair_heading}
 use Rattle.stab.specs.Read.{node_numbers}
 use Rattle.numerals.specs.Here.{first_numbers}

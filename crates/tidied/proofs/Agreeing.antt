@@ -1,4 +1,5 @@
 -- Node tables that agree in parents, rules and by: ranks, children and bounds are the same.
+use Rattle.std.specs.Prelude.{if◌then◌else◌}
 use Prim.Native.Nat.{ℕ, zero, suc, ◌<◌}
 use native.Mathlib.Omega.{arith}
 use mathlib.Core.Path.{◌≡◌, refl, sym, ◌∙◌, ap, ap₂}
@@ -6,7 +7,7 @@ use mathlib.Core.Logic.{⊎_elim}
 use mathlib.Core.Bool.{Bool, false}
 use mathlib.Core.List.{List}
 use lib.IntN.{ℤ, pos}
-use Rattle.stab.specs.Basic.{if◌then◌else◌, eq_z, nat, below, count}
+use Rattle.stab.specs.Basic.{eq_z, nat, below, count}
 use Rattle.stab.specs.Node.{Node, node_at, names, child_count_of, rank, Bound, split_at, split_bound, child_bound, bound_of}
 use Rattle.stab.proofs.Bools.{decide, if_false}
 use Rattle.stab.proofs.Trees.{below_nat}

@@ -1,4 +1,5 @@
 -- A record whose rows stand under new numbers in another: what a node keeps of the rules, it keeps there.
+use Rattle.std.specs.Prelude.{if◌then◌else◌}
 use Prim.Native.Nat.{ℕ, zero, suc, ◌<◌}
 use native.Mathlib.Omega.{arith}
 use mathlib.Core.Path.{◌≡◌, refl, sym, ◌∙◌, ap, subst}
@@ -9,7 +10,7 @@ use mathlib.Core.List.{List, [], ◌∷◌, Memᴰ}
 use mathlib.Core.Option.{some}
 use lib.IntN.{ℤ, pos, ◌+ℤ◌, pos-ne-negsuc}
 use lib.Signed.{◌<ℤ◌}
-use Rattle.stab.specs.Basic.{if◌then◌else◌, eq_z, nat, below}
+use Rattle.stab.specs.Basic.{eq_z, nat, below}
 use Rattle.stab.specs.Formula.{Row, Op, conj, disj, Kind, literal, junction, iteration, kind_of, tree, well_formed}
 use Rattle.stab.specs.Alike.{lower}
 use Rattle.stab.specs.Node.{Tableau, Bound, rows, row_count, row, formula, node, set, bound, child_count}
@@ -55,7 +56,6 @@ chosen : (f : ℤ → ℤ) (z : ℤ) (p q r s : Bool) {k l m n k' l' m' n' : Lis
     → (Memᴰ z m → Memᴰ (f z) m') → (Memᴰ z n → Memᴰ (f z) n')
     → Memᴰ z (if p then k else if q then l else if r then m else if s then n else [])
     → Memᴰ (f z) (if p then k' else if q then l' else if r then m' else if s then n' else [])
-unfolding if◌then◌else◌
 chosen f z true q r s ha hb hc hd g = ha refl g
 chosen f z false true r s ha hb hc hd g = hb refl g
 chosen f z false false true s ha hb hc hd g = hc g

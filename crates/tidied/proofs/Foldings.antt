@@ -1,4 +1,5 @@
 -- Folding: each row stands under its new number with its parts put through, each row that stays is one of them, and none stands twice.
+use Rattle.std.specs.Prelude.{if◌then◌else◌}
 use Prim.Native.Nat.{ℕ, zero, suc, ◌+◌, ◌*◌, ◌-◌, ◌<◌, ◌≤◌}
 use native.Mathlib.Omega.{arith}
 use mathlib.Core.Path.{◌≡◌, refl, sym, ◌∙◌, ap, ap₂, subst}
@@ -11,7 +12,7 @@ use lib.IntN.{ℤ, pos}
 use lib.ListN.{length, get_or, take, length-append, get_or-append}
 use lib.Seq.{get_or-append-add, get_or_at, get_or-take}
 use borrow.Author.Tests.{lt-ltb, ltb-true, ltb-false}
-use Rattle.stab.specs.Basic.{if◌then◌else◌, nat, below, first}
+use Rattle.stab.specs.Basic.{nat, below, first}
 use Rattle.stab.specs.Formula.{Row, row_at, formula_rows, Kind, constant, literal, junction, iteration, unknown, kind_of, well_formed_as, well_formed}
 use Rattle.stab.specs.Check.{same_row}
 use Rattle.stab.proofs.Bools.{decide, and_left, and_right, if_true, if_false}
@@ -33,7 +34,7 @@ module _ (rows : ℕ → Row) (w : Row) where
       none-ne-some q (sym (none_search (λ r. if same_row (rows r) w then some r else none) n h q l) ∙ if_true (same_row (rows q) w) _ _ ((same_row_tests (rows q) w).1 e))
 
   pub earliest_some : (n q : ℕ) → earliest rows n w ≡ some q → (q < n) × (rows q ≡ w)
-  unfolding earliest first or_else if◌then◌else◌
+  unfolding earliest first or_else
   earliest_some zero q h = absurd (none-ne-some q h)
   earliest_some (suc n) q h = go (first (λ r. if same_row (rows r) w then some r else none) n) (earliest_some n q) h
     where

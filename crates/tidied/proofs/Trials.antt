@@ -1,10 +1,11 @@
 -- The definitions of No. 10 computed on a small record, worked out by hand. Of its proof rows 3 to 8, row 4 repeats row 3; row 6 repeats
 -- row 5 only once its part, row 4, has its new number; row 7 repeats schema row 0; node 1's set holds both copies of row 3.
+use Rattle.std.specs.Prelude.{if◌then◌else◌}
 use mathlib.Core.Path.{◌≡◌, refl}
 use mathlib.Core.List.{List, [], ◌∷◌}
 use lib.IntN.{ℤ, pos, negsuc}
 use mathlib.Core.Option.{or_else}
-use Rattle.stab.specs.Basic.{if◌then◌else◌, ◌and◌, eq_z, nat, first}
+use Rattle.stab.specs.Basic.{◌and◌, eq_z, nat, first}
 use Rattle.stab.specs.Formula.{row_at, formula_rows, kind_of}
 use Rattle.stab.specs.Node.{Tableau, node_at, node, set_of, set}
 use Rattle.stab.specs.Check.{same_row}
@@ -43,10 +44,10 @@ record_before = record {
 
 -- rows 3, 5 and 8 stay, as rows 3, 4 and 5
 folded_rows : folding_of record_before ≡ record { table = row (pos 2) (pos 1) (pos 1) (pos 0) (row (pos 4) (pos 0) (pos 3) (pos 0) (row (pos 5) (pos 4) (pos 0) (pos 0) [])); count = 3; numbers = 3 ∷ 3 ∷ 4 ∷ 4 ∷ 0 ∷ 5 ∷ [] }
-unfolding record_before row folding_of folding fold_next fold_row folded_into earliest new_number renumbered renumbered_as through columns row_at formula_rows kind_of same_row if◌then◌else◌ ◌and◌ eq_z nat first or_else
+unfolding record_before row folding_of folding fold_next fold_row folded_into earliest new_number renumbered renumbered_as through columns row_at formula_rows kind_of same_row ◌and◌ eq_z nat first or_else
 folded_rows = refl
 
 -- of 3, 4, 7 and 8 the set keeps 0, 3 and 5; on, with and other go through; -1, up and to stay
 tidied_record : ((tidied record_before).nodes ≡ node_row none (pos 0) (pos 2) none none none (pos 0) (pos 0) (pos 1) (node_row (pos 0) (pos 6) (pos 0) (pos 3) (pos 5) none (pos 0) (pos 1) (pos 3) [])) × ((tidied record_before).members ≡ pos 2 ∷ pos 0 ∷ pos 3 ∷ pos 5 ∷ []) × ((tidied record_before).member_count ≡ 4)
-unfolding record_before row none tidied tidy_nodes tidy_node tidy_members tidy_set insert_member new_of folding_of folding fold_next fold_row folded_into earliest new_number renumbered renumbered_as through columns row_at formula_rows kind_of same_row node_at node set_of set if◌then◌else◌ ◌and◌ eq_z nat first or_else
+unfolding record_before row none tidied tidy_nodes tidy_node tidy_members tidy_set insert_member new_of folding_of folding fold_next fold_row folded_into earliest new_number renumbered renumbered_as through columns row_at formula_rows kind_of same_row node_at node set_of set ◌and◌ eq_z nat first or_else
 tidied_record = (refl, refl, refl)

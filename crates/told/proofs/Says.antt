@@ -1,11 +1,11 @@
 -- The numbers of the check, of the older check and of the model check say what demands 2 and 3 ask, of tables and of texts.
+use Rattle.std.specs.Prelude.{if◌then◌else◌}
 use Prim.Native.Nat.{ℕ}
 use native.Mathlib.Omega.{arith}
 use mathlib.Core.Path.{◌≡◌, refl, sym, ◌∙◌, ap, ap₂, subst}
 use mathlib.Core.Logic.{◌↔◌}
 use mathlib.Core.Bool.{Bool, true, false}
 use mathlib.Core.List.{List}
-use Rattle.stab.specs.Basic.{if◌then◌else◌}
 use Rattle.stab.specs.Node.{Tableau}
 use Rattle.stab.specs.Check.{link_count, check, check_older, check_as}
 use Rattle.stab.specs.Model.{Model, check_model}
@@ -99,7 +99,7 @@ accepted_read judge (read a) (stopped why k) n l e = let z : ◌≡◌ {A = ℕ}
 accepted_read judge (stopped why k) s n l e = let z : ◌≡◌ {A = ℕ} 0 1 = cc in absurd (omega arith)
 
 says_as : (older : Bool) (T : Tableau) → SaysOf T (KeepsAs older T) (packed (check_as older T))
-unfolding check_as if◌then◌else◌
+unfolding check_as
 says_as true T = older_says_lem T
 says_as false T = check_says_lem T
 

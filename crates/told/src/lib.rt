@@ -1,8 +1,7 @@
 // What the entries tell: the answer of a call as the one number, and the numbers that go with it in lent results, all 0 after a refusal.
 #![tactic(auto)]
 
-ghost use Rattle.std.specs.Prelude.{◌≡◌, [], ◌∷◌, pos, ◌≤◌, ◌<◌};
-ghost use Rattle.stab.specs.Basic.{if◌then◌else◌};
+ghost use Rattle.std.specs.Prelude.{◌≡◌, [], ◌∷◌, pos, ◌≤◌, ◌<◌, if◌then◌else◌};
 ghost use Rattle.stab.specs.Answer.{Packs};
 ghost use Rattle.stab.specs.Entry.{schema_packed, schema_results, proof_packed, proof_results, model_packed, model_results, written_packed, SchemaFits, ProofFits, ModelFits, WrittenFits, fault_number, texts_packed};
 ghost use Rattle.found.specs.Find.{found_numbers, found_packed, found_results, found_verdict};

@@ -1,4 +1,5 @@
 -- The value of a row by its columns, and of a range by its parts.
+use Rattle.std.specs.Prelude.{if◌then◌else◌}
 use Prim.Native.Nat.{ℕ, zero, suc, ◌+◌, ◌-◌, ◌<◌, ◌≤◌}
 use native.Mathlib.Omega.{arith}
 use native.Mathlib.Nat.{add-zero, add-suc}
@@ -8,7 +9,7 @@ use mathlib.Core.List.{List}
 use mathlib.Core.Bool.{Bool, true, false, not, beq, true≢false, false≢true}
 use lib.Dec.{eqb}
 use lib.IntN.{ℤ, pos, negsuc, ◌+ℤ◌, ◌-ℤ◌, +ℤ_idl}
-use Rattle.stab.specs.Basic.{if◌then◌else◌, ◌and◌, ◌or◌, eq_z, nat, below, within}
+use Rattle.stab.specs.Basic.{◌and◌, ◌or◌, eq_z, nat, below, within}
 use Rattle.stab.specs.Formula.{Row, Op, conj, disj, Kind, constant, literal, junction, iteration, unknown, kind_of, nothing, parameter, index, base_of, Formula, decode, tree, offset, is_body, mixes, well_formed_as, well_formed}
 use Rattle.stab.specs.Meaning.{Assignment, base, signed, op, empty, over, range_size, value}
 use Rattle.stab.proofs.Bools.{and_left, and_right, if_true, if_false}
@@ -23,7 +24,7 @@ use Rattle.pairs.proofs.Parts.{within_under, within_nat, unbiased_zero, unbiased
 -- ---- kinds by their numbers
 
 kind_nat : (z : ℤ) → (kind_of z ≡ unknown → ⊥) → kind_of z ≡ kind_of (pos (nat z))
-unfolding kind_of if◌then◌else◌ eq_z nat
+unfolding kind_of eq_z nat
 kind_nat (pos m) h = refl
 kind_nat (negsuc m) h = absurd (h refl)
 
@@ -36,13 +37,13 @@ kind_small z h = go (dec_lt (nat z) 8)
     go (no p) = absurd (h (kind_nat z h ∙ unknown_kind (nat z) (omega arith)))
 
 constant_number : (m : ℕ) → m < 2 → kind_of (pos m) ≡ constant (eqb m 0)
-unfolding kind_of if◌then◌else◌ eq_z
+unfolding kind_of eq_z
 constant_number zero h = refl
 constant_number (suc zero) h = refl
 constant_number (suc (suc m)) h = absurd (omega arith)
 
 literal_number : (m : ℕ) → 2 ≤ m → m < 4 → kind_of (pos m) ≡ literal (eqb m 2)
-unfolding kind_of if◌then◌else◌ eq_z
+unfolding kind_of eq_z
 literal_number zero l h = absurd (omega arith)
 literal_number (suc zero) l h = absurd (omega arith)
 literal_number (suc (suc zero)) l h = refl
@@ -50,7 +51,7 @@ literal_number (suc (suc (suc zero))) l h = refl
 literal_number (suc (suc (suc (suc m)))) l h = absurd (omega arith)
 
 junction_number : (m : ℕ) → 4 ≤ m → m < 6 → kind_of (pos m) ≡ junction (op_of (eqb m 5))
-unfolding kind_of if◌then◌else◌ eq_z op_of
+unfolding kind_of eq_z op_of
 junction_number zero l h = absurd (omega arith)
 junction_number (suc zero) l h = absurd (omega arith)
 junction_number (suc (suc zero)) l h = absurd (omega arith)
@@ -60,7 +61,7 @@ junction_number (suc (suc (suc (suc (suc zero))))) l h = refl
 junction_number (suc (suc (suc (suc (suc (suc m)))))) l h = absurd (omega arith)
 
 iteration_number : (m : ℕ) → 6 ≤ m → m < 8 → kind_of (pos m) ≡ iteration (op_of (eqb m 7))
-unfolding kind_of if◌then◌else◌ eq_z op_of
+unfolding kind_of eq_z op_of
 iteration_number zero l h = absurd (omega arith)
 iteration_number (suc zero) l h = absurd (omega arith)
 iteration_number (suc (suc zero)) l h = absurd (omega arith)
@@ -190,7 +191,7 @@ base_index n i z h k = ap (base n i) (if_false (eq_z z (pos 0)) nothing _ h ∙ 
 
 -- the same by the number that says it: one below 2 leaves i out
 pub base_fixed : (n : ℕ) (i j z : ℤ) → within (pos 0) (pos 2) z ≡ true → nat z < 2 → base n i (base_of z) ≡ base n j (base_of z)
-unfolding base base_of if◌then◌else◌ eq_z nat within ◌and◌
+unfolding base base_of eq_z nat within ◌and◌
 base_fixed n i j (pos zero) h l = refl
 base_fixed n i j (pos (suc zero)) h l = refl
 base_fixed n i j (pos (suc (suc m))) h l = absurd (omega arith)

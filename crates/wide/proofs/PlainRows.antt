@@ -1,9 +1,10 @@
 -- The rows that wide rows give: their formulas, and when they are well formed.
+use Rattle.std.specs.Prelude.{if◌then◌else◌}
 use Prim.Native.Nat.{ℕ, ◌<◌}
 use mathlib.Core.Path.{◌≡◌, refl, ◌∙◌, ap, ap₂}
 use mathlib.Core.Bool.{Bool, true, false, not}
 use lib.IntN.{ℤ, pos}
-use Rattle.stab.specs.Basic.{if◌then◌else◌, ◌and◌, eq_z, within, nat}
+use Rattle.stab.specs.Basic.{◌and◌, eq_z, within, nat}
 use Rattle.stab.specs.Formula.{Row, Op, conj, disj, Kind, constant, literal, junction, iteration, kind_of, base_of, Formula, const, lit, join, iter, part, decode, tree, is_body, mixes, offset, well_formed_as, well_formed}
 use Rattle.stab.proofs.Bools.{and_left, and_right, and_both}
 use Rattle.stab.proofs.Trees.{below_of, part_of, tree_is}
@@ -12,22 +13,22 @@ use Rattle.wide.specs.Plain.{row, constant_row, literal_row, join_row, iter_row}
 -- ---- a plain row's kind
 
 constant_kind : (v : Bool) → kind_of (constant_row v).kind ≡ constant v
-unfolding constant_row row kind_of if◌then◌else◌ eq_z
+unfolding constant_row row kind_of eq_z
 constant_kind true = refl
 constant_kind false = refl
 
 literal_kind : (v : Bool) (w : Row) → kind_of (literal_row v w).kind ≡ literal v
-unfolding literal_row row kind_of if◌then◌else◌ eq_z
+unfolding literal_row row kind_of eq_z
 literal_kind true w = refl
 literal_kind false w = refl
 
 join_kind : (o : Op) (f g : ℕ) → kind_of (join_row o f g).kind ≡ junction o
-unfolding join_row row kind_of if◌then◌else◌ eq_z
+unfolding join_row row kind_of eq_z
 join_kind conj f g = refl
 join_kind disj f g = refl
 
 iter_kind : (o : Op) (f : ℕ) (b c : ℤ) → kind_of (iter_row o f b c).kind ≡ iteration o
-unfolding iter_row row kind_of if◌then◌else◌ eq_z
+unfolding iter_row row kind_of eq_z
 iter_kind conj f b c = refl
 iter_kind disj f b c = refl
 

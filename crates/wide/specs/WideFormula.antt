@@ -1,6 +1,6 @@
 -- 02, No. 1: wide rows. "A wide schema text adds kinds 8 not (a), 9 implies, 10 equivalent, 11 exclusive or (a, b); unused columns are 0."
-use Rattle.std.specs.Prelude.{ℕ, zero, suc, ◌+◌, max, Bool, true, false, not, leb, ℤ, pos}
-use Rattle.stab.specs.Basic.{if◌then◌else◌, ◌and◌, ◌or◌, eq_z, within, nat, below}
+use Rattle.std.specs.Prelude.{ℕ, zero, suc, ◌+◌, max, Bool, true, false, not, leb, ℤ, pos, if◌then◌else◌}
+use Rattle.stab.specs.Basic.{◌and◌, ◌or◌, eq_z, within, nat, below}
 use Rattle.stab.specs.Formula.{Row, row_at, Schema, Op, Base, Kind, unknown, kind_of, constant, literal, junction, iteration, base_of, on_index, offset}
 
 -- ---- the kinds

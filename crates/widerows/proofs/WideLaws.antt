@@ -1,4 +1,5 @@
 -- Laws of wide rows: their kinds by number, and what is kept of them.
+use Rattle.std.specs.Prelude.{if◌then◌else◌}
 use Prim.Native.Nat.{ℕ, zero, suc, ◌+◌, ◌*◌, ◌<◌, ◌≤◌}
 use native.Mathlib.Omega.{arith}
 use mathlib.Core.Path.{◌≡◌, refl, sym, ◌∙◌, ap, ap₂, subst}
@@ -9,7 +10,7 @@ use lib.Dec.{leb}
 use lib.ListN.{length}
 use lib.IntN.{ℤ, pos, negsuc, neg_ℤ}
 use borrow.Author.Tests.{leb-true}
-use Rattle.stab.specs.Basic.{if◌then◌else◌, ◌and◌, eq_z, nat, below, unless}
+use Rattle.stab.specs.Basic.{◌and◌, eq_z, nat, below, unless}
 use Rattle.stab.specs.Formula as F
 use Rattle.stab.specs.Formula.{Row, Op, Kind, constant, literal, junction, iteration, unknown, kind_of, decode, tree, offset, well_formed_as}
 use Rattle.stab.specs.Check.{at_unless}
@@ -35,7 +36,7 @@ use Rattle.widerows.specs.WideRows.{wide_facts_of, not_facts, not_judged, wide_j
 -- ---- kinds
 
 pub kind_negative : (z : ℤ) → 0 < nat (neg_ℤ z) → wide_kind_of (pos 12) ≡ wide_kind_of z
-unfolding wide_kind_of kind_of eq_z if◌then◌else◌ nat
+unfolding wide_kind_of kind_of eq_z nat
 kind_negative (pos zero) h = absurd (omega arith)
 kind_negative (pos (suc n)) h = absurd (omega arith)
 kind_negative (negsuc n) h = refl
@@ -62,12 +63,12 @@ pub no_kind : (k : ℕ) → 12 ≤ k → wide_kind_of (pos k) ≡ plain unknown
 no_kind k h = other_kind k (λ e. omega arith) (λ e. omega arith) (λ e. omega arith) (λ e. omega arith) ∙ ap plain (unknown_kind k (omega arith))
 
 pub negation_kind : (k : ℕ) → 8 ≤ k → k < 9 → wide_kind_of (pos k) ≡ negation
-unfolding wide_kind_of eq_z if◌then◌else◌
+unfolding wide_kind_of eq_z
 negation_kind k l h = let e : k ≡ 8 = omega arith in ap (λ (m : ℕ). wide_kind_of (pos m)) e
 
 -- what is of 01's kind as a wide row is of it as a row of 01
 pub kind_of_plain : (z : ℤ) (k : Kind) → wide_kind_of z ≡ plain k → kind_of z ≡ k
-unfolding wide_kind_of if◌then◌else◌
+unfolding wide_kind_of
 kind_of_plain z k e = go (eq_z z (pos 8)) (eq_z z (pos 9)) (eq_z z (pos 10)) (eq_z z (pos 11)) e
   where
     go : (a b c d : Bool) → (if a then negation else if b then implication else if c then equivalence true else if d then equivalence false else plain (kind_of z)) ≡ plain k → kind_of z ≡ k
@@ -87,7 +88,7 @@ numbered : (k n : ℕ) → k ≡ n → TwoKind (wide_kind_of (pos n)) → TwoKin
 numbered k n e h = subst (λ (m : ℕ). TwoKind (wide_kind_of (pos m))) (sym e) h
 
 pub two_kind : (k : ℕ) → 9 ≤ k → k < 12 → TwoKind (wide_kind_of (pos k))
-unfolding wide_kind_of eq_z if◌then◌else◌
+unfolding wide_kind_of eq_z
 two_kind k l h =
     ⊎_elim
     (λ p. ⊎_elim (λ q. numbered k 9 (omega arith) implying) (λ e. numbered k 10 e (comparing true)) (below_suc k 10 p))
@@ -145,7 +146,7 @@ module _ (rows : ℕ → Row) (r : ℕ) where
 
 -- the same three tests, and numbers that agree where they pass
 three_same : (x y z : Bool) (f : Facts) {g : Facts} → (x ≡ true → g ≡ f) → (if x and y and z then Formed g else Ill) ≡ (if x and y and z then Formed f else Ill)
-unfolding if◌then◌else◌ ◌and◌
+unfolding ◌and◌
 three_same true y z f h = ap (λ (i : Facts). if y and z then Formed i else Ill) (h refl)
 three_same false y z f h = refl
 

@@ -1,6 +1,6 @@
 -- What the pass over wide rows works out for a row, and what holds of rows that passed.
-use Rattle.std.specs.Prelude.{ℕ, ◌+◌, ◌*◌, ◌<◌, ◌≤◌, ◌≡◌, true, List, pos, length}
-use Rattle.stab.specs.Basic.{if◌then◌else◌, ◌and◌, eq_z, nat, below}
+use Rattle.std.specs.Prelude.{ℕ, ◌+◌, ◌*◌, ◌<◌, ◌≤◌, ◌≡◌, true, List, pos, length, if◌then◌else◌}
+use Rattle.stab.specs.Basic.{◌and◌, eq_z, nat, below}
 use Rattle.stab.specs.Check.{root_fits}
 use Rattle.stab.specs.Formula.{Row, row_at, Schema}
 use Rattle.wide.specs.WideFormula.{Wide, wide_tree, wide_size, wide_depth, wide_loose, wide_fixed, wide_formed, wide_small}

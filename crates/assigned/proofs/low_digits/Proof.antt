@@ -1,7 +1,7 @@
+use Rattle.std.specs.Prelude.{if◌then◌else◌}
 use Prim.Native.Nat.{ℕ, ◌<◌}
 use native.Mathlib.Omega.{arith}
 use mathlib.Core.Path.{◌≡◌, sym, ap}
-use Rattle.stab.specs.Basic.{if◌then◌else◌}
 use Rattle.pairs.specs.Word.{word}
 use Rattle.assigned.specs.Words.{digit}
 use Rattle.assigned.proofs.low_digits.Statement.{statement}
@@ -15,27 +15,27 @@ last : (b : ℕ) → b < 6 → (b ≡ 0 → ⊥) → (b ≡ 1 → ⊥) → (b �
 last b h p q r s t = omega arith
 
 returns-in-0 : tie.Need-returns-in-0
-unfolding word digit if◌then◌else◌
+unfolding word digit
 returns-in-0 c = low _ 0 c.in-0.is
 
 returns-in-1 : tie.Need-returns-in-1
-unfolding word digit if◌then◌else◌
+unfolding word digit
 returns-in-1 c = low _ 1 c.in-1.is
 
 returns-in-2 : tie.Need-returns-in-2
-unfolding word digit if◌then◌else◌
+unfolding word digit
 returns-in-2 c = low _ 2 c.in-2.is
 
 returns-in-3 : tie.Need-returns-in-3
-unfolding word digit if◌then◌else◌
+unfolding word digit
 returns-in-3 c = low _ 3 c.in-3.is
 
 returns-in-4 : tie.Need-returns-in-4
-unfolding word digit if◌then◌else◌
+unfolding word digit
 returns-in-4 c = low _ 4 c.in-4.is
 
 returns-in_default : tie.Need-returns-in_default
-unfolding word digit if◌then◌else◌
+unfolding word digit
 returns-in_default c =
     let r = c.in_default.in_default-own.rest in
     low _ 5 (last _ c.requires r.0.0.0.0.1 r.0.0.0.1 r.0.0.1 r.0.1 r.1)

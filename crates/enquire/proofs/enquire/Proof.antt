@@ -1,8 +1,8 @@
+use Rattle.std.specs.Prelude.{if◌then◌else◌}
 use borrow.Author.Rules.{rules}
 use native.Mathlib.Omega.{arith}
 use mathlib.Core.Path.{◌≡◌, sym, ◌∙◌}
 use lib.ListN.{length}
-use Rattle.stab.specs.Basic.{if◌then◌else◌}
 use Rattle.stab.specs.Lent.{lent}
 use Rattle.stab.specs.declared.Finding.TheVariants.{Nothing}
 use Rattle.signed.proofs.Tables.{cleared_padded}
@@ -27,7 +27,7 @@ row c = row_from c.args.row.now c.args.set.now
 left_is : (c : tie.After-try_row-r) →
     let a = c.args in
     lent a.schema.now a.proof.now c.try_row-r.new.nodes c.try_row-r.new.members a.h ≡ (E c.before.before.before).held
-unfolding tried if◌then◌else◌
+unfolding tried
 left_is c i =
     let a = c.args in
     lent a.schema.now a.proof.now (c.try_row-r.ensures.1 i).nodes (c.try_row-r.ensures.1 i).members a.h

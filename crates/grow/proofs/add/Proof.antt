@@ -1,5 +1,5 @@
+use Rattle.std.specs.Prelude.{if◌then◌else◌}
 use borrow.Author.Rules.{rules}
-use Rattle.stab.specs.Basic.{if◌then◌else◌}
 use Rattle.growing.specs.Growing.{tried}
 use Rattle.grow.proofs.add.Statement.{statement}
 use Rattle.grow.proofs.add.Tie as tie
@@ -14,7 +14,7 @@ shape_of-members : tie.Need-shape_of-members
 shape_of-members c = search rules
 
 returns : tie.Need-returns
-unfolding tried if◌then◌else◌
+unfolding tried
 returns c = c.try_row.ensures
 
 pub add_spec : {M : Type 1} → statement M

@@ -1,3 +1,4 @@
+use Rattle.std.specs.Prelude.{if◌then◌else◌}
 use Rattle.jointrows.proofs.Numbers.{numbered_same}
 use Rattle.jointrows.proofs.Moves.{first_number_lem, second_number, first_new, second_new, schemata_are, folding_is}
 use Rattle.jointrows.specs.Kept.{Gives, both_schemata, both_proofs}
@@ -5,7 +6,6 @@ use Rattle.joint.specs.Joint.{of_first, of_second, joint_schema, untidied}
 use Rattle.folds.proofs.Numbers.{get_d_zeros}
 use Rattle.tidied.specs.Tidied.{new_number, Folding, folding, folding_of}
 use Rattle.stab.proofs.Trees.{below_nat}
-use Rattle.stab.specs.Basic.{if◌then◌else◌}
 use Rattle.stab.specs.Text.{padded}
 use Rattle.stab.specs.Node.{Tableau}
 use Rattle.stab.specs.Lent.{lent}

@@ -1,6 +1,7 @@
 -- The mathematics of STAB: at a node that keeps the rules, if all rows of the set are true at some n that satisfies the node's
 -- bound, then so are all rows of some child's set at that n, or of the linked node's set at a smaller n that satisfies its bound.
 -- It is shown for single nodes, not for paths.
+use Rattle.std.specs.Prelude.{if◌then◌else◌}
 use Prim.Native.Nat.{ℕ, zero, suc, ◌<◌, ◌≤◌}
 use native.Mathlib.Omega.{arith}
 use mathlib.Core.Path.{◌≡◌, refl, sym, ◌∙◌, ap, ap₂, subst}
@@ -12,7 +13,7 @@ use lib.IntN.{ℤ, pos, ◌+ℤ◌, ◌-ℤ◌, pos-ne-negsuc}
 use lib.Signed.{le_z}
 use lib.Dec.{leb}
 use borrow.Author.Tests.{leb-true, leb-false}
-use Rattle.stab.specs.Basic.{if◌then◌else◌, eq_z, ◌and◌, ◌or◌, nat, below, count}
+use Rattle.stab.specs.Basic.{eq_z, ◌and◌, ◌or◌, nat, below, count}
 use Rattle.stab.specs.Formula.{Row, Op, conj, disj, Formula, const, lit, join, iter, base_of, kind_of, literal, junction, iteration, well_formed, is_body}
 use Rattle.stab.specs.Meaning.{Assignment, base, signed, op, empty, value, truth}
 use Rattle.stab.specs.Node.{Tableau, Node, Bound, rows, row_count, row, formula, node_at, node, set, names, child_count_of, child_count, rank, AtMost, Satisfies, split_at, split_bound, child_bound, bound_of, bound}
@@ -216,7 +217,7 @@ module _ (T : Tableau) (K : KeepsOlder T) (σ : Assignment) where
     junction_is o e b = D.tree_junction (rows T) (nat on) o e (formed (nat on) (row_below on b))
 
     and_step : (node T j).rule ≡ pos 0 → ⊥
-    unfolding entry truth value op given_by if◌then◌else◌ eq_z
+    unfolding entry truth value op given_by eq_z
     and_step e =
         let R = entry_is 0 _ entries.0 e in
         let f = kinded (rule T j).on 4 on (ap (λ (r : Rule). r.on) R) keeps.on in
@@ -224,7 +225,7 @@ module _ (T : Tableau) (K : KeepsOlder T) (σ : Assignment) where
         (true_of _ (junction_is conj (D.kind_4 f.1) f.0) (on_stands_lem 4 (ap (λ (r : Rule). r.on) R)))
 
     or_step : (node T j).rule ≡ pos 1 → ⊥
-    unfolding entry truth value op given_by if◌then◌else◌ eq_z one_of
+    unfolding entry truth value op given_by eq_z one_of
     or_step e =
         let R = entry_is 1 _ entries.1 e in
         let f = kinded (rule T j).on 5 on (ap (λ (r : Rule). r.on) R) keeps.on in
@@ -234,7 +235,7 @@ module _ (T : Tableau) (K : KeepsOlder T) (σ : Assignment) where
     -- ---- rule 2
 
     split_step : (node T j).rule ≡ pos 2 → ⊥
-    unfolding entry given_by if◌then◌else◌ eq_z child_bound split_bound Satisfies AtMost
+    unfolding entry given_by eq_z child_bound split_bound Satisfies AtMost
     split_step e =
         let R = entry_is 2 _ entries.2 e in
         let K : ℕ = split_at (bound T j).L (node T j).by in
@@ -277,7 +278,7 @@ module _ (T : Tableau) (K : KeepsOlder T) (σ : Assignment) where
         (sym (instance_value σ n c f (pos 0) (body_of o on ko bo)) ∙ alike_value σ n u.instance_of (pos 0))
 
     unfold_and_step : (node T j).rule ≡ pos 3 → ⊥
-    unfolding entry op given_by if◌then◌else◌ eq_z
+    unfolding entry op given_by eq_z
     unfold_and_step e =
         let R = entry_is 3 _ entries.3 e in
         let f = kinded (rule T j).on 6 on (ap (λ (r : Rule). r.on) R) keeps.on in
@@ -287,7 +288,7 @@ module _ (T : Tableau) (K : KeepsOlder T) (σ : Assignment) where
         ∙ holds on (on_stands_lem 6 (ap (λ (r : Rule). r.on) R)))
 
     unfold_or_step : (node T j).rule ≡ pos 4 → ⊥
-    unfolding entry op given_by if◌then◌else◌ eq_z one_of
+    unfolding entry op given_by eq_z one_of
     unfold_or_step e =
         let R = entry_is 4 _ entries.4 e in
         let f = kinded (rule T j).on 7 on (ap (λ (r : Rule). r.on) R) keeps.on in

@@ -1,4 +1,5 @@
 -- Rows and lines as text: fields between spaces, lines that end with byte 10, and both put together again.
+use Rattle.std.specs.Prelude.{if◌then◌else◌}
 use Prim.Native.Nat.{ℕ, ◌<◌, ◌≤◌}
 use native.Mathlib.Omega.{arith}
 use mathlib.Core.Path.{◌≡◌, refl, sym, ◌∙◌, ap, ap₂}
@@ -10,7 +11,7 @@ use lib.Dec.{leb, eqb}
 use lib.IntN.{ℤ}
 use lib.ListN.{length}
 use borrow.Author.Tests.{leb-true, eqb-true, ne_eqb}
-use Rattle.stab.specs.Basic.{if◌then◌else◌, ◌and◌, all_of}
+use Rattle.stab.specs.Basic.{◌and◌, all_of}
 use Rattle.stab.specs.Text.{Line, newline, in_front, lines, space, number_of, into_field, fields, in_front_of, numbers_in, numbers, five_digits, decimal, row_line, heading_line, lacks}
 use Rattle.stab.specs.Read.{starts_with_u}
 use Rattle.stab.proofs.Bools.{and_left, and_right, and_both, decide, if_true, if_false, not_of_false, false_of_not}
@@ -52,7 +53,7 @@ fields_last (x ∷ xs) h =
     if_false (eqb x 32) _ _ (false_of_not _ (and_left _ _ h)) ∙ ap (into_field x) (fields_last xs (and_right (not (eqb x 32)) _ h))
 
 pub fields_space : (f rest : List ℕ) → lacks 32 f ≡ true → fields (f ++ 32 ∷ rest) ≡ f ∷ fields rest
-unfolding fields space lacks into_field if◌then◌else◌
+unfolding fields space lacks into_field
 fields_space [] rest h = refl
 fields_space (x ∷ xs) rest h =
     if_false (eqb x 32) _ _ (false_of_not _ (and_left _ _ h)) ∙ ap (into_field x) (fields_space xs rest (and_right (not (eqb x 32)) _ h))
@@ -196,7 +197,7 @@ unfoldable pub full : List ℕ → Line
 full l = record { content = l; ended = true }
 
 pub lines_full : (l rest : List ℕ) → lacks 10 l ≡ true → lines (l ++ 10 ∷ rest) ≡ full l ∷ lines rest
-unfolding lines newline lacks in_front full if◌then◌else◌
+unfolding lines newline lacks in_front full
 lines_full [] rest h = refl
 lines_full (x ∷ xs) rest h =
     if_false (eqb x 10) _ _ (false_of_not _ (and_left _ _ h)) ∙ ap (in_front x) (lines_full xs rest (and_right (not (eqb x 10)) _ h))

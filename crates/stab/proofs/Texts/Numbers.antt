@@ -1,4 +1,5 @@
 -- Numbers as text: the bytes of a number read back as the number, and bytes that read as a number are the number's own.
+use Rattle.std.specs.Prelude.{if◌then◌else◌}
 use Prim.Native.Nat.{ℕ, zero, suc, ◌+◌, ◌*◌, ◌-◌, ◌/◌, ◌%◌, ◌^◌, ◌<◌, ◌≤◌}
 use native.Mathlib.Omega.{arith}
 use native.Mathlib.Nat.{add-zero, pow-le-pow_right, pow-succ'}
@@ -11,7 +12,7 @@ use lib.Dec.{leb, ltb, eqb}
 use lib.IntN.{ℤ, pos, negsuc, neg_ℤ}
 use lib.ListN.{length, length-append}
 use borrow.Author.Tests.{leb-true, ltb-true, ltb-false, eqb-true, eqb-false, le-leb, lt-ltb, le-ltb, eq-eqb, ne_eqb}
-use Rattle.stab.specs.Basic.{if◌then◌else◌, ◌and◌, all_of}
+use Rattle.stab.specs.Basic.{◌and◌, all_of}
 use Rattle.stab.specs.Text.{same_bytes, zero_digit, minus, is_digit, digits_value, is_natural, some_if, number_of, digits_n, five_digits, decimal}
 use Rattle.stab.proofs.Bools.{and_left, and_right, and_both, and_first_false, decide, if_true, if_false, not_of_false, false_of_not}
 
@@ -227,7 +228,7 @@ number_positive (x ∷ xs) h =
     ∙ some_if_true (is_natural (x ∷ xs)) _ h
 
 pub number_negative : (ds : List ℕ) → is_natural ds ≡ true → number_of (45 ∷ ds) ≡ some (neg_ℤ (pos (digits_value 0 ds)))
-unfolding number_of same_bytes zero_digit minus ◌and◌ if◌then◌else◌
+unfolding number_of same_bytes zero_digit minus ◌and◌
 number_negative ds h = some_if_true (is_natural ds) _ h
 
 -- bytes that read as a number are `0`, or a minus and digits, or digits
@@ -263,7 +264,7 @@ number_cases P a b c (x ∷ xs) z h = ⊎_elim nought other (decide (same_bytes 
 -- a number of at most five digits, written, reads as itself
 pub decimal_number : (z : ℤ) → five_digits z ≡ true → number_of (decimal z) ≡ some z
 unfolding decimal five_digits minus
-decimal_number (pos zero) h = unfold digits_n number_of same_bytes zero_digit if◌then◌else◌ ◌and◌ in refl
+decimal_number (pos zero) h = unfold digits_n number_of same_bytes zero_digit ◌and◌ in refl
 decimal_number (pos (suc v)) h =
     number_positive (digits_n 4 (suc v))
     (sym (natural_four (digits_n 4 (suc v))) ∙ digits_natural 4 (suc v) (omega arith) (omega (arith, leb-true (suc v) 99999 h)))
@@ -278,7 +279,7 @@ Own : List ℕ → ℤ → Type 0
 Own f z = (decimal z ≡ f) × (five_digits z ≡ true)
 
 own_zero : Own (48 ∷ []) (pos 0)
-unfolding Own decimal five_digits digits_n zero_digit if◌then◌else◌
+unfolding Own decimal five_digits digits_n zero_digit
 own_zero = (refl, refl)
 
 own_positive : (ds : List ℕ) → is_natural ds ≡ true → Own ds (pos (digits_value 0 ds))

@@ -1,4 +1,5 @@
 -- Wires as the pairs of a model, and the wires among a model's pairs.
+use Rattle.std.specs.Prelude.{if◌then◌else◌}
 use Prim.Native.Nat.{ℕ, zero, suc, ◌+◌, ◌*◌, ◌<◌, ◌≤◌}
 use native.Mathlib.Omega.{arith}
 use mathlib.Core.Path.{◌≡◌, refl, sym, ◌∙◌, ap, subst, subst₂}
@@ -9,7 +10,6 @@ use mathlib.Core.List.Memᴰ
 use mathlib.Core.List.{List, [], ◌∷◌, Memᴰ}
 use lib.IntN.{ℤ, pos, neg_ℤ}
 use lib.ListN.{length, get_or}
-use Rattle.stab.specs.Basic.{if◌then◌else◌}
 use Rattle.stab.specs.Model.{pair_symbol, pair_index, is_pair, listed}
 use Rattle.stab.specs.Keeps.{Within, KeepsPair}
 use Rattle.stab.specs.Occurs.{Wire, insert, Before, Ascends, table}
@@ -106,7 +106,7 @@ kept p t zero = []
 kept p t (suc k) = if p (pair_at t k) then insert (pair_at t k) (kept p t k) else kept p t k
 
 pub mem_kept : (p : Wire → Bool) (t : List ℤ) (k : ℕ) (w : Wire) → Memᴰ w (kept p t k) ↔ (Stands t k w × (p w ≡ true))
-unfolding kept if◌then◌else◌
+unfolding kept
 mem_kept p t zero w = (λ m. absurd (Memᴰ.not-nil m), λ s. absurd (omega (arith, s.0.1)))
 mem_kept p t (suc k) w = go (p (pair_at t k)) refl (mem_kept p t k w)
   where
@@ -129,7 +129,7 @@ mem_kept p t (suc k) w = go (p (pair_at t k)) refl (mem_kept p t k w)
     )
 
 pub kept_ascends : (p : Wire → Bool) (t : List ℤ) (k : ℕ) → Ascends (kept p t k)
-unfolding kept if◌then◌else◌
+unfolding kept
 kept_ascends p t zero = tt
 kept_ascends p t (suc k) = go (p (pair_at t k)) (kept_ascends p t k)
   where
@@ -138,7 +138,7 @@ kept_ascends p t (suc k) = go (p (pair_at t k)) (kept_ascends p t k)
     go false a = a
 
 pub kept_length : (p : Wire → Bool) (t : List ℤ) (k : ℕ) → length (kept p t k) ≤ k
-unfolding kept if◌then◌else◌
+unfolding kept
 kept_length p t zero = omega arith
 kept_length p t (suc k) = go (p (pair_at t k)) (kept_length p t k)
   where

@@ -1,6 +1,6 @@
+use Rattle.std.specs.Prelude.{if◌then◌else◌}
 use mathlib.Core.Path.{sym, subst}
 use mir.Facts.{to_z-of_z}
-use Rattle.stab.specs.Basic.{if◌then◌else◌}
 use Rattle.stab.specs.Check.{check_as}
 use Rattle.stab.specs.Answer.{Packs}
 use Rattle.stab.proofs.Packed.{checked_packs}
@@ -16,7 +16,7 @@ pack-requires c κs = subst Packs (sym c.check_as.ensures) (checked_packs _ _)
 
 -- a signed number is kept as bits, and read back from them
 returns : tie.Need-returns
-unfolding check_as if◌then◌else◌
+unfolding check_as
 returns c =
     older_told (rw (to_z-of_z c.ranges.root, to_z-of_z c.ranges.least) at c.check_as.ensures) c.pack.ensures
 

@@ -1,8 +1,9 @@
+use Rattle.std.specs.Prelude.{if◌then◌else◌}
 use Rattle.std.proofs.Common.{◌≡◌, ℕ, ◌<◌, ◌≤◌, ◌^◌, Bool, true, false, eqb, w32, ℤ, pos, ◌+ℤ◌, ◌-ℤ◌, of_z, to_z, refl, sym, ◌∙◌, ap, ap₂, subst, arith}
 use borrow.Author.Tests.{eqb-true}
 use lib.Signed.{mag}
 use mir.Val.{hbits}
-use Rattle.stab.specs.Basic.{if◌then◌else◌, ◌and◌, eq_z, nat}
+use Rattle.stab.specs.Basic.{◌and◌, eq_z, nat}
 use Rattle.stab.specs.Formula.{Row, formula_rows, offset, tree}
 use Rattle.stab.specs.Alike.{lower, alike}
 use Rattle.stab.proofs.Bools.{and_left, and_right, and_first_true, and_first_false, and_second_false}

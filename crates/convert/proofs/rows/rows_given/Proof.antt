@@ -1,7 +1,8 @@
+use Rattle.std.specs.Prelude.{if◌then◌else◌}
 use Prim.Native.Nat.{ℕ}
 use mathlib.Core.Path.{sym, ap}
 use lib.IntN.{pos}
-use Rattle.stab.specs.Basic.{if◌then◌else◌, eq_z}
+use Rattle.stab.specs.Basic.{eq_z}
 use Rattle.wide.specs.Plain.{rows_given}
 use Rattle.wide.specs.WideFormula.{wide_kind_of}
 use Rattle.convert.proofs.GivenLaws.{two_given}
@@ -9,15 +10,15 @@ use Rattle.convert.proofs.rows.rows_given.Statement.{statement}
 use Rattle.convert.proofs.rows.rows_given.Tie as tie
 
 returns-then-k-eq8 : tie.Need-returns-then-k-eq8
-unfolding rows_given wide_kind_of eq_z if◌then◌else◌
+unfolding rows_given wide_kind_of eq_z
 returns-then-k-eq8 c = sym (ap (λ (n : ℕ). rows_given (wide_kind_of (pos n))) c.if-k-eq8.true)
 
 returns-then-k-eq10 : tie.Need-returns-then-k-eq10
-unfolding rows_given wide_kind_of eq_z if◌then◌else◌
+unfolding rows_given wide_kind_of eq_z
 returns-then-k-eq10 c = sym (ap (λ (n : ℕ). rows_given (wide_kind_of (pos n))) c.if-k-eq10.true)
 
 returns-then-k-eq11 : tie.Need-returns-then-k-eq11
-unfolding rows_given wide_kind_of eq_z if◌then◌else◌
+unfolding rows_given wide_kind_of eq_z
 returns-then-k-eq11 c = sym (ap (λ (n : ℕ). rows_given (wide_kind_of (pos n))) c.if-k-eq11.true)
 
 returns : tie.Need-returns

@@ -1,3 +1,4 @@
+use Rattle.std.specs.Prelude.{if◌then◌else◌}
 use Prim.Native.Nat.{ℕ, suc, ◌+◌, ◌<◌}
 use native.Mathlib.Omega.{arith}
 use mathlib.Core.List.{List}
@@ -5,7 +6,7 @@ use mathlib.Core.Path.{◌≡◌, sym, ◌∙◌, ap, subst}
 use lib.IntN.{pos}
 use borrow.Author.Rules.{rules}
 use Rattle.stab.specs.Formula.{Row, row_at}
-use Rattle.stab.specs.Basic.{if◌then◌else◌, eq_z}
+use Rattle.stab.specs.Basic.{eq_z}
 use Rattle.formula.specs.Column.{column}
 use Rattle.wide.proofs.Places.{start_next}
 use Rattle.wide.specs.Plain.{rows_given, start_of, image, columns}
@@ -100,7 +101,7 @@ shape_of-images-then-k-eq8 : tie.Need-shape_of-images-then-k-eq8
 shape_of-images-then-k-eq8 c = search rules
 
 returns-then-k-eq8 : tie.Need-returns-then-k-eq8
-unfolding written columns rows_given wide_kind_of eq_z if◌then◌else◌
+unfolding written columns rows_given wide_kind_of eq_z
 returns-then-k-eq8 c =
     let s = start c.before.before.before.before.before.before.before in
     let r = s.args.r in

@@ -1,7 +1,7 @@
+use Rattle.std.specs.Prelude.{if◌then◌else◌}
 use mathlib.Core.Path.{refl, sym, ◌∙◌}
 use mir.Facts.{to_z-of_z}
 use borrow.Author.Rules.{rules}
-use Rattle.stab.specs.Basic.{if◌then◌else◌}
 use Rattle.stab.specs.Formula.{on_index}
 use Rattle.formula.specs.Facts.{bit}
 use Rattle.formula.proofs.RowLaws.{on_index_is}
@@ -12,7 +12,7 @@ equal-requires : tie.Need-equal-requires
 equal-requires c κs = search rules
 
 returns-then-equal : tie.Need-returns-then-equal
-unfolding if◌then◌else◌ on_index bit
+unfolding on_index bit
 returns-then-equal c =
     sym (on_index_is c.args.b _ _ (rw (to_z-of_z c.ranges.b) at (sym c.equal.ensures ∙ c.if-equal.true)) refl)
 
@@ -20,7 +20,7 @@ equal-requires-2 : tie.Need-equal-requires-2
 equal-requires-2 c κs = search rules
 
 returns-then-equal-2 : tie.Need-returns-then-equal-2
-unfolding if◌then◌else◌ on_index bit
+unfolding on_index bit
 returns-then-equal-2 c =
     sym
     (on_index_is c.args.b _ _
@@ -28,7 +28,7 @@ returns-then-equal-2 c =
     (rw (to_z-of_z c.ranges.b) at (sym c.equal-2.ensures ∙ c.if-equal-2.true)))
 
 returns : tie.Need-returns
-unfolding if◌then◌else◌ on_index bit
+unfolding on_index bit
 returns c =
     sym
     (on_index_is c.args.b _ _

@@ -1,9 +1,9 @@
+use Rattle.std.specs.Prelude.{if◌then◌else◌}
 use Prim.Native.Nat.{ℕ, ◌-◌, ◌≤◌}
 use native.Mathlib.Omega.{arith}
 use mathlib.Core.Path.{◌≡◌, refl, sym, ◌∙◌, ap}
 use mathlib.Core.Bool.{true, not}
 use lib.Dec.{eqb}
-use Rattle.stab.specs.Basic.{if◌then◌else◌}
 use Rattle.stab.specs.Node.{child_count, node, node_at}
 use Rattle.stab.specs.Rule.{rule, rule_of, children_fit}
 use Rattle.stab.proofs.Bools.{asked_false, asked_true}
@@ -32,7 +32,7 @@ children_fit-requires c κs =
 fits : (c : tie.After-children_fit invariant_loop decreases_loop) →
     let a = c.args in
     c.children_fit.result ≡ children_fit (nodes_only a.nodes.now a.k) c.loop-j.j
-unfolding children_fit child_count rule node if◌then◌else◌
+unfolding children_fit child_count rule node
 fits c =
     c.children_fit.ensures ∙ ap (λ (n : ℕ). eqb n (rule_of (node_at c.args.nodes.now c.loop-j.j).rule).children) (c.requires.1 c.loop-j.j c.loop-j-test.true)
 
