@@ -1,16 +1,23 @@
 #!/usr/bin/env bash
-# Why the must-fail edits were refused, by the logs that `rt ci` or `rt must-fail` left. An edit shows something only if
-# a fact no longer holds with it. One that takes away a name which the proof uses is refused too, whatever the name
-# said: so an edit fails here if its first error says that a name is gone. An edit may have several wrong answers, each
-# with a line that says what refuses it: "# fn NAME: .." a function, which is proved by itself, or
-# "# theorem FILE NAME: .." a theorem of the crate's. Of each it is asked that its own proof is refused, and not for such
-# a reason. Run from anywhere; tries nothing itself.
+# Why the must-fail edits are refused, by the logs of tests/edit-tries.py, which tries those that have changed. An edit
+# shows something only if a fact no longer holds with it. One that takes away a name which the proof uses is refused too,
+# whatever the name said, and the prover names goals and steps after the code: so an edit fails here if its first error
+# says that a name is gone. An edit may have several wrong answers, each with a line that says what refuses it:
+# "# fn NAME: .." a function, which is proved by itself, or "# theorem FILE NAME: .." a theorem of the crate's, or what
+# answers a function's goal. Of each it is asked that its own proof is refused, and not for such a reason. Run from
+# anywhere; with names of crates, of their edits alone.
 set -u
 cd "$(dirname "$0")/.." || exit 2
-gone='that can be named from here|to be named from here|is not in scope|is not declared|not declared in|has no field|has no member|has no module|is no module|no module is found|does not export|cannot find (type|value)'
+gone='that can be named from here|to be named from here|is not in scope|is not declared|not declared in|has no field|has no member|has no module|is no module|no module is found|does not export|cannot find (type|value)|expected type `tie\.Need-[^`]*`, but this has type `tie\.Need-'
 named='^(fn [A-Za-z0-9_:]+|theorem [^ ]+ [^ ]+): '
 passed=0
 failed=0
+
+if ! tests/edit-tries.py "$@"; then
+  echo "not every edit is tried"
+  echo "0 passed, 1 failed"
+  exit 1
+fi
 
 wrong() { # EDIT WHY
   failed=$((failed + 1))
@@ -28,8 +35,11 @@ first_error() { # LOG
 # The first error in a file of proofs, of one theorem where it is named. That a callee is not proved, or that what was
 # refused is cited further down, is no error of its own.
 error_in() { # LOG FILE [THEOREM]
-  awk -v file="/$2:" -v start="${3:+\`$3\`: }" '
-    index($0, file) && (at = index($0, ": error: ")) && !/was not admitted/ {
+  error_at "$1" "/$2:" "${3:+\`$3\`: }"
+}
+error_at() { # LOG PART-OF-LINE START-OF-ERROR
+  awk -v file="$2" -v start="$3" '
+    index($0, file) && (at = index($0, ": error: ")) && !/was not admitted|which was rejected, was not checked/ {
       error = substr($0, at + 9)
       if (substr(error, 1, length(start)) != start) next
       # a long name of a record ends the line
@@ -39,15 +49,27 @@ error_in() { # LOG FILE [THEOREM]
     }' "$1"
 }
 
-# The first error in a function's own proof, or that its search finds no proof where it has no proof file.
+# The first error in a function's own proof, or that its search finds no proof of a goal that no file of it answers. The
+# proofs of functions that call one another stand in one folder, +NAME, and have the function's name in front.
 error_of() { # LOG FUNCTION
-  local path=${2#*::} unfound
-  unfound=$(grep -m 1 -E "^fn $2: no proof: .*\`search\` does not close" "$1")
-  if [ -n "$unfound" ]; then
-    echo "$unfound"
-  else
-    error_in "$1" "proofs/${path//:://}/Proof.antt"
-  fi
+  local path=${2#*::} file error
+  path=${path//:://}
+  for file in Proof Invariants Answers; do
+    error=$(error_in "$1" "proofs/$path/$file.antt")
+    [ -z "$error" ] || break
+  done
+  for kind in '' invariant- decreases-; do
+    [ -z "$error" ] || break
+    error=$(grep -E "/proofs/($(dirname "$path")/)?\+[^/:]+/[A-Z]" "$1" | error_at /dev/stdin : "\`$kind${path##*/}-")
+  done
+  [ -n "$error" ] || error=$(grep -m 1 -E "^fn $2: no proof: .*\`search\` (does not close|did not prove)" "$1")
+  echo "$error"
+}
+# That the search finds no proof of a function's goal, where no file answers it.
+unfound() { # LOG FILE GOAL
+  local path=${2#proofs/}
+  path=${path%/*}
+  grep -m 1 -E "^fn [A-Za-z0-9_]+::${path//\//::}: no proof: .*\`search\` did not prove .*\`$3\`" "$1"
 }
 
 # All that the edit names is refused, and not because a name is gone.
@@ -60,7 +82,12 @@ named_refused() { # EDIT LOG NAME
       continue
     fi
     read -r kind what theorem <<<"${BASH_REMATCH[1]}"
-    if [ "$kind" = fn ]; then error=$(error_of "$2" "$what"); else error=$(error_in "$2" "$what" "$theorem"); fi
+    if [ "$kind" = fn ]; then
+      error=$(error_of "$2" "$what")
+    else
+      error=$(error_in "$2" "$what" "$theorem")
+      [ -n "$error" ] || error=$(unfound "$2" "$what" "$theorem")
+    fi
     if [ -z "$error" ]; then
       wrong "$3" "$what${theorem:+ $theorem} is not refused"
       ok=1
@@ -72,7 +99,10 @@ named_refused() { # EDIT LOG NAME
   return $ok
 }
 
-for edit in crates/*/must-fail/*.edit; do
+edits=(crates/*/must-fail/*.edit)
+if [ $# -gt 0 ]; then edits=("${@/#/crates/}") && edits=("${edits[@]/%//must-fail/*.edit}"); fi
+# shellcheck disable=SC2068
+for edit in ${edits[@]}; do
   crate=${edit#crates/}
   name=${crate%%/*}/$(basename "$edit" .edit)
   log=target/must-fail/$name/.log
