@@ -8,6 +8,7 @@
 # anywhere; with names of crates, of their edits alone.
 set -u
 cd "$(dirname "$0")/.." || exit 2
+# shellcheck disable=SC2016
 gone='that can be named from here|to be named from here|is not in scope|is not declared|not declared in|has no field|has no member|has no module|is no module|no module is found|does not export|cannot find (type|value)|expected type `tie\.Need-[^`]*`, but this has type `tie\.Need-'
 named='^(fn [A-Za-z0-9_:]+|theorem [^ ]+ [^ ]+): '
 passed=0

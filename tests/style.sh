@@ -1,5 +1,5 @@
 #!/usr/bin/env bash
-# The layout and the lints: `rt fmt --check` for the proved crates, rustfmt and clippy for the Rust around them, shellcheck for the shell
+# The layout and the lints: `rt fmt` for the proved crates, in a copy that it must leave as it is, rustfmt and clippy for the Rust around them, shellcheck for the shell
 # scripts, and that each Python file is one for Python 3.9. A tool that is not installed is told, and what it would look at is not tried.
 set -u
 cd "$(dirname "$0")/.." || exit 2
@@ -32,7 +32,21 @@ first_line() { # PATTERN
   done <<<"$files"
 }
 
-if have rt "the layout of .rt and .antt files"; then check "rt fmt --check" rt fmt --check; fi
+# `rt fmt` finds nothing to lay out in a crate.
+laid_out() { # CRATE
+  local part copy=$scratch/laid/$1
+  mkdir -p "$copy"
+  for part in src specs proofs; do
+    [ ! -d "crates/$1/$part" ] || cp -r "crates/$1/$part" "$copy/" || return
+  done
+  (cd "$copy" && rt fmt) || return
+  for part in src specs proofs; do
+    [ ! -d "crates/$1/$part" ] || diff -r "crates/$1/$part" "$copy/$part" || return
+  done
+}
+if have rt "the layout of .rt and .antt files"; then
+  for crate in crates/*/; do check "rt fmt in $crate" laid_out "$(basename "$crate")"; done
+fi
 
 if have rustfmt "the layout of Rust"; then check "cargo fmt --check" cargo fmt --all --check; fi
 if have cargo-clippy "clippy"; then
