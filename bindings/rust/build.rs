@@ -1,4 +1,4 @@
-//! Links target/staticlib/libzorambi.a, which `rt staticlib zorambi` writes in the project's root, or the one in the folder
+//! Links target/staticlib/libzorambi.a, which `./zorambi build` writes in the project's root, or the one in the folder
 //! that ZORAMBI_LIBRARY_FOLDER names, and takes down which one it is.
 
 use std::env;
@@ -16,7 +16,7 @@ fn main() {
     println!("cargo::rerun-if-changed={}", library.display());
     if !library.is_file() {
         println!(
-            "cargo::error={} is missing: run `rt staticlib zorambi` in the project's root first",
+            "cargo::error={} is missing: run `./zorambi build` in the project's root first",
             library.display()
         );
         return;

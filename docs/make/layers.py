@@ -14,7 +14,6 @@ import page
 
 PAGE = "docs/ARCHITECTURE.md"
 START, END = "<!-- made by docs/make/layers.py -->", "<!-- to here -->"
-KIT = ("io", "os", "libc")
 
 
 def layers():
@@ -50,7 +49,9 @@ def fault(crates, levels):
     at = {name: level for level, (_, _, of_layer) in enumerate(levels) for name in of_layer}
     for name, needs in crates.items():
         for need in needs:
-            if need not in KIT and at[need] > at[name]:
+            if need not in at:
+                return f"{name} rests on {need}, which crates.txt has no line for"
+            if at[need] > at[name]:
                 return f"{name} ({levels[at[name]][0]}) rests on {need} ({levels[at[need]][0]}), which is a later layer's"
     return None
 

@@ -33,7 +33,7 @@ def functions():
                 entry = line.strip() == "#[unsafe(no_mangle)]"
                 clause = re.match(r"\s+requires(?: \w+)? \{(.*)\}$", line)
                 if clause:
-                    function["requires"].append(re.sub(r"^⌜ | ⌝$", "", clause[1].strip()))
+                    function["requires"].append(clause[1].strip())
                 elif re.match(r"\s+requires\b", line):
                     sys.exit(f"{file.relative_to(page.ROOT)}: a clause that is not in one line: {line.strip()}")
 
