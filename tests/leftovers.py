@@ -25,7 +25,27 @@ ROOT = Path(sys.argv[1] if len(sys.argv) > 1 else Path(__file__).resolve().paren
 CRATES = ROOT / "crates"
 TRIALS = {"Trials.antt", "Cases.antt"}
 # What stays: file and name, and why.
-STAYS = {}
+CHAIN = "the one hash chain, which classes, repeats and folds are to use"
+STAYS = {
+    ("tables/specs/Chain.antt", "latest"): CHAIN,
+    ("tables/specs/Chain.antt", "Chained"): CHAIN,
+    ("tables/specs/Chain.antt", "next_with"): CHAIN,
+    ("tables/specs/Chain.antt", "heads_with"): CHAIN,
+    ("tables/proofs/ChainLaws.antt", "latest_here"): CHAIN,
+    ("tables/proofs/ChainLaws.antt", "latest_other"): CHAIN,
+    ("tables/proofs/ChainLaws.antt", "latest_none"): CHAIN,
+    ("tables/proofs/ChainLaws.antt", "latest_small"): CHAIN,
+    ("tables/proofs/ChainLaws.antt", "Last"): CHAIN,
+    ("tables/proofs/ChainLaws.antt", "latest_some"): CHAIN,
+    ("tables/proofs/ChainLaws.antt", "chained_none"): CHAIN,
+    ("tables/proofs/ChainLaws.antt", "first_more"): CHAIN,
+    ("tables/proofs/ChainLaws.antt", "onward_here"): CHAIN,
+    ("tables/proofs/ChainLaws.antt", "chained_more"): CHAIN,
+    ("tables/proofs/ChainLaws.antt", "next_more"): CHAIN,
+    ("tables/proofs/ChainLaws.antt", "heads_more"): CHAIN,
+    ("tables/proofs/ChainLaws.antt", "latest_agree"): CHAIN,
+    ("tables/proofs/ChainLaws.antt", "chained_agree"): CHAIN,
+}
 
 TOKEN = re.compile(r'--[^\n]*|"(?:\\.|[^"\\])*"|«[^»]*»|[(){};,@.⌜⌝\n]|[^\s(){};,@."«»⌜⌝]+')
 USE = re.compile(r"^use +([^\s{]+?)(?:\.\{([^}]*)\}|((?: as \S+)?))$")
