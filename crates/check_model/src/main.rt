@@ -12,7 +12,7 @@ fn main(rt: HostRuntime) -> io::Result<()> {
     let mut out = [0u8; 64];
     let told = program::model_texts(&schema[..s], &model[..m], &mut out);
     let n = told.bytes;
-    let printed = rt.write_all(&out[..n]);
+    let printed = Print::write_all(&rt, &out[..n]);
     files::show(
         &rt.stderr(),
         b"schema.txt",

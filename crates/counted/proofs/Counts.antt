@@ -1,5 +1,4 @@
 -- 02, No. 14: how many tables of each length are on the list, as the definitions give them.
-use Rattle.std.specs.Prelude.{if◌then◌else◌}
 use mathlib.Core.Path.{◌≡◌, refl}
 use lib.ListN.{length}
 use Rattle.stab.specs.Basic.{◌and◌, ◌or◌, eq_z, within, nat, below}

@@ -1,6 +1,5 @@
 -- The rows held with an accepted or refused row more: what the check of the rows held finds is what is found of the added row, but for the
 -- place of a child beyond.
-use Rattle.std.specs.Prelude.{if◌then◌else◌}
 use Prim.Native.Nat.{ℕ, zero, suc, ◌*◌, ◌<◌}
 use native.Mathlib.Omega.{arith}
 use mathlib.Core.Path.{◌≡◌, refl, sym, ◌∙◌, ap, ap₂, subst}

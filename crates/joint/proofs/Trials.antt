@@ -1,6 +1,5 @@
 -- The definitions of No. 11 computed on two small records, worked out by hand. The first's one node closes by rule 5. The second has a row
 -- and a node more, a link whose target moves; it is no closed tableau, and need not be one where only rows and nodes are moved.
-use Rattle.std.specs.Prelude.{if◌then◌else◌}
 use mathlib.Core.Path.{◌≡◌, refl}
 use mathlib.Core.List.{[], ◌∷◌}
 use lib.IntN.{ℤ, pos, negsuc}

@@ -1,5 +1,4 @@
 -- Opens every definition that computes: a fact under `unfolding evaluated` is computed by the checker.
-use Rattle.std.specs.Prelude.{if◌then◌else◌}
 use Rattle.stab.specs.Basic.{◌and◌, ◌or◌, ◌implies◌, eq_z, within, nat, below, has, all_of, ascending, same_list, count, ◌otherwise◌, scan, unless}
 use Rattle.stab.specs.Formula.{
   row_at,

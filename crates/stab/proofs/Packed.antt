@@ -1,6 +1,5 @@
 -- The one number that provers get: its parts do not run into one another and are read back, its answer is 0 exactly for an acceptance,
 -- and demand 3 holds of it.
-use Rattle.std.specs.Prelude.{if◌then◌else◌}
 use Prim.Native.Nat.{ℕ, ◌+◌, ◌*◌, ◌/◌, ◌%◌, ◌<◌, ◌≤◌}
 use native.Mathlib.Omega.{arith}
 use mathlib.Core.Path.{◌≡◌, refl, ◌∙◌, ap}

@@ -1,6 +1,5 @@
 -- The definitions of No. 10 computed on a small record, worked out by hand. Of its proof rows 3 to 8, row 4 repeats row 3; row 6 repeats
 -- row 5 only once its part, row 4, has its new number; row 7 repeats schema row 0; node 1's set holds both copies of row 3.
-use Rattle.std.specs.Prelude.{if◌then◌else◌}
 use mathlib.Core.Path.{◌≡◌, refl}
 use mathlib.Core.List.{List, [], ◌∷◌}
 use lib.IntN.{ℤ, pos, negsuc}

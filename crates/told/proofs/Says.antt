@@ -1,5 +1,4 @@
 -- The numbers of the check, of the older check and of the model check say what demands 2 and 3 ask, of tables and of texts.
-use Rattle.std.specs.Prelude.{if◌then◌else◌}
 use Prim.Native.Nat.{ℕ}
 use native.Mathlib.Omega.{arith}
 use mathlib.Core.Path.{◌≡◌, refl, sym, ◌∙◌, ap, ap₂, subst}

@@ -1,4 +1,3 @@
-use Rattle.std.specs.Prelude.{if◌then◌else◌}
 use borrow.Author.Rules.{rules}
 use Rattle.growing.specs.Growing.{tried}
 use Rattle.grow.proofs.add.Statement.{statement}

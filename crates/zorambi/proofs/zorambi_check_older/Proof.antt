@@ -1,4 +1,3 @@
-use Rattle.std.specs.Prelude.{if◌then◌else◌}
 use mathlib.Core.Path.{sym, subst}
 use mir.Facts.{to_z-of_z}
 use Rattle.stab.specs.Check.{check_as}
