@@ -29,7 +29,7 @@ FOR_USERS = {"README", "MANUAL", "ARCHITECTURE"}
 # Where a page's files are when it names no folder.
 FOLDERS = {"READING": CRATES / "stab" / "specs", "THEOREMS": CRATES / "stab" / "proofs"}
 # Words in marks that are no names of the tree: libraries and types of the kit, a byte, a command, folders and files of any crate.
-WORDS = {"io", "os", "libc", "i32", "u", "cargo", "specs/", "proofs/", "CRATE/NAME", "crates/CRATE/must-fail/NAME.edit", "schema.txt",
+WORDS = {"std", "os", "libc", "i32", "u", "cargo", "specs/", "proofs/", "CRATE/NAME", "crates/CRATE/must-fail/NAME.edit", "schema.txt",
          "proof.txt", "model.txt", "wide.txt", "names.txt", "PYTHONPATH", "PREFIX/lib/python3", "NAME", "requires", "must-fail"}
 
 NAME = re.compile(r"[A-Za-z][\w′₀-₉]*(?:[-·][\w′₀-₉]+)*$")
