@@ -3,14 +3,14 @@
 # shows something only if a fact no longer holds with it. One that takes away a name which the proof uses is refused too,
 # whatever the name said, and the prover names goals and steps after the code: so an edit fails here if its first error
 # says that a name is gone. An edit may have several wrong answers, each with a line that says what refuses it:
-# "# fn NAME: .." a function, which is proved by itself, or "# theorem FILE NAME: .." a theorem of the crate's, or what
-# answers a function's goal. Of each it is asked that its own proof is refused, and not for such a reason. Run from
+# "# fn NAME: .." a function, which is proved by itself, "# theorem FILE NAME: .." a theorem of the crate's, or
+# "# goal FUNCTION GOAL: .." a goal of a function's. Of each it is asked that its own proof is refused, and not for such a reason. Run from
 # anywhere; with names of crates, of their edits alone.
 set -u
 cd "$(dirname "$0")/.." || exit 2
 # shellcheck disable=SC2016
 gone='that can be named from here|to be named from here|is not in scope|is not declared|not declared in|has no field|has no member|has no module|is no module|no module is found|does not export|cannot find (type|value)|expected type `tie\.Need-[^`]*`, but this has type `tie\.Need-'
-named='^(fn [A-Za-z0-9_:]+|theorem [^ ]+ [^ ]+): '
+named='^(fn [A-Za-z0-9_:]+|theorem [^ ]+ [^ ]+|goal [A-Za-z0-9_:]+ [^ ]+): '
 passed=0
 failed=0
 
@@ -66,11 +66,17 @@ error_of() { # LOG FUNCTION
   [ -n "$error" ] || error=$(grep -m 1 -E "^fn $2: no proof: .*\`search\` (does not close|did not prove)" "$1")
   echo "$error"
 }
-# That the search finds no proof of a function's goal, where no file answers it.
-unfound() { # LOG FILE GOAL
-  local path=${2#proofs/}
-  path=${path%/*}
-  grep -m 1 -E "^fn [A-Za-z0-9_]+::${path//\//::}: no proof: .*\`search\` did not prove .*\`$3\`" "$1"
+# The first error in what answers a goal of a function's, or that the search finds no proof of the goal.
+error_of_goal() { # LOG FUNCTION GOAL
+  local path=${2#*::} file error
+  path=${path//:://}
+  for file in Proof Answers; do
+    error=$(error_in "$1" "proofs/$path/$file.antt" "$3")
+    [ -z "$error" ] || break
+  done
+  [ -n "$error" ] || error=$(grep -E "/proofs/($(dirname "$path")/)?\+[^/:]+/[A-Z]" "$1" | error_at /dev/stdin : "\`${path##*/}-$3\`: ")
+  [ -n "$error" ] || error=$(grep -m 1 -E "^fn $2: no proof: .*\`search\` did not prove .*\`(${path##*/}-)?$3(-clause-[a-z0-9_]+)?\`" "$1")
+  echo "$error"
 }
 
 # All that the edit names is refused, and not because a name is gone.
@@ -83,12 +89,11 @@ named_refused() { # EDIT LOG NAME
       continue
     fi
     read -r kind what theorem <<<"${BASH_REMATCH[1]}"
-    if [ "$kind" = fn ]; then
-      error=$(error_of "$2" "$what")
-    else
-      error=$(error_in "$2" "$what" "$theorem")
-      [ -n "$error" ] || error=$(unfound "$2" "$what" "$theorem")
-    fi
+    case $kind in
+      fn) error=$(error_of "$2" "$what") ;;
+      goal) error=$(error_of_goal "$2" "$what" "$theorem") ;;
+      *) error=$(error_in "$2" "$what" "$theorem") ;;
+    esac
     if [ -z "$error" ]; then
       wrong "$3" "$what${theorem:+ $theorem} is not refused"
       ok=1
@@ -96,7 +101,7 @@ named_refused() { # EDIT LOG NAME
       wrong "$3" "of the proof of $what${theorem:+ $theorem} only a name is gone: ${error:0:200}"
       ok=1
     fi
-  done < <(sed -n 's/^# \(fn \|theorem \)/\1/p' "$1")
+  done < <(sed -n 's/^# \(fn \|theorem \|goal \)/\1/p' "$1")
   return $ok
 }
 

@@ -56,8 +56,8 @@ def defined_in(file, name):
 
 
 def wrong_answers(file):
-    """The names of an edit: its own, and those of the wrong answers that it has, "# fn NAME: name: .." or "# theorem FILE NAME: name: .."."""
-    return {file.stem, *re.findall(r"^# (?:fn|theorem \S+) \S+: (\w+): ", file.read_text(), re.M)}
+    """The names of an edit: its own, and those of the wrong answers that it has, "# fn NAME: name: ..", "# theorem FILE NAME: name: .." or "# goal FUNCTION GOAL: name: .."."""
+    return {file.stem, *re.findall(r"^# (?:fn|theorem \S+|goal \S+) \S+: (\w+): ", file.read_text(), re.M)}
 
 
 class Tree:

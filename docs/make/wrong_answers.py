@@ -2,7 +2,7 @@
 """Makes docs/WRONG_ANSWERS.md: one row for each wrong answer that a must-fail edit has, below what stands in wrong_answers.md.
 
 An edit whose first line says the wrong answer has one; else each line "# fn FUNCTION: [NAME: ]..", "# theorem FILE THEOREM: [NAME: ].."
-is one. Whether it is one of the definitions or of the code is said by the file that it edits.
+and "# goal FUNCTION GOAL: [NAME: ].." is one. Whether it is one of the definitions or of the code is said by the file that it edits.
 
     docs/make/wrong_answers.py [--check]
 """
@@ -11,7 +11,7 @@ import sys
 
 import page
 
-NAMED = re.compile(r"# (?:fn (\S+)|theorem (\S+) (\S+)): (?:(\w+): )?(.*)")
+NAMED = re.compile(r"# (?:fn (\S+)|theorem (\S+) (\S+)|goal (\S+) (\S+)): (?:(\w+): )?(.*)")
 
 
 def wrong_answers(crate, edit):
@@ -25,10 +25,10 @@ def wrong_answers(crate, edit):
             file = line.removeprefix("file: ")
         named = NAMED.fullmatch(line)
         if named:
-            function, proof, theorem, name, words = named.groups()
-            by = f"`{function}`" if function else f"`{theorem}` (`{crate}/{proof}`)"
+            function, proof, theorem, part, goal, name, words = named.groups()
+            by = f"`{function}`" if function else f"`{part}`, at its goal {goal}" if part else f"`{theorem}` (`{crate}/{proof}`)"
             found.append((name or "", words, file, by))
-        elif line.startswith(("# fn ", "# theorem ")):
+        elif line.startswith(("# fn ", "# theorem ", "# goal ")):
             sys.exit(f"{edit.relative_to(page.ROOT)}: not understood: {line}")
     if not found:
         found = [(edit.stem, lines[0].removeprefix("# "), file, "the crate's proofs")]
