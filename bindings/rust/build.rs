@@ -15,10 +15,7 @@ fn main() {
     let library = folder.join("libzorambi.a");
     println!("cargo::rerun-if-changed={}", library.display());
     if !library.is_file() {
-        println!(
-            "cargo::error={} is missing: run `./zorambi build` in the project's root first",
-            library.display()
-        );
+        println!("cargo::error={} is missing: run `./zorambi build` in the project's root first", library.display());
         return;
     }
     println!("cargo::rustc-link-search=native={}", folder.display());
