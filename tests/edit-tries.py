@@ -118,18 +118,18 @@ class Lane:
         return folder
 
     def tried(self, crate, edit):
-        """What rt says of the crate with the edit."""
+        """What rt says of the crate with the edit, and whether it came to a judgement."""
         folder = self.laid(crate)
         try:
             texts = edited(edit, folder)
         except (OSError, ValueError) as error:
-            return f"the edit cannot be made: {error}\n"
+            return f"the edit cannot be made: {error}\n", True
         for path, text in texts.items():
             (folder / path).write_text(text)
         try:
             done = subprocess.run(["rt", "check", "--jobs", "1"], cwd=folder, stdin=subprocess.DEVNULL, stdout=subprocess.PIPE,
                                   stderr=subprocess.STDOUT, errors="replace", check=False)
-            return f"{done.stdout}exit status {done.returncode}\n"
+            return f"{done.stdout}exit status {done.returncode}\n", done.returncode in (0, 1)
         finally:
             self.laid(crate)
 
@@ -161,11 +161,14 @@ def main():
                     crate, edit, at, of = todo.get_nowait()
                 except queue.Empty:
                     return
-                said = lane.tried(crate, edit)
+                said, judged = lane.tried(crate, edit)
+                if not judged:  # it was cut off, most likely: once more
+                    said, judged = lane.tried(crate, edit)
                 at.mkdir(parents=True, exist_ok=True)
                 (at / ".of").unlink(missing_ok=True)
                 (at / ".log").write_text(said)
-                (at / ".of").write_text(of)
+                if judged:
+                    (at / ".of").write_text(of)
         except Exception as error:  # told where the others end
             errors.append(error)
 
