@@ -5,7 +5,7 @@ ghost use Rattle.std.specs.Prelude.{◌≡◌};
 ghost use Rattle.stab.specs.Answer.{refusal_number, place_code, packed, Packs};
 ghost use Rattle.answer.specs.Near.{Coded};
 
-use stab::{Place, Refusal, Verdict};
+use stab::{Counts, Refusal, Verdict};
 
 // The number of a refusal.
 pub fn number(why: Refusal) -> u64
@@ -47,13 +47,13 @@ pub fn number(why: Refusal) -> u64
 }
 
 // place + 1, where it is below 8192.
-fn coded(place: Place) -> u64
+fn coded(place: Option<usize>) -> u64
     requires { Coded place }
     ensures { result ≡ place_code place }
 {
     match place {
-        Place::Whole => 0,
-        Place::At(k) => k as u64 + 1,
+        None => 0,
+        Some(k) => k as u64 + 1,
     }
 }
 
@@ -63,7 +63,7 @@ pub fn pack(v: Verdict) -> u64
     ensures { result ≡ packed v }
 {
     match v {
-        Verdict::Accepted { nodes, links } => { (8192 + nodes as u64) * 8192 + links as u64 }
-        Verdict::Refused { why, place } => { (number(why) * 8192 + coded(place)) * 67108864 }
+        Ok(Counts { nodes, links }) => (8192 + nodes as u64) * 8192 + links as u64,
+        Err(refused) => (number(refused.why) * 8192 + coded(refused.place)) * 67108864,
     }
 }

@@ -11,9 +11,9 @@ use lib.ListN.{get_or, length}
 use Rattle.stab.specs.Basic.{◌and◌, eq_z, nat, below, same_list, scan}
 use Rattle.stab.specs.Node.{Tableau, node, node_at, set, set_of, parent_fits}
 use Rattle.stab.specs.Check.{parent_refusal, at_unless}
-use Rattle.stab.specs.declared.Place.TheVariants.{At}
+use Rattle.std.specs.Prelude.{Some, Err, Ok}
+use Rattle.stab.specs.Finding.{refuse, no_refusal}
 use Rattle.stab.specs.declared.Refusal.TheVariants.{Parent}
-use Rattle.stab.specs.declared.Finding.TheVariants.{Found, Nothing}
 use Rattle.stab.proofs.Bools.{and_left, and_both, and_first_false, and_second_false, unless_nothing, nothing_unless, found_unless, same_test}
 use Rattle.stab.proofs.Whole.{eq_z_true, at_least_0, below_0}
 use Rattle.stab.proofs.Scans.{nothing_scan}
@@ -92,11 +92,11 @@ module _ (T : Tableau) where
   same_parent zero = refl
   same_parent (suc i) = refl
 
-  pub parent_passes : (j : ℕ) → parent_right T.nodes T.members T.root j ≡ true → parent_refusal T j ≡ Nothing
+  pub parent_passes : (j : ℕ) → parent_right T.nodes T.members T.root j ≡ true → parent_refusal T j ≡ no_refusal
   unfolding parent_refusal at_unless
   parent_passes j h = nothing_unless _ _ _ (sym (same_parent j) ∙ h)
 
-  pub parent_refused : (j : ℕ) → parent_right T.nodes T.members T.root j ≡ false → parent_refusal T j ≡ Found Parent (At j)
+  pub parent_refused : (j : ℕ) → parent_right T.nodes T.members T.root j ≡ false → parent_refusal T j ≡ refuse Parent (Some j)
   unfolding parent_refusal at_unless
   parent_refused j h = found_unless _ _ _ (sym (same_parent j) ∙ h)
 
@@ -108,7 +108,7 @@ fits_up T zero h = and_left _ _ h
 fits_up T (suc i) h = h
 
 -- what the pass over the parents gives
-pub parents_known : (T : Tableau) (k : ℕ) → scan (parent_refusal T) k ≡ Nothing → AllUpFit T.nodes k
+pub parents_known : (T : Tableau) (k : ℕ) → scan (parent_refusal T) k ≡ no_refusal → AllUpFit T.nodes k
 unfolding parent_refusal at_unless
 parents_known T k h j p = fits_up T j (unless_nothing _ _ _ (nothing_scan (parent_refusal T) k h j p))
 

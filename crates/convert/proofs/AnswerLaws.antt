@@ -13,13 +13,10 @@ use Rattle.stab.specs.Basic.{◌otherwise◌}
 use Rattle.stab.specs.Formula.{row_at}
 use Rattle.stab.specs.Check.{at_unless, whole_unless, holds, schema_refusal}
 use Rattle.stab.specs.Text.{padded}
-use Rattle.stab.specs.declared.Place.TheVariants.{Whole}
+use Rattle.std.specs.Prelude.{None, Ok}
+use Rattle.stab.specs.Finding.{refuse, no_refusal, Place, Finding}
 use Rattle.stab.specs.declared.Refusal.TheVariants.{TableTooShort, TooMany, Plain}
-use Rattle.stab.specs.declared.SchemaRead.TheVariants.{Schema as Gave, Refused as ConvertRefused}
-use Rattle.stab.specs.declared.Finding.{Finding}
-use Rattle.stab.specs.declared.Finding.TheVariants.{Nothing, Found}
 use Rattle.stab.specs.declared.Refusal.{Refusal}
-use Rattle.stab.specs.declared.Place.{Place}
 use Rattle.stab.proofs.Bools.{unless_nothing, found_unless, otherwise_first, otherwise_second, otherwise_nothing, otherwise_found, found≢nothing}
 use Rattle.stab.proofs.Findings.{otherwise_assoc}
 use Rattle.wide.specs.Plain.{start_of, plain_rows}
@@ -35,9 +32,9 @@ pub record Inputs (W : WideSchema) : Type 0 where
   pub room : 4096 ≤ W.room
   pub held : 4 * W.schema.rows ≤ length W.schema.table
   pub limit : W.schema.rows ≤ 1024
-  pub found : wide_refusal W.schema ≡ Nothing
+  pub found : wide_refusal W.schema ≡ no_refusal
 
-pub inputs : (W : WideSchema) → input_refusal W ≡ Nothing → Inputs W
+pub inputs : (W : WideSchema) → input_refusal W ≡ no_refusal → Inputs W
 unfolding input_refusal at_unless whole_unless holds
 inputs W h =
     let p = otherwise_second (at_unless (leb 4096 W.room) TableTooShort 0) _ h in
@@ -49,7 +46,7 @@ inputs W h =
       found = otherwise_second (whole_unless (leb W.schema.rows 1024) TooMany) _ q;
     }
 
-pub keeps : (W : WideSchema) → input_refusal W ≡ Nothing → KeepsWide W.schema
+pub keeps : (W : WideSchema) → input_refusal W ≡ no_refusal → KeepsWide W.schema
 keeps W h = (wide_clears W.schema).0 (inputs W h).found
 
 -- 23 comes last
@@ -63,7 +60,7 @@ in_two W =
     ∙ ap (λ (x : Finding). whole_unless (holds W.schema.table 4 W.schema.rows) TableTooShort otherwise x) (otherwise_assoc _ _ _)))
 
 module _ (W : WideSchema) where
-  pub input_found : {why : Refusal} {p : Place} → input_refusal W ≡ Found why p → convert_refusal W ≡ Found why p
+  pub input_found : {why : Refusal} {p : Place} → input_refusal W ≡ refuse why p → convert_refusal W ≡ refuse why p
   input_found e = in_two W ∙ otherwise_found _ _ e
 
   pub count_is : plain_count W ≡ start_of (row_at W.schema.table) W.schema.rows
@@ -71,11 +68,11 @@ module _ (W : WideSchema) where
   count_is = plain_length (row_at W.schema.table) W.schema.rows
 
   -- what is found of the plain rows
-  module _ (h : input_refusal W ≡ Nothing) where
+  module _ (h : input_refusal W ≡ no_refusal) where
     only_23 : convert_refusal W ≡ plain_refusal W
     only_23 = in_two W ∙ otherwise_nothing _ _ h
 
-    pub too_many : leb (plain_count W) 1024 ≡ false → convert_refusal W ≡ Found Plain Whole
+    pub too_many : leb (plain_count W) 1024 ≡ false → convert_refusal W ≡ refuse Plain None
     unfolding plain_refusal whole_unless
     too_many e = only_23 ∙ otherwise_found _ _ (found_unless _ _ _ e)
 
@@ -88,10 +85,10 @@ module _ (W : WideSchema) where
       abbrev pass : Finding
       pass = schema_refusal (plain_in W (padded (pos 0) W.room (plain_table W)))
 
-      pub pass_none : pass ≡ Nothing → convert_refusal W ≡ Nothing
+      pub pass_none : pass ≡ no_refusal → convert_refusal W ≡ no_refusal
       pass_none e = only_23 ∙ (plain_judged W _ filled_rows (inputs W h).found few).0 e
 
-      pub pass_some : {why : Refusal} {p : Place} → pass ≡ Found why p → convert_refusal W ≡ Found Plain Whole
+      pub pass_some : {why : Refusal} {p : Place} → pass ≡ refuse why p → convert_refusal W ≡ refuse Plain None
       pass_some e =
           only_23
           ∙ ⊎_elim
@@ -100,10 +97,10 @@ module _ (W : WideSchema) where
           (plain_refused W)
 
   -- the answer and the table by what is found
-  pub answer_none : convert_refusal W ≡ Nothing → (Gave (pos (plain_root W)) W.schema.least (plain_count W) ≡ converted W) × (padded (pos 0) W.room (plain_table W) ≡ converted_table W)
+  pub answer_none : convert_refusal W ≡ no_refusal → (Ok (record { root = pos (plain_root W); least = W.schema.least; rows = plain_count W }) ≡ converted W) × (padded (pos 0) W.room (plain_table W) ≡ converted_table W)
   unfolding converted converted_by converted_table converted_table_by
   answer_none e = (ap (λ (x : Finding). converted_by x W) (sym e), ap (λ (x : Finding). converted_table_by x W) (sym e))
 
-  pub answer_some : (why : Refusal) (p : Place) → convert_refusal W ≡ Found why p → (ConvertRefused why p ≡ converted W) × (padded (pos 0) W.room [] ≡ converted_table W)
+  pub answer_some : (why : Refusal) (p : Place) → convert_refusal W ≡ refuse why p → (refuse why p ≡ converted W) × (padded (pos 0) W.room [] ≡ converted_table W)
   unfolding converted converted_by converted_table converted_table_by
   answer_some why p e = (ap (λ (x : Finding). converted_by x W) (sym e), ap (λ (x : Finding). converted_table_by x W) (sym e))

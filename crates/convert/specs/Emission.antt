@@ -5,7 +5,7 @@ use Rattle.stab.specs.Basic.{◌otherwise◌}
 use Rattle.stab.specs.Formula.{Row, row_at}
 use Rattle.stab.specs.Check.{at_unless, whole_unless, holds}
 use Rattle.stab.specs.declared.Refusal.TheVariants.{TableTooShort, TooMany}
-use Rattle.stab.specs.declared.Finding.{Finding}
+use Rattle.stab.specs.Finding.{Finding}
 use Rattle.wide.specs.WideFormula.{wide_kind_of, wide_formed}
 use Rattle.wide.specs.Plain.{rows_given, start_of, Image, image, row, columns}
 use Rattle.wide.specs.Convert.{WideSchema, wide_refusal}

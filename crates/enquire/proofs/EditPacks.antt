@@ -3,7 +3,7 @@ use mathlib.Core.Path.{◌≡◌, ◌∙◌, subst}
 use Rattle.stab.specs.Check.{whole_unless, refusal, held_mode}
 use Rattle.stab.specs.Answer.{numbers_in, Packs}
 use Rattle.stab.specs.declared.Refusal.TheVariants.{Waiting}
-use Rattle.stab.specs.declared.Finding.TheVariants.{Nothing}
+use Rattle.stab.specs.Finding.{no_refusal}
 use Rattle.stab.proofs.Bools.{otherwise_nothing, otherwise_first, otherwise_second}
 use Rattle.stab.proofs.Exactness.Refusals.{FindsNear, of_whole, of_refusal, ◌or_else◌}
 use Rattle.growing.specs.Growing.{NodeRow, added, add_refusal, add, growth_numbers, growth_packed}
@@ -22,7 +22,7 @@ module _ (E : Editor) where
   unfolding commit_refusal
   of_commit = of_refusal held_mode E.held or_else of_whole _ _ or_else of_new E.held (waiting_row E.waiting)
 
-  added_too : commit_refusal E ≡ Nothing → add_refusal E.held (waiting_row E.waiting) ≡ Nothing
+  added_too : commit_refusal E ≡ no_refusal → add_refusal E.held (waiting_row E.waiting) ≡ no_refusal
   unfolding commit_refusal add_refusal
   added_too e =
       otherwise_nothing (refusal held_mode E.held) _ (otherwise_first _ _ e)

@@ -2,7 +2,7 @@
 use Prim.Native.Nat.{ℕ, ◌+◌, ◌≤◌}
 use native.Mathlib.Omega.{arith}
 use mathlib.Core.Path.{◌≡◌, refl, sym, ◌∙◌, ap, ap₂}
-use mathlib.Core.Bool.{Bool, true, false}
+use mathlib.Core.Bool.{true, false}
 use mathlib.Core.List.{List, ◌++◌}
 use lib.IntN.{ℤ, pos}
 use lib.ListN.{length, get_or, take, drop}
@@ -11,42 +11,42 @@ use Rattle.stab.specs.Basic.{nat, ◌otherwise◌}
 use Rattle.stab.specs.Node.{Tableau}
 use Rattle.stab.specs.Check.{whole_unless, refusal, held_mode}
 use Rattle.stab.specs.Text.{padded}
-use Rattle.stab.specs.declared.Place.{Place}
-use Rattle.stab.specs.declared.Place.TheVariants.{Whole}
+use Rattle.std.specs.Prelude.{None, Ok, Err}
+use Rattle.std.specs.Result.{is_ok}
+use Rattle.stab.specs.Finding.{no_refusal, refuse, Place, Finding}
 use Rattle.stab.specs.declared.Refusal.{Refusal}
 use Rattle.stab.specs.declared.Refusal.TheVariants.{Waiting}
-use Rattle.stab.specs.declared.Finding.{Finding}
-use Rattle.stab.specs.declared.Finding.TheVariants.{Nothing, Found}
 use Rattle.stab.proofs.Bools.{found_unless, otherwise_found, otherwise_same}
 use Rattle.folds.proofs.Fronts.{sets_more}
 use Rattle.signed.specs.Numbers.{cleared}
 use Rattle.signed.proofs.Tables.{cleared_padded}
 use Rattle.growing.specs.Growing.{NodeRow, added, turned_away, growth_by, left_by, Call, add, take_back, call_refusal, changed, answered, after}
 use Rattle.growing.specs.Enquiry.{stored, nothing_waits, waits, waiting_row, Editor, enquire, commit, grow, commit_refusal, editor_refusal, spoken_of, editor_answer, held_after, waiting_after, waiting_refused, waiting_by, edited}
-use Rattle.growing.specs.declared.Growth.TheVariants.{Held, Refused as GrowthRefused}
+use Rattle.growing.specs.declared.Growth.{Growth}
 use Rattle.growing.proofs.Enquiries.{commit_judged}
 use Rattle.grow.specs.State.{row_from}
 use Rattle.grow.proofs.Calls.{turned_growth}
 
 -- ---- what an answer says
 
-held_means : (x : Finding) (S T : Tableau) (n l : ℕ) (shown : Bool) → growth_by x S T ≡ Held n l shown → x ≡ Nothing
+held_means : (x : Finding) (S T : Tableau) → is_ok (growth_by x S T).verdict ≡ true → x ≡ no_refusal
 unfolding growth_by
-held_means Nothing S T n l shown e = refl
-held_means (Found why p) S T n l shown e = let z : ◌≡◌ {A = ℕ} 0 1 = cc in absurd (omega arith)
+held_means (Ok u) S T e = refl
+held_means (Err r) S T e = cc
 
-refused_means : (x : Finding) (S T : Tableau) (why : Refusal) (p : Place) (shown : Bool) → growth_by x S T ≡ GrowthRefused why p shown → (w : Refusal) × (q : Place) × (x ≡ Found w q)
+refused_means : (x : Finding) (S T : Tableau) → is_ok (growth_by x S T).verdict ≡ false → (w : Refusal) × (q : Place) × (x ≡ refuse w q)
 unfolding growth_by
-refused_means Nothing S T why p shown e = let z : ◌≡◌ {A = ℕ} 0 1 = cc in absurd (omega arith)
-refused_means (Found w q) S T why p shown e = (w, q, refl)
+refused_means (Ok u) S T e = let z : ◌≡◌ {A = ℕ} 0 1 = cc in absurd (omega arith)
+refused_means (Err r) S T e = (r.why, r.place, refl)
 
-pub call_held : (T : Tableau) (call : Call) (n l : ℕ) (shown : Bool) → answered T call ≡ Held n l shown → call_refusal T call ≡ Nothing
-unfolding answered
-call_held T call n l shown e = held_means (call_refusal T call) T (changed T call) n l shown e
+module _ (T : Tableau) (call : Call) (r : Growth) (e : r ≡ answered T call) where
+  pub call_held : is_ok r.verdict ≡ true → call_refusal T call ≡ no_refusal
+  unfolding answered
+  call_held h = held_means (call_refusal T call) T (changed T call) (ap (λ (g : Growth). is_ok g.verdict) (sym e) ∙ h)
 
-pub call_refused : (T : Tableau) (call : Call) (why : Refusal) (p : Place) (shown : Bool) → answered T call ≡ GrowthRefused why p shown → (w : Refusal) × (q : Place) × (call_refusal T call ≡ Found w q)
-unfolding answered
-call_refused T call why p shown e = refused_means (call_refusal T call) T (changed T call) why p shown e
+  pub call_refused : is_ok r.verdict ≡ false → (w : Refusal) × (q : Place) × (call_refusal T call ≡ refuse w q)
+  unfolding answered
+  call_refused h = refused_means (call_refusal T call) T (changed T call) (ap (λ (g : Growth). is_ok g.verdict) (sym e) ∙ h)
 
 -- ---- enquiry
 
@@ -54,14 +54,14 @@ pub enquiry_answer : (E : Editor) (w : NodeRow) → answered E.held (add w) ≡ 
 unfolding answered call_refusal changed editor_answer editor_refusal spoken_of
 enquiry_answer E w = refl
 
-pub enquired_yes : (E : Editor) (w : NodeRow) → call_refusal E.held (add w) ≡ Nothing → edited E (enquire w) ≡ (record { held = E.held; waiting = stored w })
+pub enquired_yes : (E : Editor) (w : NodeRow) → call_refusal E.held (add w) ≡ no_refusal → edited E (enquire w) ≡ (record { held = E.held; waiting = stored w })
 unfolding call_refusal edited editor_refusal held_after left_by waiting_by waiting_after
 enquired_yes E w e i = record {
   held = ap (λ (x : Finding). left_by x E.held E.held) e i;
   waiting = ap (λ (x : Finding). waiting_by x E.waiting (enquire w)) e i;
 }
 
-pub enquired_no : (E : Editor) (w : NodeRow) (why : Refusal) (p : Place) → call_refusal E.held (add w) ≡ Found why p → edited E (enquire w) ≡ (record { held = E.held; waiting = nothing_waits })
+pub enquired_no : (E : Editor) (w : NodeRow) (why : Refusal) (p : Place) → call_refusal E.held (add w) ≡ refuse why p → edited E (enquire w) ≡ (record { held = E.held; waiting = nothing_waits })
 unfolding call_refusal edited editor_refusal held_after left_by waiting_by waiting_refused
 enquired_no E w why p e i = record {
   held = ap (λ (x : Finding). left_by x E.held E.held) e i;
@@ -93,14 +93,14 @@ pub held_is : (E : Editor) (call : Call) → (edited E (grow call)).held ≡ aft
 unfolding edited after
 held_is E call = ap₂ (λ (x : Finding) (U : Tableau). left_by x E.held U) (same_refusal E call) (same_rows E call)
 
-pub called_yes : (E : Editor) (call : Call) → call_refusal E.held call ≡ Nothing → edited E (grow call) ≡ (record { held = after E.held call; waiting = nothing_waits })
+pub called_yes : (E : Editor) (call : Call) → call_refusal E.held call ≡ no_refusal → edited E (grow call) ≡ (record { held = after E.held call; waiting = nothing_waits })
 unfolding edited waiting_by waiting_after
 called_yes E call e i = record {
   held = held_is E call i;
   waiting = ap (λ (x : Finding). waiting_by x E.waiting (grow call)) (same_refusal E call ∙ e) i;
 }
 
-pub called_no : (E : Editor) (call : Call) (why : Refusal) (p : Place) → call_refusal E.held call ≡ Found why p → edited E (grow call) ≡ (record { held = after E.held call; waiting = E.waiting })
+pub called_no : (E : Editor) (call : Call) (why : Refusal) (p : Place) → call_refusal E.held call ≡ refuse why p → edited E (grow call) ≡ (record { held = after E.held call; waiting = E.waiting })
 unfolding edited waiting_by waiting_refused
 called_no E call why p e i = record {
   held = held_is E call i;
@@ -125,14 +125,14 @@ module _ (E : Editor) (h : waits E.waiting ≡ true) where
   unfolding edited after editor_refusal held_after changed
   held_as = ap (λ (x : Finding). left_by x E.held (added E.held w)) judged
 
-  pub committed_yes : call_refusal E.held (add w) ≡ Nothing → edited E commit ≡ (record { held = after E.held (add w); waiting = nothing_waits })
+  pub committed_yes : call_refusal E.held (add w) ≡ no_refusal → edited E commit ≡ (record { held = after E.held (add w); waiting = nothing_waits })
   unfolding edited editor_refusal waiting_by waiting_after
   committed_yes e i = record {
     held = held_as i;
     waiting = ap (λ (x : Finding). waiting_by x E.waiting commit) (judged ∙ e) i;
   }
 
-  pub committed_no : (why : Refusal) (p : Place) → call_refusal E.held (add w) ≡ Found why p → edited E commit ≡ (record { held = after E.held (add w); waiting = E.waiting })
+  pub committed_no : (why : Refusal) (p : Place) → call_refusal E.held (add w) ≡ refuse why p → edited E commit ≡ (record { held = after E.held (add w); waiting = E.waiting })
   unfolding edited editor_refusal waiting_by waiting_refused
   committed_no why p e i = record {
     held = held_as i;
@@ -140,21 +140,21 @@ module _ (E : Editor) (h : waits E.waiting ≡ true) where
   }
 
 module _ (E : Editor) (h : waits E.waiting ≡ false) where
-  pub nothing_waits_lem : commit_refusal E ≡ (refusal held_mode E.held otherwise Found Waiting Whole)
+  pub nothing_waits_lem : commit_refusal E ≡ (refusal held_mode E.held otherwise refuse Waiting None)
   unfolding commit_refusal whole_unless
   nothing_waits_lem = otherwise_same (refusal held_mode E.held) _ _ (λ e. otherwise_found _ _ (found_unless (waits E.waiting) _ _ h))
 
-  pub no_commit_answer : turned_away E.held Waiting Whole ≡ editor_answer E commit
+  pub no_commit_answer : turned_away E.held Waiting None ≡ editor_answer E commit
   unfolding editor_answer editor_refusal
-  no_commit_answer = turned_growth E.held Waiting Whole (spoken_of E commit) ∙ ap (λ (x : Finding). growth_by x E.held (spoken_of E commit)) (sym nothing_waits_lem)
+  no_commit_answer = turned_growth E.held Waiting None (spoken_of E commit) ∙ ap (λ (x : Finding). growth_by x E.held (spoken_of E commit)) (sym nothing_waits_lem)
 
   pub no_commit : edited E commit ≡ E
   unfolding edited editor_refusal left_by waiting_by waiting_refused ◌otherwise◌
   no_commit = go (refusal held_mode E.held) nothing_waits_lem
     where
-      go : (x : Finding) → commit_refusal E ≡ (x otherwise Found Waiting Whole) → (record { held = left_by (commit_refusal E) E.held (held_after E commit); waiting = waiting_by (commit_refusal E) E.waiting commit }) ≡ E
-      go Nothing e = λ i. record { held = ap (λ (x : Finding). left_by x E.held (held_after E commit)) e i; waiting = ap (λ (x : Finding). waiting_by x E.waiting commit) e i }
-      go (Found why p) e = λ i. record { held = ap (λ (x : Finding). left_by x E.held (held_after E commit)) e i; waiting = ap (λ (x : Finding). waiting_by x E.waiting commit) e i }
+      go : (x : Finding) → commit_refusal E ≡ (x otherwise refuse Waiting None) → (record { held = left_by (commit_refusal E) E.held (held_after E commit); waiting = waiting_by (commit_refusal E) E.waiting commit }) ≡ E
+      go (Ok u) e = λ i. record { held = ap (λ (x : Finding). left_by x E.held (held_after E commit)) e i; waiting = ap (λ (x : Finding). waiting_by x E.waiting commit) e i }
+      go (Err r) e = λ i. record { held = ap (λ (x : Finding). left_by x E.held (held_after E commit)) e i; waiting = ap (λ (x : Finding). waiting_by x E.waiting commit) e i }
 
 -- ---- the waiting row in its memory
 

@@ -15,7 +15,7 @@ ghost use Rattle.growing.specs.Lent.{header_after};
 ghost use Rattle.grow.specs.State.{row_from};
 
 use growing::{Growth, Reply};
-use stab::{Header, Place, Refusal};
+use stab::{Header, Refusal};
 
 // Formula rows are given. Then, and also after a refusal, no node is held, the tables are 0 and nothing waits.
 pub fn begin(
@@ -47,18 +47,12 @@ pub fn enquire(
     ensures answer { result ≡ editor_answer (editor (lent schema.now proof.now nodes.old members.old h) waiting.old) (enquireOf (row_from row.now set.now)) }
     ensures left { editor (lent schema.now proof.now nodes.new members.new h) waiting.new ≡ edited (editor (lent schema.now proof.now nodes.old members.old h) waiting.old) (enquireOf (row_from row.now set.now)) }
 {
-    let r = grow::try_row(false, schema, proof, nodes, members, h, row, set);
-    let answer = r.answer;
-    let Growth::Held {
-        nodes: _,
-        links: _,
-        closed: _,
-    } = answer
-    else {
+    let answer = grow::try_row(false, schema, proof, nodes, members, h, row, set).answer;
+    if answer.verdict.is_ok() {
+        memory::store(waiting, row, set);
+    } else {
         signed::clear(waiting, 0);
-        return answer;
-    };
-    memory::store(waiting, row, set);
+    }
     answer
 }
 
@@ -100,27 +94,12 @@ pub fn commit(
     ensures left { editor (lent schema.now proof.now nodes.new members.new (header_after h result)) waiting.new ≡ edited (editor (lent schema.now proof.now nodes.old members.old h) waiting.old) commitCall }
 {
     if !memory::waits(waiting) {
-        return grow::turn_away(
-            schema,
-            proof,
-            nodes,
-            members,
-            h,
-            Refusal::Waiting,
-            Place::Whole,
-        );
+        return grow::turn_away(schema, proof, nodes, members, h, Refusal::Waiting.whole());
     }
     let r = add_waiting(schema, proof, nodes, members, h, waiting);
-    let answer = r.answer;
-    let Growth::Held {
-        nodes: _,
-        links: _,
-        closed: _,
-    } = answer
-    else {
-        return r;
-    };
-    memory::empty(waiting);
+    if r.answer.verdict.is_ok() {
+        memory::empty(waiting);
+    }
     r
 }
 
@@ -139,16 +118,9 @@ pub fn add(
     ensures left { editor (lent schema.now proof.now nodes.new members.new (header_after h result)) waiting.new ≡ edited (editor (lent schema.now proof.now nodes.old members.old h) waiting.old) (grow (add_row (row_from row.now set.now))) }
 {
     let r = grow::add(schema, proof, nodes, members, h, row, set);
-    let answer = r.answer;
-    let Growth::Held {
-        nodes: _,
-        links: _,
-        closed: _,
-    } = answer
-    else {
-        return r;
-    };
-    memory::empty(waiting);
+    if r.answer.verdict.is_ok() {
+        memory::empty(waiting);
+    }
     r
 }
 
@@ -165,15 +137,8 @@ pub fn take_back(
     ensures left { editor (lent schema.now proof.now nodes.new members.new (header_after h result)) waiting.new ≡ edited (editor (lent schema.now proof.now nodes.old members.old h) waiting.old) (grow take_back) }
 {
     let r = grow::take_back(schema, proof, nodes, members, h);
-    let answer = r.answer;
-    let Growth::Held {
-        nodes: _,
-        links: _,
-        closed: _,
-    } = answer
-    else {
-        return r;
-    };
-    memory::empty(waiting);
+    if r.answer.verdict.is_ok() {
+        memory::empty(waiting);
+    }
     r
 }

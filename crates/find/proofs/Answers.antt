@@ -17,17 +17,14 @@ use Rattle.stab.specs.Meaning.{truth}
 use Rattle.stab.specs.Check.{whole_unless}
 use Rattle.stab.specs.Occurs.{Wire, occurring, table}
 use Rattle.stab.specs.Text.{padded}
-use Rattle.stab.specs.declared.Finding.{Finding}
-use Rattle.stab.specs.declared.Finding.TheVariants.{Nothing, Found}
-use Rattle.stab.specs.declared.Place.{Place}
-use Rattle.stab.specs.declared.Place.TheVariants.{Whole}
+use Rattle.std.specs.Prelude.{None}
+use Rattle.stab.specs.Finding.{no_refusal, refuse, Place, Finding}
 use Rattle.stab.specs.declared.Refusal.{Refusal}
 use Rattle.stab.specs.declared.Refusal.TheVariants.{Wires}
 use Rattle.stab.proofs.Bools.{if_true, nothing_unless, found_unless, otherwise_nothing, otherwise_found}
 use Rattle.found.specs.Find.{Query, wires, among, first_model, find_refusal, model_or, found_by, find, model_pairs, given_by, given, found_table}
 use Rattle.found.specs.Number.{numbered, least_below, least_or}
 use Rattle.found.specs.Keys.{keys_of}
-use Rattle.found.specs.declared.ModelFound.TheVariants.{Refused as FindRefused}
 use Rattle.found.proofs.Numbers.{least_none, least_is, first_by_number}
 use Rattle.occurring.specs.Held.{held_count, key_table}
 use Rattle.occurring.proofs.Keys.{keys_length}
@@ -94,15 +91,15 @@ module _ (schema : List ℤ) (root n count r : ℕ) (long : count ≡ length (oc
 -- ---- the answer
 
 module _ (Q : Query) where
-  over_refusal : 16 < length (wires Q) → wires_refusal Q ≡ Found Wires Whole
+  over_refusal : 16 < length (wires Q) → wires_refusal Q ≡ refuse Wires None
   unfolding wires_refusal whole_unless
   over_refusal h = found_unless (leb (length (wires Q)) 16) _ _ (lt-leb (length (wires Q)) 16 h)
 
-  few_refusal : length (wires Q) ≤ 16 → wires_refusal Q ≡ Nothing
+  few_refusal : length (wires Q) ≤ 16 → wires_refusal Q ≡ no_refusal
   unfolding wires_refusal whole_unless
   few_refusal h = nothing_unless (leb (length (wires Q)) 16) _ _ (le-leb (length (wires Q)) 16 h)
 
-  pub answer_over : 16 < length (wires Q) → FindRefused Wires Whole ≡ search_answer Q
+  pub answer_over : 16 < length (wires Q) → refuse Wires None ≡ search_answer Q
   unfolding found_by
   answer_over h = sym (ap (λ (x : Finding). found_by x Q) (over_refusal h))
 
@@ -123,11 +120,11 @@ module _ (Q : Query) where
 
 module _ (Q : Query) (f : Finding) (e : f ≡ query_refusal Q) where
   -- something is found before the pairs are counted
-  module _ (why : Refusal) (p : Place) (h : f ≡ Found why p) where
-    refusal_is : find_refusal Q ≡ Found why p
+  module _ (why : Refusal) (p : Place) (h : f ≡ refuse why p) where
+    refusal_is : find_refusal Q ≡ refuse why p
     refusal_is = find_is Q ∙ otherwise_found (query_refusal Q) (wires_refusal Q) (sym e ∙ h)
 
-    pub refused_is : FindRefused why p ≡ find Q
+    pub refused_is : refuse why p ≡ find Q
     unfolding find found_by
     refused_is = sym (ap (λ (x : Finding). found_by x Q) refusal_is)
 
@@ -136,8 +133,8 @@ module _ (Q : Query) (f : Finding) (e : f ≡ query_refusal Q) where
     refused_table = sym (ap (λ (x : Finding). padded (pos 0) Q.room (table (given_by x Q))) refusal_is)
 
   -- nothing is
-  module _ (h : f ≡ Nothing) where
-    query_none : query_refusal Q ≡ Nothing
+  module _ (h : f ≡ no_refusal) where
+    query_none : query_refusal Q ≡ no_refusal
     query_none = sym e ∙ h
 
     later_is : find_refusal Q ≡ wires_refusal Q

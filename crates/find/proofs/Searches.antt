@@ -11,12 +11,10 @@ use lib.ListN.{length}
 use Rattle.stab.specs.Basic.{◌and◌, ◌otherwise◌}
 use Rattle.stab.specs.Formula.{row_at}
 use Rattle.stab.specs.Check.{whole_unless, at_unless, holds, schema_refusal}
-use Rattle.stab.specs.declared.Place.{Place}
-use Rattle.stab.specs.declared.Place.TheVariants.{At}
+use Rattle.std.specs.Prelude.{Some}
+use Rattle.stab.specs.Finding.{no_refusal, refuse, Place, Finding}
 use Rattle.stab.specs.declared.Refusal.{Refusal}
 use Rattle.stab.specs.declared.Refusal.TheVariants.{TableTooShort, TooMany, Width}
-use Rattle.stab.specs.declared.Finding.{Finding}
-use Rattle.stab.specs.declared.Finding.TheVariants.{Nothing, Found}
 use Rattle.stab.proofs.Bools.{nothing_unless, found_unless, unless_nothing, otherwise_first, otherwise_second, otherwise_nothing, otherwise_found}
 use Rattle.stab.proofs.Findings.{otherwise_assoc}
 use Rattle.stab.proofs.Tests.{◌clears◌, ◌then◌, le_tests, at_clears, whole_clears}
@@ -29,7 +27,7 @@ use Rattle.find.specs.Search.{tables_refusal, query_refusal, wires_refusal, Read
 -- ---- refusals
 
 module _ (ok : Bool) (why : Refusal) (k : ℕ) (rest : Finding) where
-  pub at_here : ok ≡ false → (Found why (At k)) ≡ (at_unless ok why k otherwise rest)
+  pub at_here : ok ≡ false → (refuse why (Some k)) ≡ (at_unless ok why k otherwise rest)
   unfolding at_unless
   at_here h = sym (otherwise_found (at_unless ok why k) rest (found_unless ok _ _ h))
 
@@ -38,9 +36,9 @@ module _ (ok : Bool) (why : Refusal) (k : ℕ) (rest : Finding) where
   at_later x h e = e ∙ sym (otherwise_nothing (at_unless ok why k) rest (nothing_unless ok _ _ h))
 
 -- what is found is not nothing
-pub found_some : (f : Finding) (why : Refusal) (p : Place) → f ≡ Found why p → f ≡ Nothing → ⊥
+pub found_some : (f : Finding) (why : Refusal) (p : Place) → f ≡ refuse why p → f ≡ no_refusal → ⊥
 found_some f why p h n =
-    let found : Found why p ≡ Nothing = sym h ∙ n in
+    let found : refuse why p ≡ no_refusal = sym h ∙ n in
     let z : ◌≡◌ {A = ℕ} 0 1 = cc in
     omega arith
 
@@ -68,12 +66,12 @@ find_is Q =
 
 -- ---- what holds of a query that has passed
 
-module _ (Q : Query) (h : query_refusal Q ≡ Nothing) where
-  tables_none : tables_refusal Q.room Q.schema.table Q.schema.rows ≡ Nothing
+module _ (Q : Query) (h : query_refusal Q ≡ no_refusal) where
+  tables_none : tables_refusal Q.room Q.schema.table Q.schema.rows ≡ no_refusal
   unfolding query_refusal
   tables_none = otherwise_first _ _ h
 
-  formulas_none : schema_refusal Q.schema ≡ Nothing
+  formulas_none : schema_refusal Q.schema ≡ no_refusal
   unfolding query_refusal
   formulas_none = otherwise_first _ _ (otherwise_second (tables_refusal Q.room Q.schema.table Q.schema.rows) _ h)
 

@@ -9,11 +9,11 @@ use Rattle.stab.specs.Check.{whole_unless, at_unless, holds, schema_refusal}
 use Rattle.stab.specs.Occurs.{Wire, occurring, table}
 use Rattle.stab.specs.Text.{padded}
 use Rattle.stab.specs.declared.Refusal.TheVariants.{TableTooShort, TooMany, Width, Wires}
-use Rattle.stab.specs.declared.Finding.{Finding}
+use Rattle.found.specs.Shown.{Shown}
+use Rattle.stab.specs.Finding.{Finding}
 use Rattle.formula.specs.Rows.{Passed}
 use Rattle.pairs.specs.Index.{unbiased}
 use Rattle.found.specs.Find.{Query, wires, among, first_from, found_by, given_by}
-use Rattle.found.specs.declared.ModelFound.{ModelFound}
 
 -- ---- refusals
 
@@ -43,7 +43,7 @@ pub record Ready (Q : Query) (facts : List ℕ) : Type 0 where
   pub room : 8192 ≤ Q.room
 
 -- the answer to such a query, and the lent table
-abbrev pub search_answer : Query → ModelFound
+abbrev pub search_answer : Query → Shown
 search_answer Q = found_by (wires_refusal Q) Q
 
 abbrev pub search_table : Query → List ℤ

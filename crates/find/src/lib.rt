@@ -5,7 +5,7 @@ ghost use Rattle.std.specs.Prelude.{◌≡◌, ◌+◌, ◌*◌, ◌<◌, ◌≤
 ghost use Rattle.stab.specs.Lent.{lent_schema};
 ghost use Rattle.stab.specs.Occurs.{table as wireTable};
 ghost use Rattle.stab.specs.Text.{padded};
-ghost use Rattle.stab.specs.declared.Finding.TheVariants.{Nothing};
+ghost use Rattle.stab.specs.Finding.{no_refusal};
 ghost use Rattle.pairs.specs.Index.{unbiased};
 ghost use Rattle.found.specs.Find.{find, model_or, model_pairs, found_table};
 ghost use Rattle.found.specs.Number.{numbered};
@@ -13,48 +13,44 @@ ghost use Rattle.assigned.specs.Assignments.{Searchable};
 ghost use Rattle.find.specs.Search.{tables_refusal, query_refusal, Ready, search_answer, search_table, first_at, wire_of, wires_of, pair_put, is_true};
 
 use formula_pass::schema_formulas;
-use found::ModelFound;
-use stab::{Finding, Place, Refusal, SchemaHeader};
+use stab::{ModelHeader, Refusal, Refused, SchemaHeader};
 
 // ---- before the search
 
 // Refusals 2 and 5.
-fn tables_pass(room: usize, schema: &[i32], schema_rows: usize) -> Finding
+fn tables_pass(room: usize, schema: &[i32], schema_rows: usize) -> Result<(), Refused>
     ensures { result ≡ tables_refusal room schema.now schema_rows }
 {
     if room < 8192 {
-        return Finding::Found {
-            why: Refusal::TableTooShort,
-            place: Place::At(0),
-        };
+        return Err(Refusal::TableTooShort.at(0));
     }
     if !signed::holds(schema, 4, schema_rows) {
-        return model::whole(Refusal::TableTooShort);
+        return Err(Refusal::TableTooShort.whole());
     }
     if 1024 < schema_rows {
-        return model::whole(Refusal::TooMany);
+        return Err(Refusal::TooMany.whole());
     }
-    Finding::Nothing
+    Ok(())
 }
 
 // What is found before the pairs are counted; the numbers of the schema's rows are kept.
-fn query_pass(schema: &[i32], h: SchemaHeader, n: i32, room: usize, facts: &mut [u32]) -> Finding
+fn query_pass(
+    schema: &[i32],
+    h: SchemaHeader,
+    n: i32,
+    room: usize,
+    facts: &mut [u32],
+) -> Result<(), Refused>
     requires { 4096 ≤ length facts.old }
     ensures value { result ≡ query_refusal (record { schema = lent_schema schema.entry.now h; n = n; room = room }) }
-    ensures ready { result ≡ Nothing → Ready (record { schema = lent_schema schema.entry.now h; n = n; room = room }) facts.new }
+    ensures ready { result ≡ no_refusal → Ready (record { schema = lent_schema schema.entry.now h; n = n; room = room }) facts.new }
 {
-    let found = tables_pass(room, schema, h.rows);
-    let Finding::Nothing = found else {
-        return found;
-    };
-    let found = schema_formulas(schema, h, facts);
-    let Finding::Nothing = found else {
-        return found;
-    };
+    tables_pass(room, schema, h.rows)?;
+    schema_formulas(schema, h, facts)?;
     if model::width_fits(h.least, n) {
-        return Finding::Nothing;
+        return Ok(());
     }
-    model::whole(Refusal::Width)
+    Err(Refusal::Width.whole())
 }
 
 // ---- the pairs of an assignment
@@ -127,7 +123,7 @@ fn shown(
     count: usize,
     n: i32,
     pairs: &mut [i32],
-) -> ModelFound
+) -> Result<Option<ModelHeader>, Refused>
     requires { Searchable schema.now facts.now root width keys.now count × (count ≤ length keys.now) × (32 ≤ length pairs.old) }
     ensures value { result ≡ model_or n (first_at schema.now root width) }
     ensures pairs_after { pairs.new ≡ padded (pos 0) (length pairs.old) (wireTable (model_pairs (first_at schema.now root width))) }
@@ -135,14 +131,20 @@ fn shown(
     let m = assigned::first_number(schema, facts, root, width, keys, count);
     if m == 1usize << count {
         signed::clear(pairs, 0);
-        return ModelFound::None;
+        return Ok(None);
     }
     let given = write_pairs(pairs, keys, count, m);
-    ModelFound::Model { n, pairs: given }
+    Ok(Some(ModelHeader { n, pairs: given }))
 }
 
 // The answer for a query that has passed so far, and the lent table.
-fn searched(schema: &[i32], h: SchemaHeader, n: i32, facts: &[u32], table: &mut [i32]) -> ModelFound
+fn searched(
+    schema: &[i32],
+    h: SchemaHeader,
+    n: i32,
+    facts: &[u32],
+    table: &mut [i32],
+) -> Result<Option<ModelHeader>, Refused>
     requires { Ready (record { schema = lent_schema schema.now h; n = n; room = length table.old }) facts.now }
     ensures value { result ≡ search_answer (record { schema = lent_schema schema.entry.now h; n = n; room = length table.old }) }
     ensures table_after { table.new ≡ search_table (record { schema = lent_schema schema.entry.now h; n = n; room = length table.old }) }
@@ -153,26 +155,27 @@ fn searched(schema: &[i32], h: SchemaHeader, n: i32, facts: &[u32], table: &mut 
     let count = occurring::occurring(schema, facts, row, width, &mut keys);
     if 16 < count {
         signed::clear(table, 0);
-        return ModelFound::Refused {
-            why: Refusal::Wires,
-            place: Place::Whole,
-        };
+        return Err(Refusal::Wires.whole());
     }
     shown(schema, facts, row, width, &keys, count, n, table)
 }
 
 // The first model of a schema at n, its true pairs in the lent table.
-pub fn find_model(schema: &[i32], h: SchemaHeader, n: i32, pairs: &mut [i32]) -> ModelFound
+pub fn find_model(
+    schema: &[i32],
+    h: SchemaHeader,
+    n: i32,
+    pairs: &mut [i32],
+) -> Result<Option<ModelHeader>, Refused>
     ensures value { result ≡ find (record { schema = lent_schema schema.entry.now h; n = n; room = length pairs.old }) }
     ensures pairs_after { pairs.new ≡ found_table (record { schema = lent_schema schema.entry.now h; n = n; room = length pairs.old }) }
 {
     let mut facts = [0u32; 4096];
-    let found = query_pass(schema, h, n, pairs.len(), &mut facts);
-    match found {
-        Finding::Found { why, place } => {
+    match query_pass(schema, h, n, pairs.len(), &mut facts) {
+        Err(refused) => {
             signed::clear(pairs, 0);
-            ModelFound::Refused { why, place }
+            Err(refused)
         }
-        Finding::Nothing => searched(schema, h, n, &facts, pairs),
+        Ok(()) => searched(schema, h, n, &facts, pairs),
     }
 }

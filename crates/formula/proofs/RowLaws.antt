@@ -1,5 +1,5 @@
 -- Laws of formula rows: their columns as tests on naturals, their formulas by kind, and what is kept of them.
-use Rattle.std.specs.Prelude.{if◌then◌else◌}
+use Rattle.std.specs.Prelude.{if◌then◌else◌, None, Some, Ok, Err, Result, Option}
 use Prim.Native.Nat.{ℕ, zero, suc, ◌+◌, ◌-◌, ◌*◌, ◌<◌, ◌≤◌, max}
 use native.Mathlib.Omega.{arith}
 use native.Mathlib.Numerals.{add-one}
@@ -15,12 +15,10 @@ use Rattle.stab.specs.Basic.{◌and◌, ◌or◌, eq_z, within, nat, below, ◌o
 use Rattle.stab.specs.Formula as F
 use Rattle.stab.specs.Formula.{Row, Op, conj, disj, Kind, constant, literal, junction, iteration, unknown, kind_of, Base, nothing, parameter, index, base_of, Formula, lit, join, iter, decode, tree, on_index, is_body, mixes, offset, well_formed_as, well_formed, small_enough}
 use Rattle.stab.specs.Check.{at_unless, whole_unless, row_refusal, root_fits}
-use Rattle.stab.specs.declared.Place.TheVariants.{Whole, At}
+use Rattle.stab.specs.Finding.{no_refusal, refuse, Place, Finding}
+use Rattle.stab.specs.declared.Refused.{Refused}
 use Rattle.stab.specs.declared.Refusal.TheVariants.{Root, IllFormed, TooLarge}
-use Rattle.stab.specs.declared.Finding.{Finding}
-use Rattle.stab.specs.declared.Finding.TheVariants.{Nothing, Found}
 use Rattle.stab.specs.declared.Refusal.{Refusal}
-use Rattle.stab.specs.declared.Place.{Place}
 use Rattle.stab.proofs.Bools.{decide, and_both, and_left, and_right, and_first_false, if_false, not_of_false, not_of_true, false_of_not, true_of_not, otherwise_nothing, otherwise_found, otherwise_first, otherwise_second, nothing_unless, found_unless, unless_nothing, found≢nothing}
 use Rattle.stab.proofs.Whole.{num, of_eq, eq_z_of, eq_z_not, nat_pos, at_least_0, below_0}
 use Rattle.stab.proofs.Scans.{below_suc, scan_longer}
@@ -29,8 +27,6 @@ use Rattle.stab.proofs.Trees.{below_nat}
 use Rattle.formula.specs.Facts.{bit, Known}
 use Rattle.formula.specs.Rows.{facts_of, facts_at, both_facts, over_facts, kept_facts, kept_if, facts_table_by, judged, constant_judged, literal_judged, unmixed, pair_judged, body_judged, judged_refusal, kept_judged, Summable, Passed}
 use Rattle.formula.specs.declared.rows.Facts.{Facts}
-use Rattle.formula.specs.declared.rows.Judged.{Judged}
-use Rattle.formula.specs.declared.rows.Judged.TheVariants.{Ill, Formed}
 use Rattle.formula.proofs.KeptLaws.{kept_other, kept_length, kept_first, kept_second, kept_third, kept_fourth}
 
 -- ---- what a function said of a test, and the branch that it led to
@@ -212,7 +208,7 @@ module _ (rows : ℕ → Row) (r : ℕ) (k : Kind) (kind : kind_of (rows r).kind
   unfolding well_formed
   formed_as = ap (well_formed_as rows r (rows r)) kind
 
-  pub ill : well_formed_as rows r (rows r) k ≡ false → Ill ≡ judged rows r
+  pub ill : well_formed_as rows r (rows r) k ≡ false → None ≡ judged rows r
   unfolding judged
   ill h = sym (if_false (well_formed rows r) _ _ (formed_as ∙ h))
 
@@ -222,12 +218,12 @@ module _ (rows : ℕ → Row) (r : ℕ) (v : Bool) where
   pub constant_judged_lem : kind_of (rows r).kind ≡ constant v → constant_judged (rows r) ≡ judged rows r
   unfolding constant_judged judged well_formed_as decode facts_of F.size F.depth F.loose F.fixed bit
   constant_judged_lem kind =
-      sym (ap₂ (λ (t : Bool) (f : Facts). if t then Formed f else Ill) (formed_as rows r (constant v) kind) (ap facts_of (decoded rows r (constant v) kind)))
+      sym (ap₂ (λ (t : Bool) (f : Facts). if t then Some f else None) (formed_as rows r (constant v) kind) (ap facts_of (decoded rows r (constant v) kind)))
 
   pub literal_judged_lem : kind_of (rows r).kind ≡ literal v → literal_judged (rows r) ≡ judged rows r
   unfolding literal_judged judged well_formed_as decode
   literal_judged_lem kind =
-      ap₂ (λ (t : Bool) (f : Facts). if t then Formed f else Ill)
+      ap₂ (λ (t : Bool) (f : Facts). if t then Some f else None)
       (ap₂ (λ (x y : Bool). x and y and offset (rows r).c) (within_below 255 (rows r).a) (within_below 2 (rows r).b)
       ∙ sym (formed_as rows r (literal v) kind))
       (literal_facts v (rows r).a (base_of (rows r).b) (rows r).c refl refl refl refl ∙ ap facts_of (sym (decoded rows r (literal v) kind)))
@@ -240,11 +236,11 @@ bit_none true = refl
 bit_none false = refl
 
 -- where nothing is mixed, the numbers are those of a well-formed row
-unmixed_is : (l d : Bool) (f : Facts) → f.loose ≡ bit l → f.fixed ≡ bit d → unmixed f ≡ (if not (l and d) then Formed f else Ill)
+unmixed_is : (l d : Bool) (f : Facts) → f.loose ≡ bit l → f.fixed ≡ bit d → unmixed f ≡ (if not (l and d) then Some f else None)
 unfolding unmixed bit ◌or◌ ◌and◌
-unmixed_is l d f p q = ap₂ (λ (m n : ℕ). if eqb m 0 or eqb n 0 then Formed f else Ill) p q ∙ go l d
+unmixed_is l d f p q = ap₂ (λ (m n : ℕ). if eqb m 0 or eqb n 0 then Some f else None) p q ∙ go l d
   where
-    go : (l d : Bool) → (if eqb (bit l) 0 or eqb (bit d) 0 then Formed f else Ill) ≡ (if not (l and d) then Formed f else Ill)
+    go : (l d : Bool) → (if eqb (bit l) 0 or eqb (bit d) 0 then Some f else None) ≡ (if not (l and d) then Some f else None)
     go true true = refl
     go true false = refl
     go false true = refl
@@ -252,7 +248,7 @@ unmixed_is l d f p q = ap₂ (λ (m n : ℕ). if eqb m 0 or eqb n 0 then Formed 
 
 -- a row with two parts that passes three tests, and mixes only where l and d
 pub pair_same : (x y z l d : Bool) (f : Facts) {g : Facts} → f.loose ≡ bit l → f.fixed ≡ bit d → ((x and y and z) ≡ true → g ≡ f)
-    → (if x and y and z then unmixed g else Ill) ≡ (if x and y and z and not (l and d) then Formed f else Ill)
+    → (if x and y and z then unmixed g else None) ≡ (if x and y and z and not (l and d) then Some f else None)
 unfolding ◌and◌
 pair_same true true true l d f p q h = ap unmixed (h refl) ∙ unmixed_is l d f p q
 pair_same true true false l d f p q h = refl
@@ -261,9 +257,9 @@ pair_same false y z l d f p q h = refl
 
 -- an iteration that passes three tests, and whose body is fixed only where d
 pub body_same : (x y z d : Bool) (f g : Facts) → (x ≡ true → g.fixed ≡ bit d) → (x ≡ true → over_facts g ≡ f)
-    → (if x and y and z and eqb g.fixed 0 then Formed (over_facts g) else Ill) ≡ (if x and y and z and not d then Formed f else Ill)
+    → (if x and y and z and eqb g.fixed 0 then Some (over_facts g) else None) ≡ (if x and y and z and not d then Some f else None)
 unfolding ◌and◌
-body_same true true true d f g p q = ap₂ (λ (t : Bool) (h : Facts). if t then Formed h else Ill) (ap (λ (n : ℕ). eqb n 0) (p refl) ∙ bit_none d) (q refl)
+body_same true true true d f g p q = ap₂ (λ (t : Bool) (h : Facts). if t then Some h else None) (ap (λ (n : ℕ). eqb n 0) (p refl) ∙ bit_none d) (q refl)
 body_same true true false d f g p q = refl
 body_same true false z d f g p q = refl
 body_same false y z d f g p q = refl
@@ -310,7 +306,7 @@ module _ (rows : ℕ → Row) (facts : List ℕ) (r : ℕ) (passed : Passed rows
       let p = and_left _ _ h in
       let q = and_left _ _ (and_right (below r (rows r).a) _ h) in
       ap₂ both_facts (known_part _ p) (known_part _ q) ∙ both_facts_lem o _ _ ∙ ap facts_of (sym (junction_tree rows r o kind p q)))
-      ∙ ap (λ (t : Bool). if t then Formed (facts_of (tree rows r)) else Ill) (sym (formed_as rows r (junction o) kind))
+      ∙ ap (λ (t : Bool). if t then Some (facts_of (tree rows r)) else None) (sym (formed_as rows r (junction o) kind))
 
   -- and of an iteration
   pub body_judged_lem : (o : Op) → kind_of (rows r).kind ≡ iteration o → body_judged r (rows r) facts ≡ judged rows r
@@ -319,50 +315,50 @@ module _ (rows : ℕ → Row) (facts : List ℕ) (r : ℕ) (passed : Passed rows
       body_same (below r (rows r).a) (offset (rows r).b) (offset (rows r).c) _ (facts_of (tree rows r)) (facts_at facts (nat (rows r).a))
       (λ p. ap (λ (g : Facts). g.fixed) (known_part _ p))
       (λ p. ap over_facts (known_part _ p) ∙ over_facts_lem o _ _ _ ∙ ap facts_of (sym (iteration_tree rows r o kind p)))
-      ∙ ap (λ (t : Bool). if t then Formed (facts_of (tree rows r)) else Ill) (sym (formed_as rows r (iteration o) kind))
+      ∙ ap (λ (t : Bool). if t then Some (facts_of (tree rows r)) else None) (sym (formed_as rows r (iteration o) kind))
 
 -- ---- what is found at a row
 
 -- where something is found, nothing is kept
-pub none_kept : {o : Finding} {why : Refusal} {p : Place} (facts : List ℕ) (r : ℕ) (f : Facts) → Found why p ≡ o → facts ≡ kept_if o facts r f
+pub none_kept : {o : Finding} {why : Refusal} {p : Place} (facts : List ℕ) (r : ℕ) (f : Facts) → refuse why p ≡ o → facts ≡ kept_if o facts r f
 unfolding kept_if
 none_kept facts r f h = ap (λ (o : Finding). kept_if o facts r f) h
 
-module _ (facts : List ℕ) (r : ℕ) {j : Judged} where
-  pub ill_found : j ≡ Ill → (Found IllFormed (At r) ≡ judged_refusal j r) × (facts ≡ kept_judged j facts r)
+module _ (facts : List ℕ) (r : ℕ) {j : (Option Facts)} where
+  pub ill_found : j ≡ None → (refuse IllFormed (Some r) ≡ judged_refusal j r) × (facts ≡ kept_judged j facts r)
   unfolding judged_refusal kept_judged
-  ill_found e = (ap (λ (i : Judged). judged_refusal i r) (sym e), ap (λ (i : Judged). kept_judged i facts r) (sym e))
+  ill_found e = (ap (λ (i : (Option Facts)). judged_refusal i r) (sym e), ap (λ (i : (Option Facts)). kept_judged i facts r) (sym e))
 
-  module _ (f : Facts) (e : j ≡ Formed f) where
-    pub large_found : (leb f.size 4096 and leb f.depth 64) ≡ false → (Found TooLarge (At r) ≡ judged_refusal j r) × (facts ≡ kept_judged j facts r)
+  module _ (f : Facts) (e : j ≡ Some f) where
+    pub large_found : (leb f.size 4096 and leb f.depth 64) ≡ false → (refuse TooLarge (Some r) ≡ judged_refusal j r) × (facts ≡ kept_judged j facts r)
     unfolding judged_refusal kept_judged at_unless
     large_found h =
         let found = sym (found_unless (leb f.size 4096 and leb f.depth 64) _ _ h) in
-        (found ∙ ap (λ (i : Judged). judged_refusal i r) (sym e), none_kept facts r f found ∙ ap (λ (i : Judged). kept_judged i facts r) (sym e))
+        (found ∙ ap (λ (i : (Option Facts)). judged_refusal i r) (sym e), none_kept facts r f found ∙ ap (λ (i : (Option Facts)). kept_judged i facts r) (sym e))
 
-    pub small_found : f.size ≤ 4096 → f.depth ≤ 64 → (Nothing ≡ judged_refusal j r) × (kept_facts facts r f ≡ kept_judged j facts r)
+    pub small_found : f.size ≤ 4096 → f.depth ≤ 64 → (no_refusal ≡ judged_refusal j r) × (kept_facts facts r f ≡ kept_judged j facts r)
     unfolding judged_refusal kept_judged at_unless kept_if
     small_found p q =
         let h = and_both _ _ (le-leb f.size 4096 p) (le-leb f.depth 64 q) in
         let found = sym (nothing_unless (leb f.size 4096 and leb f.depth 64) _ _ h) in (
-          found ∙ ap (λ (i : Judged). judged_refusal i r) (sym e),
-          ap (λ (o : Finding). kept_if o facts r f) found ∙ ap (λ (i : Judged). kept_judged i facts r) (sym e),
+          found ∙ ap (λ (i : (Option Facts)). judged_refusal i r) (sym e),
+          ap (λ (o : Finding). kept_if o facts r f) found ∙ ap (λ (i : (Option Facts)). kept_judged i facts r) (sym e),
         )
 
 module _ (ok : Bool) (f : Facts) (r : ℕ) where
-  pub judged_refusal_lem : judged_refusal (if ok then Formed f else Ill) r ≡ (at_unless ok IllFormed r otherwise at_unless (leb f.size 4096 and leb f.depth 64) TooLarge r)
+  pub judged_refusal_lem : judged_refusal (if ok then Some f else None) r ≡ (at_unless ok IllFormed r otherwise at_unless (leb f.size 4096 and leb f.depth 64) TooLarge r)
   unfolding judged_refusal at_unless unless ◌otherwise◌
   judged_refusal_lem = go ok
     where
-      go : (t : Bool) → judged_refusal (if t then Formed f else Ill) r ≡ (at_unless t IllFormed r otherwise at_unless (leb f.size 4096 and leb f.depth 64) TooLarge r)
+      go : (t : Bool) → judged_refusal (if t then Some f else None) r ≡ (at_unless t IllFormed r otherwise at_unless (leb f.size 4096 and leb f.depth 64) TooLarge r)
       go true = refl
       go false = refl
 
-  pub judged_kept : (facts : List ℕ) → kept_judged (if ok then Formed f else Ill) facts r ≡ kept_if (judged_refusal (if ok then Formed f else Ill) r) facts r f
+  pub judged_kept : (facts : List ℕ) → kept_judged (if ok then Some f else None) facts r ≡ kept_if (judged_refusal (if ok then Some f else None) r) facts r f
   unfolding kept_judged judged_refusal kept_if
   judged_kept facts = go ok
     where
-      go : (t : Bool) → kept_judged (if t then Formed f else Ill) facts r ≡ kept_if (judged_refusal (if t then Formed f else Ill) r) facts r f
+      go : (t : Bool) → kept_judged (if t then Some f else None) facts r ≡ kept_if (judged_refusal (if t then Some f else None) r) facts r f
       go true = refl
       go false = refl
 
@@ -377,7 +373,7 @@ module _ (rows : ℕ → Row) (r : ℕ) where
       judged_kept (well_formed rows r) (facts_of (tree rows r)) r facts
       ∙ ap (λ (o : Finding). kept_if o facts r (facts_of (tree rows r))) row_found_lem
 
-  module _ (h : row_refusal rows r ≡ Nothing) where
+  module _ (h : row_refusal rows r ≡ no_refusal) where
     row_formed : well_formed rows r ≡ true
     unfolding row_refusal at_unless
     row_formed = unless_nothing _ _ _ (otherwise_first _ _ h)
@@ -431,7 +427,7 @@ passed_none rows facts =
       small = λ a l. absurd (omega arith);
     }
 
-pub passed_more : (rows : ℕ → Row) (facts : List ℕ) (r : ℕ) → Passed rows facts r → 4 * r + 3 < length facts → row_refusal rows r ≡ Nothing
+pub passed_more : (rows : ℕ → Row) (facts : List ℕ) (r : ℕ) → Passed rows facts r → 4 * r + 3 < length facts → row_refusal rows r ≡ no_refusal
     → Passed rows (kept_if (row_refusal rows r) facts r (facts_of (tree rows r))) (r + 1)
 unfolding kept_if
 passed_more rows facts r passed room h =
@@ -448,7 +444,7 @@ passed_more rows facts r passed room h =
     }
 
 -- a refusal is not nothing
-pub never : {A : Type 0} {o : Finding} {why : Refusal} {p : Place} → Found why p ≡ o → o ≡ Nothing → A
+pub never : {A : Type 0} {o : Finding} {why : Refusal} {p : Place} → refuse why p ≡ o → o ≡ no_refusal → A
 never e q = absurd (found≢nothing (e ∙ q))
 
 -- ---- the table of what is kept
@@ -459,7 +455,7 @@ module _ (passed judge : ℕ → Finding) (want : ℕ → Facts) (facts : List �
   table_none = refl
 
   -- one row more
-  pub table_more : (r : ℕ) {u w : List ℕ} → scan passed r ≡ Nothing → u ≡ facts_table_by passed judge want facts r
+  pub table_more : (r : ℕ) {u w : List ℕ} → scan passed r ≡ no_refusal → u ≡ facts_table_by passed judge want facts r
       → w ≡ kept_if (judge r) u r (want r) → w ≡ facts_table_by passed judge want facts (r + 1)
   unfolding facts_table_by
   table_more r {u} {w} s e k =
@@ -467,7 +463,7 @@ module _ (passed judge : ℕ → Finding) (want : ℕ → Facts) (facts : List �
       (k ∙ ap₂ (λ (o : Finding) (l : List ℕ). kept_if o l r (want r)) (sym (otherwise_nothing (scan passed r) (judge r) s)) e)
 
   -- after something is found nothing is kept
-  pub table_stays : (r n : ℕ) {why : Refusal} {p : Place} → scan passed r ≡ Found why p → r ≤ n → facts_table_by passed judge want facts n ≡ facts_table_by passed judge want facts r
+  pub table_stays : (r n : ℕ) {why : Refusal} {p : Place} → scan passed r ≡ refuse why p → r ≤ n → facts_table_by passed judge want facts n ≡ facts_table_by passed judge want facts r
   unfolding facts_table_by kept_if
   table_stays r zero h l = let e : zero ≡ r = omega arith in ap (facts_table_by passed judge want facts) e
   table_stays r (suc n) h l =
@@ -485,7 +481,7 @@ module _ (judge : ℕ → Finding) (n s : ℕ) (root least : ℤ) (loose : Bool)
   abbrev found_by : Finding
   found_by = whole_unless (root_fits s root least) Root otherwise scan judge n otherwise whole_unless (not loose) Root
 
-  pub formulas_root : root_fits s root least ≡ false → Found Root Whole ≡ found_by
+  pub formulas_root : root_fits s root least ≡ false → refuse Root None ≡ found_by
   unfolding whole_unless
   formulas_root h = sym (otherwise_found _ _ (found_unless (root_fits s root least) _ _ h))
 
@@ -494,14 +490,14 @@ module _ (judge : ℕ → Finding) (n s : ℕ) (root least : ℤ) (loose : Bool)
     unfolding whole_unless
     after_root = otherwise_nothing _ _ (nothing_unless (root_fits s root least) _ _ fits)
 
-    pub formulas_row : {why : Refusal} {p : Place} → Found why p ≡ scan judge n → Found why p ≡ found_by
+    pub formulas_row : {why : Refusal} {p : Place} → refuse why p ≡ scan judge n → refuse why p ≡ found_by
     formulas_row h = sym (after_root ∙ otherwise_found _ _ (sym h))
 
-    module _ (None-found : scan judge n ≡ Nothing) where
-      pub formulas_loose : loose ≡ true → Found Root Whole ≡ found_by
+    module _ (None-found : scan judge n ≡ no_refusal) where
+      pub formulas_loose : loose ≡ true → refuse Root None ≡ found_by
       unfolding whole_unless
       formulas_loose h = sym (after_root ∙ otherwise_nothing _ _ None-found ∙ found_unless (not loose) _ _ (not_of_true _ h))
 
-      pub formulas_none : loose ≡ false → Nothing ≡ found_by
+      pub formulas_none : loose ≡ false → no_refusal ≡ found_by
       unfolding whole_unless
       formulas_none h = sym (after_root ∙ otherwise_nothing _ _ None-found ∙ nothing_unless (not loose) _ _ (not_of_false _ h))

@@ -1,18 +1,15 @@
 -- What the pass over formula rows works out for a row, and what holds of rows that passed.
-use Rattle.std.specs.Prelude.{ℕ, zero, suc, ◌+◌, ◌-◌, ◌*◌, ◌<◌, ◌≤◌, max, ◌≡◌, Bool, true, List, eqb, leb, ℤ, pos, length, get_or, if◌then◌else◌}
+use Rattle.std.specs.Prelude.{ℕ, zero, suc, ◌+◌, ◌-◌, ◌*◌, ◌<◌, ◌≤◌, max, ◌≡◌, Bool, true, List, eqb, leb, ℤ, pos, length, get_or, if◌then◌else◌, Some, Ok, Err, None, Result, Option}
 use Rattle.stab.specs.Basic.{◌and◌, ◌or◌, eq_z, nat, below, ◌otherwise◌, scan}
 use Rattle.stab.specs.Check.{at_unless, row_refusal, formula_refusal, root_fits}
-use Rattle.stab.specs.declared.Place.TheVariants.{At}
+use Rattle.stab.specs.Finding.{no_refusal, refuse, Finding}
+use Rattle.stab.specs.declared.Refused.{Refused}
 use Rattle.stab.specs.declared.Refusal.TheVariants.{IllFormed, TooLarge}
 use Rattle.stab.specs.Formula as F
 use Rattle.stab.specs.Formula.{Row, Formula, tree, offset, base_of, on_index, well_formed, small_enough}
-use Rattle.stab.specs.declared.Finding.{Finding}
-use Rattle.stab.specs.declared.Finding.TheVariants.{Nothing, Found}
 use Rattle.formula.specs.Facts.{bit, AllKnown, AllFormed}
 use Rattle.formula.specs.Kept.{kept}
 use Rattle.formula.specs.declared.rows.Facts.{Facts}
-use Rattle.formula.specs.declared.rows.Judged.{Judged}
-use Rattle.formula.specs.declared.rows.Judged.TheVariants.{Ill, Formed}
 
 -- the four numbers of a formula
 unfoldable pub facts_of : Formula → Facts
@@ -42,8 +39,8 @@ kept_facts facts r f = kept facts r f.size f.depth f.loose f.fixed
 
 -- those are kept where nothing is found
 unfoldable pub kept_if : Finding → List ℕ → ℕ → Facts → List ℕ
-kept_if Nothing facts r f = kept_facts facts r f
-kept_if (Found why p) facts r f = facts
+kept_if (Ok u) facts r f = kept_facts facts r f
+kept_if (Err e) facts r f = facts
 
 -- the table after a pass over n rows: the numbers that `want` gives of each row, where `judge` finds nothing of it and `passed` nothing
 -- of the rows before it
@@ -60,50 +57,50 @@ unfoldable pub formulas_table : Bool → (ℕ → Row) → List ℕ → ℕ → 
 formulas_table older rows facts n s root least = if root_fits s root least then facts_table older rows s facts n else facts
 
 -- row r is ill-formed, or has these four numbers
-unfoldable pub judged : (ℕ → Row) → ℕ → Judged
-judged rows r = if well_formed rows r then Formed (facts_of (tree rows r)) else Ill
+unfoldable pub judged : (ℕ → Row) → ℕ → (Option Facts)
+judged rows r = if well_formed rows r then Some (facts_of (tree rows r)) else None
 
 -- a row whose columns are w is true or false: a, b and c are 0
-unfoldable pub constant_judged : Row → Judged
+unfoldable pub constant_judged : Row → (Option Facts)
 constant_judged w =
     if eq_z w.a (pos 0) and eq_z w.b (pos 0) and eq_z w.c (pos 0)
-    then Formed (record { size = 1; depth = 1; loose = 0; fixed = 0 })
-    else Ill
+    then Some (record { size = 1; depth = 1; loose = 0; fixed = 0 })
+    else None
 
 -- it is a literal: a is 0..255, b 0..2, c -9999..9999
-unfoldable pub literal_judged : Row → Judged
+unfoldable pub literal_judged : Row → (Option Facts)
 literal_judged w =
     if below 256 w.a and below 3 w.b and offset w.c
-    then Formed (record { size = 1; depth = 1; loose = bit (on_index (base_of w.b)); fixed = 1 - bit (on_index (base_of w.b)) })
-    else Ill
+    then Some (record { size = 1; depth = 1; loose = bit (on_index (base_of w.b)); fixed = 1 - bit (on_index (base_of w.b)) })
+    else None
 
 -- a row with these numbers is well formed, unless it mixes literals on i with what is not on i
-unfoldable pub unmixed : Facts → Judged
-unmixed f = if eqb f.loose 0 or eqb f.fixed 0 then Formed f else Ill
+unfoldable pub unmixed : Facts → (Option Facts)
+unmixed f = if eqb f.loose 0 or eqb f.fixed 0 then Some f else None
 
 -- row r, whose columns are w, has two parts: a and b are smaller rows that do not mix, c is 0
-unfoldable pub pair_judged : ℕ → Row → List ℕ → Judged
+unfoldable pub pair_judged : ℕ → Row → List ℕ → (Option Facts)
 pair_judged r w facts =
     if below r w.a and below r w.b and eq_z w.c (pos 0)
     then unmixed (both_facts (facts_at facts (nat w.a)) (facts_at facts (nat w.b)))
-    else Ill
+    else None
 
 -- it is an iteration: a is a smaller row that is a body, b and c are -9999..9999
-unfoldable pub body_judged : ℕ → Row → List ℕ → Judged
+unfoldable pub body_judged : ℕ → Row → List ℕ → (Option Facts)
 body_judged r w facts =
     if below r w.a and offset w.b and offset w.c and eqb (facts_at facts (nat w.a)).fixed 0
-    then Formed (over_facts (facts_at facts (nat w.a)))
-    else Ill
+    then Some (over_facts (facts_at facts (nat w.a)))
+    else None
 
 -- 7, then 8, for a row that was judged so
-unfoldable pub judged_refusal : Judged → ℕ → Finding
-judged_refusal Ill r = Found IllFormed (At r)
-judged_refusal (Formed f) r = at_unless (leb f.size 4096 and leb f.depth 64) TooLarge r
+unfoldable pub judged_refusal : (Option Facts) → ℕ → Finding
+judged_refusal None r = refuse IllFormed (Some r)
+judged_refusal (Some f) r = at_unless (leb f.size 4096 and leb f.depth 64) TooLarge r
 
 -- its numbers are kept where nothing is found
-unfoldable pub kept_judged : Judged → List ℕ → ℕ → List ℕ
-kept_judged Ill facts r = facts
-kept_judged (Formed f) facts r = kept_if (judged_refusal (Formed f) r) facts r f
+unfoldable pub kept_judged : (Option Facts) → List ℕ → ℕ → List ℕ
+kept_judged None facts r = facts
+kept_judged (Some f) facts r = kept_if (judged_refusal (Some f) r) facts r f
 
 -- what is kept of n rows is small enough that the numbers of one more row can be worked out
 pub record Summable (facts : List ℕ) (n : ℕ) : Type 0 where

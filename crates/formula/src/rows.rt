@@ -1,17 +1,17 @@
 // The pass over formula rows: which are well formed and small enough. What is worked out for a row, its size, its depth and
 // the two facts about mixing, is kept in a lent table, four numbers a row, so that each row looks at its parts' numbers alone.
-ghost use Rattle.std.specs.Prelude.{◌≡◌, true, ◌+◌, ◌*◌, ◌<◌, ◌≤◌, max, length, pos};
+ghost use Rattle.std.specs.Prelude.{◌≡◌, true, ◌+◌, ◌*◌, ◌<◌, ◌≤◌, max, length, pos, Ok};
 ghost use Rattle.stab.specs.Basic.{nat, below};
 ghost use Rattle.stab.specs.Formula.{formula_rows, offset, kind_of, base_of, on_index, tree};
 ghost use Rattle.stab.specs.Check.{row_refusal, root_fits};
-ghost use Rattle.stab.specs.declared.Finding.TheVariants.{Nothing};
+ghost use Rattle.stab.specs.Finding.{no_refusal};
 ghost use Rattle.formula.specs.Cells.{row_of};
 ghost use Rattle.formula.specs.Facts.{bit};
 ghost use Rattle.formula.specs.Rows.{facts_of, facts_at, both_facts, over_facts, kept_if, judged, constant_judged, literal_judged, pair_judged, body_judged, judged_refusal, kept_judged, Summable, Passed};
 
 use crate::cells::Cells;
 use crate::{cells, kept};
-use stab::{Finding, Place, Refusal};
+use stab::{Refusal, Refused};
 
 // What is worked out for a row. loose and fixed are 1 where a literal on i stands outside an iteration, and where a literal
 // not on i, or an iteration, stands in it; else 0.
@@ -31,13 +31,6 @@ pub const DEPTH: usize = 1;
 pub const LOOSE: usize = 2;
 
 pub const FIXED: usize = 3;
-
-// What is found of a row before its size is looked at.
-#[derive(Clone, Copy)]
-pub enum Judged {
-    Ill,
-    Formed(Facts),
-}
 
 // ---- columns
 
@@ -135,19 +128,19 @@ fn over(f: Facts) -> Facts
 // ---- one row
 
 // A row is true or false: a, b, c are 0.
-pub fn constant(w: Cells) -> Judged
+pub fn constant(w: Cells) -> Option<Facts>
     ensures { result ≡ constant_judged (row_of w) }
 {
     if !signed::equal(w.a, 0) {
-        return Judged::Ill;
+        return None;
     }
     if !signed::equal(w.b, 0) {
-        return Judged::Ill;
+        return None;
     }
     if !signed::equal(w.c, 0) {
-        return Judged::Ill;
+        return None;
     }
-    Judged::Formed(Facts {
+    Some(Facts {
         size: 1,
         depth: 1,
         loose: 0,
@@ -156,20 +149,20 @@ pub fn constant(w: Cells) -> Judged
 }
 
 // A literal: a is 0..255, b 0..2, c -9999..9999.
-pub fn literal(w: Cells) -> Judged
+pub fn literal(w: Cells) -> Option<Facts>
     ensures { result ≡ literal_judged (row_of w) }
 {
     if !below(256, w.a) {
-        return Judged::Ill;
+        return None;
     }
     if !below(3, w.b) {
-        return Judged::Ill;
+        return None;
     }
     if !is_offset(w.c) {
-        return Judged::Ill;
+        return None;
     }
     let loose = on_index(w.b);
-    Judged::Formed(Facts {
+    Some(Facts {
         size: 1,
         depth: 1,
         loose,
@@ -187,54 +180,54 @@ pub fn part(r: usize, z: i32, facts: &[u32]) -> Facts
 }
 
 // A row with two parts: a and b are smaller rows, c is 0, and the parts do not mix.
-pub fn junction(w: Cells, r: usize, facts: &[u32]) -> Judged
+pub fn junction(w: Cells, r: usize, facts: &[u32]) -> Option<Facts>
     requires { (r < 1024) × Summable facts.now r }
     ensures { result ≡ pair_judged r (row_of w) facts.now }
 {
     if !below(r, w.a) {
-        return Judged::Ill;
+        return None;
     }
     if !below(r, w.b) {
-        return Judged::Ill;
+        return None;
     }
     if !signed::equal(w.c, 0) {
-        return Judged::Ill;
+        return None;
     }
     let a = part(r, w.a, facts);
     let b = part(r, w.b, facts);
     let f = both(a, b);
     if f.loose == 0 {
-        return Judged::Formed(f);
+        return Some(f);
     }
     if f.fixed == 0 {
-        return Judged::Formed(f);
+        return Some(f);
     }
-    Judged::Ill
+    None
 }
 
 // An iteration: a is a smaller row that is a body, b and c are -9999..9999.
-pub fn iteration(w: Cells, r: usize, facts: &[u32]) -> Judged
+pub fn iteration(w: Cells, r: usize, facts: &[u32]) -> Option<Facts>
     requires { (r < 1024) × Summable facts.now r }
     ensures { result ≡ body_judged r (row_of w) facts.now }
 {
     if !below(r, w.a) {
-        return Judged::Ill;
+        return None;
     }
     if !is_offset(w.b) {
-        return Judged::Ill;
+        return None;
     }
     if !is_offset(w.c) {
-        return Judged::Ill;
+        return None;
     }
     let f = part(r, w.a, facts);
     if f.fixed == 0 {
-        return Judged::Formed(over(f));
+        return Some(over(f));
     }
-    Judged::Ill
+    None
 }
 
 // Row r, judged by its kind.
-fn row(schema: &[i32], s: usize, proof: &[i32], r: usize, facts: &[u32]) -> Judged
+fn row(schema: &[i32], s: usize, proof: &[i32], r: usize, facts: &[u32]) -> Option<Facts>
     requires r_bound { r < 1024 }
     requires passed { Passed (formula_rows schema.now s proof.now) facts.now r }
     ensures { result ≡ judged (formula_rows schema.now s proof.now) r }
@@ -253,45 +246,42 @@ fn row(schema: &[i32], s: usize, proof: &[i32], r: usize, facts: &[u32]) -> Judg
     if k < 8 {
         return iteration(w, r, facts);
     }
-    Judged::Ill
+    None
 }
 
 // ---- one row more
 
 // What is found of row r, which was judged so; its numbers are kept where that is nothing.
-pub fn sized(row: Judged, r: usize, facts: &mut [u32]) -> Finding
+pub fn sized(row: Option<Facts>, r: usize, facts: &mut [u32]) -> Result<(), Refused>
     requires { 4 * r + 3 < length facts.old }
     ensures value { result ≡ judged_refusal row r }
     ensures facts_after { facts.new ≡ kept_judged row facts.old r }
 {
-    let Judged::Formed(f) = row else {
-        return Finding::Found {
-            why: Refusal::IllFormed,
-            place: Place::At(r),
-        };
+    let Some(f) = row else {
+        return Err(Refusal::IllFormed.at(r));
     };
     if 4096 < f.size {
-        return Finding::Found {
-            why: Refusal::TooLarge,
-            place: Place::At(r),
-        };
+        return Err(Refusal::TooLarge.at(r));
     }
     if 64 < f.depth {
-        return Finding::Found {
-            why: Refusal::TooLarge,
-            place: Place::At(r),
-        };
+        return Err(Refusal::TooLarge.at(r));
     }
     kept::keep(facts, r, f.size, f.depth, f.loose, f.fixed);
-    Finding::Nothing
+    Ok(())
 }
 
 // What is found at row r; its numbers are kept where that is nothing.
-pub fn step(schema: &[i32], s: usize, proof: &[i32], r: usize, facts: &mut [u32]) -> Finding
+pub fn step(
+    schema: &[i32],
+    s: usize,
+    proof: &[i32],
+    r: usize,
+    facts: &mut [u32],
+) -> Result<(), Refused>
     requires r_bound { (r < 1024) × (4 * r + 3 < length facts.old) }
     requires passed { Passed (formula_rows schema.now s proof.now) facts.old r }
     ensures value { result ≡ row_refusal (formula_rows schema.now s proof.now) r }
-    ensures passed_2 { row_refusal (formula_rows schema.now s proof.now) r ≡ Nothing → Passed (formula_rows schema.now s proof.now) facts.new (r + 1) }
+    ensures passed_2 { row_refusal (formula_rows schema.now s proof.now) r ≡ no_refusal → Passed (formula_rows schema.now s proof.now) facts.new (r + 1) }
     ensures facts_after { facts.new ≡ kept_if (row_refusal (formula_rows schema.now s proof.now) r) facts.old r (facts_of (tree (formula_rows schema.now s proof.now) r)) }
 {
     let found = row(schema, s, proof, r, facts);

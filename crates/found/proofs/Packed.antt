@@ -8,30 +8,27 @@ use lib.IntN.{ℤ, pos, ◌+ℤ◌}
 use Rattle.stab.specs.Basic.{nat}
 use Rattle.stab.specs.Occurs.{Wire}
 use Rattle.stab.specs.Answer.{Numbers, place_number, refused_numbers, verdict_numbers, one_number, packed, numbers_in, Packs}
-use Rattle.stab.specs.declared.Place.{Place}
-use Rattle.stab.specs.declared.Place.TheVariants.{Whole, At}
+use Rattle.std.specs.Prelude.{None, Some, Err, Ok, Result}
+use Rattle.stab.specs.Finding.{refuse, no_refusal, Place, Finding}
+use Rattle.stab.specs.declared.Refused.{Refused}
+use Rattle.found.specs.Shown.{Shown}
 use Rattle.stab.specs.declared.Refusal.{Refusal}
-use Rattle.stab.specs.declared.Verdict.TheVariants.{Refused}
-use Rattle.stab.specs.declared.Finding.{Finding}
-use Rattle.stab.specs.declared.Finding.TheVariants.{Found, Nothing}
 use Rattle.stab.proofs.Exactness.Refusals.{FindsNear}
 use Rattle.stab.proofs.Packed.{number_range, near_packs, read_back}
 use Rattle.found.specs.Find.{Query, first_model, find_refusal, model_or, found_by, find, found_numbers, found_packed, found_verdict}
-use Rattle.found.specs.declared.ModelFound.{ModelFound}
-use Rattle.found.specs.declared.ModelFound.TheVariants.{Model, None, Refused as FindRefused}
 use Rattle.found.proofs.Refusals.{find_near, found_model, given_few}
 
 -- the one number in four parts
-abbrev pub in_parts : ModelFound → Numbers
+abbrev pub in_parts : Shown → Numbers
 in_parts r = let a = found_numbers r in record { answer = a.answer; place = a.place; nodes = a.given; links = 0 }
 
-parts_as : (r : ModelFound) → in_parts r ≡ verdict_numbers (found_verdict r)
+parts_as : (r : Shown) → in_parts r ≡ verdict_numbers (found_verdict r)
 unfolding found_numbers verdict_numbers refused_numbers
-parts_as (Model n pairs) = refl
-parts_as None = refl
-parts_as (FindRefused why p) = refl
+parts_as (Ok (Some c)) = refl
+parts_as (Ok None) = refl
+parts_as (Err r) = refl
 
-pub packed_as : (r : ModelFound) → found_packed r ≡ packed (found_verdict r)
+pub packed_as : (r : Shown) → found_packed r ≡ packed (found_verdict r)
 unfolding found_packed packed
 packed_as r = ap one_number (parts_as r)
 
@@ -39,12 +36,12 @@ packed_as r = ap one_number (parts_as r)
 
 found_by_packs : (Q : Query) (x : Finding) → FindsNear x → Packs (found_verdict (found_by x Q))
 unfolding found_by model_or
-found_by_packs Q Nothing h = go (first_model Q)
+found_by_packs Q (Ok u) h = go (first_model Q)
   where
     go : (x : Option (List Wire)) → Packs (found_verdict (model_or Q.n x))
     go none = (omega arith, omega arith)
     go (some ws) = (omega arith, omega arith)
-found_by_packs Q (Found why p) h = near_packs why p (h why p refl)
+found_by_packs Q (Err r) h = near_packs r.why r.place (h r.why r.place refl)
 
 -- whatever is found packs, so a refusal's place does
 pub found_packs : (Q : Query) → Packs (found_verdict (find Q))
@@ -52,12 +49,12 @@ unfolding find
 found_packs Q = found_by_packs Q (find_refusal Q) (find_near Q)
 
 -- a model is given with at most 16 pairs
-pub found_few : (Q : Query) (n : ℤ) (k : ℕ) → find Q ≡ Model n k → k ≤ 16
+pub found_few : (Q : Query) (n : ℤ) (k : ℕ) → find Q ≡ Ok (Some (record { n = n; pairs = k })) → k ≤ 16
 found_few Q n k h = omega (arith, given_few Q, (found_model Q n k h).3)
 
 -- ---- part by part
 
-pub record Fits (r : ModelFound) : Type 0 where
+pub record Fits (r : Shown) : Type 0 where
   pub answer : (found_numbers r).answer ≤ 31
   pub place : nat ((found_numbers r).place +ℤ pos 1) < 8192
   pub given : (found_numbers r).given ≤ 1
@@ -67,14 +64,14 @@ pub found_fits : (Q : Query) → Fits (find Q)
 unfolding found_numbers nat
 found_fits Q = go (find Q) refl (found_packs Q)
   where
-    coded : (why : Refusal) (p : Place) → Packs (Refused why p) → nat (place_number p +ℤ pos 1) < 8192
-    coded why Whole h = omega arith
-    coded why (At k) h = omega arith
+    coded : (why : Refusal) (p : Place) → Packs (refuse why p) → nat (place_number p +ℤ pos 1) < 8192
+    coded why None h = omega arith
+    coded why (Some k) h = omega arith
 
-    go : (r : ModelFound) → find Q ≡ r → Packs (found_verdict r) → Fits r
-    go (Model n k) e h = record { answer = omega arith; place = omega arith; given = omega arith; pairs = found_few Q n k e }
-    go None e h = record { answer = omega arith; place = omega arith; given = omega arith; pairs = omega arith }
-    go (FindRefused why p) e h = record { answer = (number_range why).1; place = coded why p h; given = omega arith; pairs = omega arith }
+    go : (r : Shown) → find Q ≡ r → Packs (found_verdict r) → Fits r
+    go (Ok (Some c)) e h = record { answer = omega arith; place = omega arith; given = omega arith; pairs = found_few Q c.n c.pairs e }
+    go (Ok None) e h = record { answer = omega arith; place = omega arith; given = omega arith; pairs = omega arith }
+    go (Err r) e h = record { answer = (number_range r.why).1; place = coded r.why r.place h; given = omega arith; pairs = omega arith }
 
 -- ---- it is read back
 

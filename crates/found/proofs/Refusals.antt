@@ -1,7 +1,7 @@
 -- Nothing is turned away exactly if the query keeps the limits, and what is found otherwise is a refusal.
 use Prim.Native.Nat.{ℕ, ◌*◌, ◌≤◌}
 use native.Mathlib.Omega.{arith}
-use mathlib.Core.Path.{◌≡◌, refl, ap}
+use mathlib.Core.Path.{◌≡◌, refl, sym, ap}
 use mathlib.Core.Logic.Iff
 use mathlib.Core.Logic.{◌↔◌}
 use mathlib.Core.Bool.{true}
@@ -12,16 +12,15 @@ use lib.ListN.{length}
 use Rattle.stab.specs.Check.{holds, schema_refusal}
 use Rattle.stab.specs.Keeps.{Within, KeepsSchema}
 use Rattle.stab.specs.Occurs.{Wire}
-use Rattle.stab.specs.declared.Place.{Place}
+use Rattle.std.specs.Prelude.{Err, Ok, Some, None}
+use Rattle.stab.specs.declared.ModelHeader.{ModelHeader}
+use Rattle.stab.specs.Finding.{refuse, no_refusal, Place, Finding}
 use Rattle.stab.specs.declared.Refusal.{Refusal}
 use Rattle.stab.specs.declared.Refusal.TheVariants.{TableTooShort, TooMany, Width, Wires}
-use Rattle.stab.specs.declared.Finding.{Finding}
-use Rattle.stab.specs.declared.Finding.TheVariants.{Found, Nothing}
 use Rattle.stab.proofs.Tests.{◌&◌, le_tests, le_z_tests, ◌clears◌, whole_clears, at_clears, ◌then◌}
 use Rattle.stab.proofs.Exactness.Formulas.{formulas_clears}
 use Rattle.stab.proofs.Exactness.Refusals.{FindsNear, of_whole, of_at, ◌or_else◌, once, of_formulas}
 use Rattle.found.specs.Find.{Query, wires, first_model, find_refusal, model_or, found_by, find, model_pairs, given_by, given}
-use Rattle.found.specs.declared.ModelFound.TheVariants.{Model, None, Refused as FindRefused}
 use Rattle.found.proofs.Numbers.{first_found, numbered_length}
 
 -- the limits
@@ -69,44 +68,46 @@ find_near Q =
 
 -- ---- what the answer says of the search
 
-by_search : (Q : Query) (n : ℤ) (k : ℕ) (x : Option (List Wire)) → model_or Q.n x ≡ Model n k → (x ≡ some (model_pairs x)) × (n ≡ Q.n) × (k ≡ length (model_pairs x))
+by_search : (Q : Query) (n : ℤ) (k : ℕ) (x : Option (List Wire)) → model_or Q.n x ≡ Ok (Some (record { n = n; pairs = k })) → (x ≡ some (model_pairs x)) × (n ≡ Q.n) × (k ≡ length (model_pairs x))
 unfolding model_or model_pairs
 by_search Q n k none h = let z : ◌≡◌ {A = ℕ} 0 1 = cc in absurd (omega arith)
-by_search Q n k (some ws) h = (refl, cc, cc)
+by_search Q n k (some ws) h =
+    let e : ◌≡◌ {A = ModelHeader} (record { n = Q.n; pairs = length ws }) (record { n = n; pairs = k }) = cc in
+    (refl, sym (ap (λ (m : ModelHeader). m.n) e), sym (ap (λ (m : ModelHeader). m.pairs) e))
 
 -- where a model is given, nothing was turned away and the search ended with the pairs that are given
-pub found_model : (Q : Query) (n : ℤ) (k : ℕ) → find Q ≡ Model n k → (find_refusal Q ≡ Nothing) × (first_model Q ≡ some (given Q)) × (n ≡ Q.n) × (k ≡ length (given Q))
+pub found_model : (Q : Query) (n : ℤ) (k : ℕ) → find Q ≡ Ok (Some (record { n = n; pairs = k })) → (find_refusal Q ≡ no_refusal) × (first_model Q ≡ some (given Q)) × (n ≡ Q.n) × (k ≡ length (given Q))
 unfolding find found_by given given_by
 found_model Q n k h = go (find_refusal Q) h
   where
-    go : (x : Finding) → found_by x Q ≡ Model n k → (x ≡ Nothing) × (first_model Q ≡ some (given_by x Q)) × (n ≡ Q.n) × (k ≡ length (given_by x Q))
-    go Nothing f = let s = by_search Q n k (first_model Q) f in (refl, s.0, s.1, s.2)
-    go (Found why p) f = let z : ◌≡◌ {A = ℕ} 0 1 = cc in absurd (omega arith)
+    go : (x : Finding) → found_by x Q ≡ Ok (Some (record { n = n; pairs = k })) → (x ≡ no_refusal) × (first_model Q ≡ some (given_by x Q)) × (n ≡ Q.n) × (k ≡ length (given_by x Q))
+    go (Ok u) f = let s = by_search Q n k (first_model Q) f in (refl, s.0, s.1, s.2)
+    go (Err r) f = let z : ◌≡◌ {A = ℕ} 0 1 = cc in absurd (omega arith)
 
 -- a refusal is answered exactly if it is found
-pub found_refused : (Q : Query) (why : Refusal) (p : Place) → (find Q ≡ FindRefused why p) ↔ (find_refusal Q ≡ Found why p)
+pub found_refused : (Q : Query) (why : Refusal) (p : Place) → (find Q ≡ refuse why p) ↔ (find_refusal Q ≡ refuse why p)
 unfolding find found_by model_or
 found_refused Q why p = (go (find_refusal Q), λ h. ap (λ (x : Finding). found_by x Q) h)
   where
-    searched : (x : Option (List Wire)) → model_or Q.n x ≡ FindRefused why p → ⊥
+    searched : (x : Option (List Wire)) → model_or Q.n x ≡ refuse why p → ⊥
     searched none e = let z : ◌≡◌ {A = ℕ} 0 1 = cc in omega arith
     searched (some ws) e = let z : ◌≡◌ {A = ℕ} 0 1 = cc in omega arith
 
-    go : (x : Finding) → found_by x Q ≡ FindRefused why p → x ≡ Found why p
-    go Nothing e = absurd (searched (first_model Q) e)
-    go (Found w q) e = cc
+    go : (x : Finding) → found_by x Q ≡ refuse why p → x ≡ refuse why p
+    go (Ok u) e = absurd (searched (first_model Q) e)
+    go (Err r) e = cc
 
 -- "none" is answered only after a search
-pub none_searched : (Q : Query) → find Q ≡ None → find_refusal Q ≡ Nothing
+pub none_searched : (Q : Query) → find Q ≡ (Ok None) → find_refusal Q ≡ no_refusal
 unfolding find found_by
 none_searched Q h = go (find_refusal Q) h
   where
-    go : (x : Finding) → found_by x Q ≡ None → x ≡ Nothing
-    go Nothing e = refl
-    go (Found why p) e = let z : ◌≡◌ {A = ℕ} 0 1 = cc in absurd (omega arith)
+    go : (x : Finding) → found_by x Q ≡ (Ok None) → x ≡ no_refusal
+    go (Ok u) e = refl
+    go (Err r) e = let z : ◌≡◌ {A = ℕ} 0 1 = cc in absurd (omega arith)
 
 -- no pair is given after a refusal
-pub none_given : (Q : Query) (why : Refusal) (p : Place) → given_by (Found why p) Q ≡ []
+pub none_given : (Q : Query) (why : Refusal) (p : Place) → given_by (refuse why p) Q ≡ []
 unfolding given_by
 none_given Q why p = refl
 
@@ -121,6 +122,6 @@ given_few Q = go (find_refusal Q) (find_clears Q).0
         let r = first_found Q ws e in
         omega (arith, keeps.wire_limit, numbered_length (wires Q) r.0, ap length r.2)
 
-    go : (x : Finding) → (x ≡ Nothing → Keeps Q) → length (given_by x Q) ≤ 16
-    go Nothing keeps = searched (keeps refl) (first_model Q) refl
-    go (Found why p) keeps = omega (arith, ap length (none_given Q why p))
+    go : (x : Finding) → (x ≡ no_refusal → Keeps Q) → length (given_by x Q) ≤ 16
+    go (Ok u) keeps = searched (keeps refl) (first_model Q) refl
+    go (Err r) keeps = omega (arith, ap length (none_given Q r.why r.place))

@@ -11,7 +11,8 @@ use Rattle.stab.specs.Meaning.{Assignment, truth}
 use Rattle.stab.specs.Model.{pair_symbol, pair_index, is_pair, listed, assignment, satisfied, check_model}
 use Rattle.stab.specs.Keeps.{Within, KeepsPair}
 use Rattle.stab.specs.Occurs.{listing}
-use Rattle.stab.specs.declared.Verdict.TheVariants.{Accepted}
+use Rattle.std.specs.Prelude.{Ok}
+use Rattle.stab.specs.Finding.{accept}
 use Rattle.stab.proofs.Exactness.{model_accepts_exactly}
 
 module _ (t more : List ℤ) where
@@ -43,7 +44,7 @@ module _ (t more : List ℤ) where
 
 -- an accepted model stays accepted
 pub model_front : (S : Schema) (n : ℤ) (t more : List ℤ) (k : ℕ)
-    → check_model (listing S n t k) ≡ Accepted 0 0 → check_model (listing S n (t ++ more) k) ≡ Accepted 0 0
+    → check_model (listing S n t k) ≡ accept 0 0 → check_model (listing S n (t ++ more) k) ≡ accept 0 0
 unfolding satisfied assignment
 model_front S n t more k h =
     let K = (model_accepts_exactly (listing S n t k)).0 h in

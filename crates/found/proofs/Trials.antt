@@ -9,13 +9,11 @@ use lib.ListN.{length, take, replicate}
 use Rattle.stab.specs.Occurs.{wire_before, insert, gathered, inserted, occurring, table}
 use Rattle.stab.specs.Text.{bytes, row_line}
 use Rattle.stab.specs.Read.{Reading, read, stopped, SchemaText, read_schema}
-use Rattle.stab.specs.declared.Place.TheVariants.{Whole, At}
+use Rattle.std.specs.Prelude.{None, Some, Err, Ok}
+use Rattle.stab.specs.Finding.{refuse, no_refusal, Finding}
 use Rattle.stab.specs.declared.Refusal.TheVariants.{TableTooShort, Wires}
-use Rattle.stab.specs.declared.Finding.{Finding}
-use Rattle.stab.specs.declared.Finding.TheVariants.{Found, Nothing}
 use Rattle.stab.proofs.Evaluate.{evaluated}
 use Rattle.found.specs.Find.{Query, formula, wires, among, first_from, holds_with, first_model, find_refusal, model_or, found_by, find, model_pairs, given_by, given, found_table, found_numbers, found_packed, found_results}
-use Rattle.found.specs.declared.ModelFound.TheVariants.{Model, None, Refused as FindRefused}
 
 -- ---- what is asked, and what is answered
 
@@ -107,7 +105,7 @@ computed =
     found "0 0" "0 0 0 0\n" (negsuc 0) ∷
     found "1 17" every (pos 16) ∷
     -- the one number: a model, none, 2 at 0, 30
-    (found_packed (Model (pos 7) 2) ∷ found_packed None ∷ found_packed (FindRefused TableTooShort (At 0)) ∷ found_packed (FindRefused Wires Whole) ∷ []) ∷ []
+    (found_packed (Ok (Some (record { n = pos 7; pairs = 2 }))) ∷ found_packed (Ok None) ∷ found_packed (refuse TableTooShort (Some 0)) ∷ found_packed (refuse Wires None) ∷ []) ∷ []
 
 pub stated : List (List ℕ)
 stated =
@@ -145,6 +143,6 @@ trials = refl
 pub pair_limits : List Finding
 pair_limits = find_refusal (asked "1 0" every (pos 15) 8192) ∷ find_refusal (asked "1 0" every (pos 16) 8192) ∷ []
 
-pub limit_trials : pair_limits ≡ (Nothing ∷ Found Wires Whole ∷ [])
+pub limit_trials : pair_limits ≡ (no_refusal ∷ refuse Wires None ∷ [])
 unfolding evaluated wire_before insert gathered inserted occurring formula wires find_refusal query_of asked every pair_limits
 limit_trials = refl

@@ -1,5 +1,5 @@
 -- 02, No. 13: a failing width, shown.
-use Rattle.std.specs.Prelude.{ℕ, ◌≡◌, ◌⊎◌, Bool, true, false, List, [], ◌∷◌, ◌++◌, leb, ℤ, pos, length, if◌then◌else◌}
+use Rattle.std.specs.Prelude.{ℕ, ◌≡◌, ◌⊎◌, Bool, true, false, List, [], ◌∷◌, ◌++◌, leb, ℤ, pos, length, if◌then◌else◌, Ok, Err, Some, None, Result}
 use Rattle.std.proofs.Math.Option.{Option, none, some, or_else}
 use Rattle.std.specs.Int.Signed.{le_z}
 use Rattle.stab.specs.Basic.{◌and◌, ◌or◌, eq_z, nat, ◌otherwise◌}
@@ -10,12 +10,9 @@ use Rattle.stab.specs.Occurs.{Wire, occurring, table}
 use Rattle.stab.specs.Text.{padded}
 use Rattle.stab.specs.Answer.{refusal_number, place_number, one_number}
 use Rattle.stab.specs.declared.Refusal.TheVariants.{TableTooShort, TooMany, Width, Wires}
-use Rattle.stab.specs.declared.Verdict.{Verdict}
-use Rattle.stab.specs.declared.Verdict.TheVariants.{Accepted, Refused}
-use Rattle.stab.specs.declared.Finding.{Finding}
-use Rattle.stab.specs.declared.Finding.TheVariants.{Found, Nothing}
-use Rattle.found.specs.declared.ModelFound.{ModelFound}
-use Rattle.found.specs.declared.ModelFound.TheVariants.{Model, None, Refused as FindRefused}
+use Rattle.stab.specs.Finding.{accept, refuse, no_refusal, Verdict, Finding}
+use Rattle.stab.specs.declared.Refused.{Refused}
+use Rattle.found.specs.Shown.{Shown}
 
 -- What the search is lent: a schema and n; how many numbers the result table has room for.
 pub record Query : Type 0 where
@@ -66,16 +63,16 @@ find_refusal Q =
     whole_unless (leb (length (wires Q)) 16) Wires
 
 -- a model, or "none"
-unfoldable pub model_or : ℤ → Option (List Wire) → ModelFound
-model_or n none = None
-model_or n (some ws) = Model n (length ws)
+unfoldable pub model_or : ℤ → Option (List Wire) → Shown
+model_or n none = (Ok None)
+model_or n (some ws) = Ok (Some (record { n = n; pairs = length ws }))
 
 -- what is found, by what was found before the search
-unfoldable pub found_by : Finding → Query → ModelFound
-found_by Nothing Q = model_or Q.n (first_model Q)
-found_by (Found why p) Q = FindRefused why p
+unfoldable pub found_by : Finding → Query → Shown
+found_by (Ok u) Q = model_or Q.n (first_model Q)
+found_by (Err r) Q = Err r
 
-unfoldable pub find : Query → ModelFound
+unfoldable pub find : Query → Shown
 find Q = found_by (find_refusal Q) Q
 
 -- the pairs that are given: none where there is no model
@@ -84,8 +81,8 @@ model_pairs none = []
 model_pairs (some ws) = ws
 
 unfoldable pub given_by : Finding → Query → List Wire
-given_by Nothing Q = model_pairs (first_model Q)
-given_by (Found why p) Q = []
+given_by (Ok u) Q = model_pairs (first_model Q)
+given_by (Err r) Q = []
 
 unfoldable pub given : Query → List Wire
 given Q = given_by (find_refusal Q) Q
@@ -104,23 +101,23 @@ pub record FoundNumbers : Type 0 where
   pub n : ℤ
   pub pairs : ℕ
 
-unfoldable pub found_numbers : ModelFound → FoundNumbers
-found_numbers (Model n pairs) = record { answer = 0; place = pos 0; given = 1; n = n; pairs = pairs }
-found_numbers None = record { answer = 0; place = pos 0; given = 0; n = pos 0; pairs = 0 }
-found_numbers (FindRefused why p) = record { answer = refusal_number why; place = place_number p; given = 0; n = pos 0; pairs = 0 }
+unfoldable pub found_numbers : Shown → FoundNumbers
+found_numbers (Ok (Some c)) = record { answer = 0; place = pos 0; given = 1; n = c.n; pairs = c.pairs }
+found_numbers (Ok None) = record { answer = 0; place = pos 0; given = 0; n = pos 0; pairs = 0 }
+found_numbers (Err r) = record { answer = refusal_number r.why; place = place_number r.place; given = 0; n = pos 0; pairs = 0 }
 
 -- the one number
-unfoldable pub found_packed : ModelFound → ℕ
+unfoldable pub found_packed : Shown → ℕ
 found_packed r = let a = found_numbers r in one_number (record { answer = a.answer; place = a.place; nodes = a.given; links = 0 })
 
 -- the verdict with that number
-abbrev pub found_verdict : ModelFound → Verdict
-found_verdict (Model n pairs) = Accepted 1 0
-found_verdict None = Accepted 0 0
-found_verdict (FindRefused why p) = Refused why p
+abbrev pub found_verdict : Shown → Verdict
+found_verdict (Ok (Some c)) = accept 1 0
+found_verdict (Ok None) = accept 0 0
+found_verdict (Err r) = Err r
 
 -- the lent results: n, pairs
-unfoldable pub found_results : ModelFound → List ℤ
+unfoldable pub found_results : Shown → List ℤ
 found_results r = let a = found_numbers r in a.n ∷ pos a.pairs ∷ []
 
 -- ---- the order of assignments, as a plain statement

@@ -1,3 +1,4 @@
+pub mod Shown
 pub mod Find
 pub mod Keys
 pub mod Number

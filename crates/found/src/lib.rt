@@ -1,12 +1,2 @@
-// A failing width, shown: the answer. What each case means in the paper's numbers is in specs/Find.antt, with what is found.
+// A failing width, shown: the definitions and theorems are in specs/ and proofs/; the code that looks for it is in the crate find.
 #![tactic(auto)]
-
-use stab::{Place, Refusal};
-
-// A model at n with this many pairs, or none, or why nothing was looked for.
-#[derive(Clone, Copy)]
-pub enum ModelFound {
-    Model { n: i32, pairs: usize },
-    None,
-    Refused { why: Refusal, place: Place },
-}

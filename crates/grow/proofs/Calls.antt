@@ -16,12 +16,10 @@ use Rattle.stab.specs.Lent.{lent, header}
 use Rattle.stab.specs.Check.{whole_unless, parent_refusal, link_count, refusal, held_mode}
 use Rattle.stab.specs.Text.{padded}
 use Rattle.stab.specs.declared.Header.{Header}
-use Rattle.stab.specs.declared.Place.{Place}
-use Rattle.stab.specs.declared.Place.TheVariants.{Whole}
+use Rattle.std.specs.Prelude.{None, Ok, Err}
+use Rattle.stab.specs.Finding.{no_refusal, refuse, Place, Finding}
 use Rattle.stab.specs.declared.Refusal.{Refusal}
 use Rattle.stab.specs.declared.Refusal.TheVariants.{NoRow}
-use Rattle.stab.specs.declared.Finding.{Finding}
-use Rattle.stab.specs.declared.Finding.TheVariants.{Nothing, Found}
 use Rattle.stab.proofs.Bools.{nothing_unless, found_unless, otherwise_nothing, otherwise_found, otherwise_same}
 use Rattle.stab.proofs.Scans.{scan_nothing}
 use Rattle.stab.proofs.Tests.{within_tests}
@@ -30,9 +28,8 @@ use Rattle.branch.proofs.ParentLaws.{parents_known}
 use Rattle.fields.proofs.FieldParts.{fields_known_lem}
 use Rattle.folds.proofs.Fronts.{sets_more}
 use Rattle.steps.proofs.StepLaws.{fields_passed}
-use Rattle.growing.specs.Growing.{NodeRow, node_numbers, holding, added, room_for, add_refusal, take_back_refusal, begun, begin_refusal, begin_answer, turned_away, tried, growth_by, left_by, Call, add, take_back, call_refusal, changed, answered, after}
+use Rattle.growing.specs.Growing.{NodeRow, node_numbers, holding, added, room_for, add_refusal, take_back_refusal, begun, begin_refusal, begin_answer, turned_away, tried, growth_by, left_by, Call, add, take_back, call_refusal, changed, answered, after, held_rows, refused_call}
 use Rattle.growing.specs.Complete.{complete}
-use Rattle.growing.specs.declared.Growth.TheVariants.{Held, Refused as GrowthRefused}
 use Rattle.growing.proofs.States.{Holds, held_clears}
 use Rattle.growing.proofs.Held.{fits, held_step}
 use Rattle.growing.proofs.Grown.{added_holds, add_holds, passed, refused_leaves, begun_open, closed_is, refused_open}
@@ -44,34 +41,34 @@ use Rattle.grow.proofs.Laying.{agrees}
 -- ---- refused calls
 
 -- the rows held are refused
-refused_growth : (T U : Tableau) (why : Refusal) (p : Place) → refusal held_mode T ≡ Found why p → GrowthRefused why p false ≡ growth_by (Found why p) T U
+refused_growth : (T U : Tableau) (why : Refusal) (p : Place) → refusal held_mode T ≡ refuse why p → refused_call why p false ≡ growth_by (refuse why p) T U
 unfolding growth_by
-refused_growth T U why p e = ap (GrowthRefused why p) (sym (refused_open T why p e))
+refused_growth T U why p e = ap (refused_call why p) (sym (refused_open T why p e))
 
-pub refused_answer : (T : Tableau) (call : Call) (why : Refusal) (p : Place) → refusal held_mode T ≡ Found why p → call_refusal T call ≡ Found why p → GrowthRefused why p false ≡ answered T call
+pub refused_answer : (T : Tableau) (call : Call) (why : Refusal) (p : Place) → refusal held_mode T ≡ refuse why p → call_refusal T call ≡ refuse why p → refused_call why p false ≡ answered T call
 unfolding answered
 refused_answer T call why p e f = refused_growth T (changed T call) why p e ∙ ap (λ (x : Finding). growth_by x T (changed T call)) (sym f)
 
 module _ (T : Tableau) (why : Refusal) (p : Place) where
-  pub refused_turned : (w : Refusal) (q : Place) → refusal held_mode T ≡ Found w q → GrowthRefused w q false ≡ turned_away T why p
+  pub refused_turned : (w : Refusal) (q : Place) → refusal held_mode T ≡ refuse w q → refused_call w q false ≡ turned_away T why p
   unfolding turned_away
   refused_turned w q e = refused_growth T T w q e ∙ ap (λ (x : Finding). growth_by x T T) (sym (otherwise_found _ _ e))
 
   -- they pass, and the call is refused
-  pub passed_turned : refusal held_mode T ≡ Nothing → GrowthRefused why p (complete (nodes_only T.nodes T.node_rows)) ≡ turned_away T why p
+  pub passed_turned : refusal held_mode T ≡ no_refusal → refused_call why p (complete (nodes_only T.nodes T.node_rows)) ≡ turned_away T why p
   unfolding turned_away growth_by
   passed_turned e =
-      ap (GrowthRefused why p) (complete_alone T ∙ sym (closed_is T e)) ∙ ap (λ (x : Finding). growth_by x T T) (sym (otherwise_nothing _ _ e))
+      ap (refused_call why p) (complete_alone T ∙ sym (closed_is T e)) ∙ ap (λ (x : Finding). growth_by x T T) (sym (otherwise_nothing _ _ e))
 
-  pub turned_growth : (U : Tableau) → turned_away T why p ≡ growth_by (refusal held_mode T otherwise Found why p) T U
+  pub turned_growth : (U : Tableau) → turned_away T why p ≡ growth_by (refusal held_mode T otherwise refuse why p) T U
   unfolding turned_away growth_by ◌otherwise◌
   turned_growth U = by (refusal held_mode T)
     where
-      by : (x : Finding) → growth_by (x otherwise Found why p) T T ≡ growth_by (x otherwise Found why p) T U
-      by Nothing = refl
-      by (Found w q) = refl
+      by : (x : Finding) → growth_by (x otherwise refuse why p) T T ≡ growth_by (x otherwise refuse why p) T U
+      by (Ok u) = refl
+      by (Err r) = refl
 
-  module _ (call : Call) (e : call_refusal T call ≡ (refusal held_mode T otherwise Found why p)) where
+  module _ (call : Call) (e : call_refusal T call ≡ (refusal held_mode T otherwise refuse why p)) where
     pub turned_answer : turned_away T why p ≡ answered T call
     unfolding answered
     turned_answer = turned_growth (changed T call) ∙ ap (λ (x : Finding). growth_by x T (changed T call)) (sym e)
@@ -80,9 +77,9 @@ module _ (T : Tableau) (why : Refusal) (p : Place) where
     unfolding ◌otherwise◌
     turned_left = by (refusal held_mode T) e
       where
-        by : (x : Finding) → call_refusal T call ≡ (x otherwise Found why p) → after T call ≡ T
-        by Nothing f = refused_leaves T call why p f
-        by (Found w q) f = refused_leaves T call w q f
+        by : (x : Finding) → call_refusal T call ≡ (x otherwise refuse why p) → after T call ≡ T
+        by (Ok u) f = refused_leaves T call why p f
+        by (Err r) f = refused_leaves T call r.why r.place f
 
 -- a row that is refused is not there, kept or not
 pub turned_tried : (keep : Bool) (T : Tableau) (w : NodeRow) → after T (add w) ≡ T → T ≡ tried keep T w
@@ -106,39 +103,39 @@ countable T H = record {
   rules = λ j l. (fields_known_lem T j (fields_passed T j (held_step T j (H.steps j l)))).rule;
 }
 
-pub accepted_answer : (T : Tableau) (call : Call) → call_refusal T call ≡ Nothing → shown (changed T call).nodes (changed T call).node_rows ≡ answered T call
+pub accepted_answer : (T : Tableau) (call : Call) → call_refusal T call ≡ no_refusal → shown (changed T call).nodes (changed T call).node_rows ≡ answered T call
 unfolding answered growth_by
 accepted_answer T call e =
     let U = changed T call in
     shown_alone U
-    ∙ ap (Held U.node_rows (link_count U)) (sym (closed_is U ((held_clears U).1 (passed T call e))))
+    ∙ ap (held_rows U.node_rows (link_count U)) (sym (closed_is U ((held_clears U).1 (passed T call e))))
     ∙ ap (λ (x : Finding). growth_by x T U) (sym e)
 
-pub accepted_left : (T : Tableau) (call : Call) → call_refusal T call ≡ Nothing → after T call ≡ changed T call
+pub accepted_left : (T : Tableau) (call : Call) → call_refusal T call ≡ no_refusal → after T call ≡ changed T call
 unfolding after left_by
 accepted_left T call e = ap (λ (x : Finding). left_by x T (changed T call)) e
 
 -- ---- the first call
 
-pub begun_answer : (T : Tableau) → begin_refusal T ≡ Nothing → begin_answer T ≡ Held 0 0 false
+pub begun_answer : (T : Tableau) → begin_refusal T ≡ no_refusal → begin_answer T ≡ held_rows 0 0 false
 unfolding begin_answer growth_by link_count count begun holding
-begun_answer T e = ap (λ (x : Finding). growth_by x (begun T) (begun T)) e ∙ ap (Held 0 0) (begun_open T)
+begun_answer T e = ap (λ (x : Finding). growth_by x (begun T) (begun T)) e ∙ ap (held_rows 0 0) (begun_open T)
 
-pub begun_refused : (T : Tableau) (why : Refusal) (p : Place) → begin_refusal T ≡ Found why p → begin_answer T ≡ GrowthRefused why p false
+pub begun_refused : (T : Tableau) (why : Refusal) (p : Place) → begin_refusal T ≡ refuse why p → begin_answer T ≡ refused_call why p false
 unfolding begin_answer growth_by
-begun_refused T why p e = ap (λ (x : Finding). growth_by x (begun T) (begun T)) e ∙ ap (GrowthRefused why p) (begun_open T)
+begun_refused T why p e = ap (λ (x : Finding). growth_by x (begun T) (begun T)) e ∙ ap (refused_call why p) (begun_open T)
 
 -- ---- the last row taken back
 
-pub no_row : (T : Tableau) → T.node_rows ≡ 0 → call_refusal T take_back ≡ (refusal held_mode T otherwise Found NoRow Whole)
+pub no_row : (T : Tableau) → T.node_rows ≡ 0 → call_refusal T take_back ≡ (refusal held_mode T otherwise refuse NoRow None)
 unfolding call_refusal take_back_refusal whole_unless
 no_row T e = otherwise_same (refusal held_mode T) _ _ (λ h. found_unless (ltb 0 T.node_rows) _ _ (le-ltb 0 T.node_rows (omega arith)))
 
-pub back_refused : (T : Tableau) (why : Refusal) (p : Place) → refusal held_mode T ≡ Found why p → call_refusal T take_back ≡ Found why p
+pub back_refused : (T : Tableau) (why : Refusal) (p : Place) → refusal held_mode T ≡ refuse why p → call_refusal T take_back ≡ refuse why p
 unfolding call_refusal take_back_refusal
 back_refused T why p e = otherwise_found (refusal held_mode T) _ e
 
-pub back_accepted : (T : Tableau) → refusal held_mode T ≡ Nothing → 0 < T.node_rows → call_refusal T take_back ≡ Nothing
+pub back_accepted : (T : Tableau) → refusal held_mode T ≡ no_refusal → 0 < T.node_rows → call_refusal T take_back ≡ no_refusal
 unfolding call_refusal take_back_refusal whole_unless
 back_accepted T e h = otherwise_nothing (refusal held_mode T) _ e ∙ nothing_unless (ltb 0 T.node_rows) _ _ (lt-ltb 0 T.node_rows h)
 
@@ -176,7 +173,7 @@ module _ (T : Tableau) (w : NodeRow) (room : room_for T w ≡ true) where
   tried_countable H ns e = counts_more ns (grown T w) H e refl
 
   -- the row is accepted
-  module _ (ok : add_refusal T w ≡ Nothing) where
+  module _ (ok : add_refusal T w ≡ no_refusal) where
     pub laid_countable : (ns : List ℤ) → ns ≡ (grown T w).nodes → Countable (padded (pos 0) (length ns) (take (9 * (T.node_rows + 1)) ns)) more
     unfolding added holding
     laid_countable ns e =
@@ -194,7 +191,7 @@ module _ (T : Tableau) (w : NodeRow) (room : room_for T w ≡ true) where
         let G = agrees T w room (added_holds T w ok) in
         (λ i. shown (e i) (add-one T.node_rows i))
         ∙ shown_alone (grown T w)
-        ∙ ap₂ (Held (suc T.node_rows)) (links_same G) (complete_same G)
+        ∙ ap₂ (held_rows (suc T.node_rows)) (links_same G) (complete_same G)
         ∙ sym (shown_alone (added T w))
         ∙ accepted_answer T (add w) ok
 

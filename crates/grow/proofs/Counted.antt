@@ -16,7 +16,7 @@ use Rattle.stab.proofs.Scans.{below_suc}
 use Rattle.tidied.proofs.Agreeing.{count_same}
 use Rattle.growing.proofs.Held.{rule_same, counted_same}
 use Rattle.growing.specs.Complete.{children_all, complete}
-use Rattle.growing.specs.declared.Growth.TheVariants.{Held}
+use Rattle.growing.specs.Growing.{held_rows}
 use Rattle.grow.specs.State.{nodes_only, shown}
 use Rattle.grow.proofs.Same.{Agree}
 
@@ -65,6 +65,6 @@ pub complete_alone : (T : Tableau) → complete (nodes_only T.nodes T.node_rows)
 unfolding complete
 complete_alone T = ap (λ (b : Bool). ltb 0 T.node_rows and b) (all_alone T T.node_rows)
 
-pub shown_alone : (T : Tableau) → shown T.nodes T.node_rows ≡ Held T.node_rows (link_count T) (complete T)
+pub shown_alone : (T : Tableau) → shown T.nodes T.node_rows ≡ held_rows T.node_rows (link_count T) (complete T)
 unfolding shown link_count
-shown_alone T = ap (Held T.node_rows (link_count T)) (complete_alone T)
+shown_alone T = ap (held_rows T.node_rows (link_count T)) (complete_alone T)

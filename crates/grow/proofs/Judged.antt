@@ -12,12 +12,10 @@ use Rattle.stab.specs.Node.{Tableau, rows, row_count, node_at, node, names}
 use Rattle.stab.specs.Rule.{drawn, fields_fit, target_fits, bound_fits, partners_fit, lowered_fits, children_held, children_as}
 use Rattle.stab.specs.Check.{whole_unless, at_unless, holds, formulas_refusal, set_refusal, parent_refusal, step_refusal, node_refusal, tables_hold, within_limits, enough_nodes, refusal, held_mode}
 use Rattle.stab.specs.Keeps.{KeepsParent}
-use Rattle.stab.specs.declared.Place.{Place}
-use Rattle.stab.specs.declared.Place.TheVariants.{At}
+use Rattle.std.specs.Prelude.{Some, Ok, Err}
+use Rattle.stab.specs.Finding.{no_refusal, refuse, Place, Finding}
 use Rattle.stab.specs.declared.Refusal.{Refusal}
 use Rattle.stab.specs.declared.Refusal.TheVariants.{Set, Parent, Drawn, Fields, Target, Bound, Partner, Lowered, Children}
-use Rattle.stab.specs.declared.Finding.{Finding}
-use Rattle.stab.specs.declared.Finding.TheVariants.{Nothing, Found}
 use Rattle.stab.proofs.Bools.{decide, and_both, nothing_unless, found_unless, otherwise_nothing, otherwise_found, otherwise_same}
 use Rattle.stab.proofs.Scans.{scan_nothing, scan_found}
 use Rattle.stab.proofs.Whole.{eq_z_true, eq_z_not, pos_injective}
@@ -32,15 +30,15 @@ use Rattle.grow.specs.Moved.{placed, moved}
 
 -- ---- the place of a child beyond
 
-moved_then : (n : ℕ) (b : Bool) (why : Refusal) (j : ℕ) (x y : Finding) → placed n why (At j) ≡ At j → moved n x ≡ y → moved n (at_unless b why j otherwise x) ≡ (at_unless b why j otherwise y)
+moved_then : (n : ℕ) (b : Bool) (why : Refusal) (j : ℕ) (x y : Finding) → placed n why (Some j) ≡ Some j → moved n x ≡ y → moved n (at_unless b why j otherwise x) ≡ (at_unless b why j otherwise y)
 unfolding moved at_unless unless ◌otherwise◌
 moved_then n true why j x y e f = f
-moved_then n false why j x y e f = ap (λ (p : Place). Found why p) e
+moved_then n false why j x y e f = ap (λ (p : Place). refuse why p) e
 
-moved_last : (n : ℕ) (b : Bool) (why : Refusal) (j : ℕ) → placed n why (At j) ≡ At j → moved n (at_unless b why j) ≡ at_unless b why j
+moved_last : (n : ℕ) (b : Bool) (why : Refusal) (j : ℕ) → placed n why (Some j) ≡ Some j → moved n (at_unless b why j) ≡ at_unless b why j
 unfolding moved at_unless unless
 moved_last n true why j e = refl
-moved_last n false why j e = ap (λ (p : Place). Found why p) e
+moved_last n false why j e = ap (λ (p : Place). refuse why p) e
 
 moved_step : (T : Tableau) (n j : ℕ) → moved n (step_refusal T j) ≡ step_refusal T j
 unfolding step_refusal placed
@@ -52,7 +50,7 @@ moved_step T n j =
     (moved_then n (partners_fit T j) Partner j _ _ refl
     (moved_last n (lowered_fits T j) Lowered j refl)))))
 
-moved_children : (n p : ℕ) → moved n (Found Children (At p)) ≡ Found Children (At n)
+moved_children : (n p : ℕ) → moved n (refuse Children (Some p)) ≡ refuse Children (Some n)
 unfolding moved placed
 moved_children n p = refl
 
@@ -63,11 +61,11 @@ record Beyond (U : Tableau) (k : ℕ) : Type 0 where
   p : ℕ
   before : p < k
   beyond : children_held U p ≡ false
-  found : beyond_refusal U k ≡ Found Children (At k)
+  found : beyond_refusal U k ≡ refuse Children (Some k)
   others : (j : ℕ) → j < p → names U.nodes (pos j) k ≡ false
 
 record Within (U : Tableau) (k : ℕ) : Type 0 where
-  passed : beyond_refusal U k ≡ Nothing
+  passed : beyond_refusal U k ≡ no_refusal
   parent : (j : ℕ) → names U.nodes (pos j) k ≡ true → children_held U j ≡ true
 
 parent_of : (U : Tableau) (k : ℕ) → KeepsParent U k → Within U k ⊎ Beyond U k
@@ -94,14 +92,14 @@ parent_of U (suc i) h =
 -- ---- the last row
 
 -- where nothing is found of the rows before it
-scan_last : (f : ℕ → Finding) (n : ℕ) → ((j : ℕ) → j < n → f j ≡ Nothing) → scan f (suc n) ≡ f n
+scan_last : (f : ℕ → Finding) (n : ℕ) → ((j : ℕ) → j < n → f j ≡ no_refusal) → scan f (suc n) ≡ f n
 unfolding scan
 scan_last f n h = otherwise_nothing (scan f n) (f n) (scan_nothing f n h)
 
-nothing_after : (x y : Finding) → y ≡ Nothing → (x otherwise y) ≡ x
+nothing_after : (x y : Finding) → y ≡ no_refusal → (x otherwise y) ≡ x
 unfolding ◌otherwise◌
-nothing_after Nothing y e = e
-nothing_after (Found why p) y e = refl
+nothing_after (Ok u) y e = e
+nothing_after (Err r) y e = refl
 
 module _ (T : Tableau) (H : Holds T) (w : NodeRow) (room : room_for T w ≡ true) where
   abbrev U : Tableau
@@ -120,7 +118,7 @@ module _ (T : Tableau) (H : Holds T) (w : NodeRow) (room : room_for T w ≡ true
   unfolding within_limits
   limits_kept = let t = tables_added T H w room in and_both _ _ (le-leb _ _ t.row_limit) (and_both _ _ (le-leb _ _ t.node_limit) (le-leb _ _ t.member_limit))
 
-  formulas_kept : formulas_refusal false (rows U) (row_count U) U.schema_rows U.root U.least ≡ Nothing
+  formulas_kept : formulas_refusal false (rows U) (row_count U) U.schema_rows U.root U.least ≡ no_refusal
   unfolding added holding rows row_count
   formulas_kept = (present_clears U).1 (H.formulas, H.fresh)
 
@@ -128,7 +126,7 @@ module _ (T : Tableau) (H : Holds T) (w : NodeRow) (room : room_for T w ≡ true
   unfolding node_refusal at_unless children_as
   node_found_lem k = ⊎_elim within beyond (parent_of U n k)
     where
-      held : (j : ℕ) → j < n → children_held U j ≡ true → node_refusal false U j ≡ Nothing
+      held : (j : ℕ) → j < n → children_held U j ≡ true → node_refusal false U j ≡ no_refusal
       held j h c = held_node U j (old_step T H w room j h) c
 
       within : Within U n → moved n (scan (node_refusal false U) (suc n)) ≡ (beyond_refusal U n otherwise step_refusal U n)
@@ -164,7 +162,7 @@ module _ (T : Tableau) (H : Holds T) (w : NodeRow) (room : room_for T w ≡ true
       ∙ otherwise_nothing _ _ formulas_kept
       ∙ ap₂ (λ (x y : Finding). x otherwise y)
       (scan_last (set_refusal U) n (λ j h. (set_clears U j).1 (old_set T H w room j h)))
-      (otherwise_nothing Nothing _ refl
+      (otherwise_nothing no_refusal _ refl
       ∙ ap (λ (x : Finding). x otherwise scan (node_refusal false U) (suc n)) (scan_last (parent_refusal U) n (λ j h. (parent_clears U j).1 (old_parent T H w room j h))))
 
   moved_both : (x : Finding) → moved n (set_refusal U n otherwise (parent_refusal U n otherwise x)) ≡ (set_refusal U n otherwise (parent_refusal U n otherwise moved n x))

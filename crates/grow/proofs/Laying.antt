@@ -12,11 +12,10 @@ use Rattle.stab.specs.Basic.{nat, ◌otherwise◌}
 use Rattle.stab.specs.Node.{Tableau, Node, node_at, node, set_of, set}
 use Rattle.stab.specs.Check.{whole_unless, refusal, held_mode}
 use Rattle.stab.specs.Text.{padded}
-use Rattle.stab.specs.declared.Place.{Place}
-use Rattle.stab.specs.declared.Place.TheVariants.{Whole}
+use Rattle.std.specs.Prelude.{None}
+use Rattle.stab.specs.Finding.{no_refusal, refuse, Place}
 use Rattle.stab.specs.declared.Refusal.{Refusal}
 use Rattle.stab.specs.declared.Refusal.TheVariants.{Room}
-use Rattle.stab.specs.declared.Finding.TheVariants.{Nothing, Found}
 use Rattle.stab.proofs.Bools.{nothing_unless, found_unless, otherwise_nothing, otherwise_found, otherwise_same}
 use Rattle.stab.proofs.Scans.{below_suc}
 use Rattle.tidied.proofs.Tables.{numbers_of, node_at_front, node_at_next, slice_front, slice_take, set_within}
@@ -180,7 +179,7 @@ module _ (T : Tableau) (w : NodeRow) (room : room_for T w ≡ true) where
           members = sym (padded_length (length members) (take (nat (node_at nodes (suc n - 1)).start) members) (omega (arith, d, start, b, (fits T w room).3)) ∙ b);
         }
 
-    held_without : refusal held_mode T ≡ Nothing
+    held_without : refusal held_mode T ≡ no_refusal
     held_without = held_same agrees_shortened ∙ (held_clears (shortened (grown T w))).1 (holds_shortened (grown T w) G some_row)
 
   -- ---- what adding says
@@ -189,17 +188,17 @@ module _ (T : Tableau) (w : NodeRow) (room : room_for T w ≡ true) where
   unfolding new_refusal whole_unless
   new_is = otherwise_nothing _ _ (nothing_unless (room_for T w) _ _ room)
 
-  pub accepted : refusal held_mode (grown T w) ≡ Nothing → add_refusal T w ≡ Nothing
+  pub accepted : refusal held_mode (grown T w) ≡ no_refusal → add_refusal T w ≡ no_refusal
   unfolding add_refusal moved
   accepted e =
       let h = held_without ((held_clears (grown T w)).0 e) in
       otherwise_nothing (refusal held_mode T) _ h ∙ new_is ∙ sym (found_new ((held_clears T).0 h)) ∙ ap (moved n) e
 
-  pub refused : (why : Refusal) (p : Place) → refusal held_mode (grown T w) ≡ Found why p → add_refusal T w ≡ (refusal held_mode T otherwise Found why (placed n why p))
+  pub refused : (why : Refusal) (p : Place) → refusal held_mode (grown T w) ≡ refuse why p → add_refusal T w ≡ (refusal held_mode T otherwise refuse why (placed n why p))
   unfolding add_refusal moved
   refused why p e =
       otherwise_same (refusal held_mode T) _ _ (λ h. new_is ∙ sym (found_new ((held_clears T).0 h)) ∙ ap (moved n) e)
 
-pub no_room : (T : Tableau) (w : NodeRow) → room_for T w ≡ false → add_refusal T w ≡ (refusal held_mode T otherwise Found Room Whole)
+pub no_room : (T : Tableau) (w : NodeRow) → room_for T w ≡ false → add_refusal T w ≡ (refusal held_mode T otherwise refuse Room None)
 unfolding add_refusal new_refusal whole_unless
 no_room T w h = otherwise_same (refusal held_mode T) _ _ (λ e. otherwise_found _ _ (found_unless (room_for T w) _ _ h))

@@ -6,15 +6,14 @@ use Rattle.stab.specs.Node.{Tableau}
 use Rattle.stab.specs.Check.{set_refusal, parent_refusal, step_refusal, refusal, held_mode, whole_unless, is_link, link_count}
 use Rattle.stab.specs.Answer.{refused_numbers, verdict_numbers, one_number, packed, numbers_in, Packs}
 use Rattle.stab.specs.declared.Refusal.TheVariants.{Room}
-use Rattle.stab.specs.declared.Finding.{Finding}
-use Rattle.stab.specs.declared.Finding.TheVariants.{Nothing, Found}
+use Rattle.std.specs.Prelude.{Ok, Err}
+use Rattle.stab.specs.Finding.{no_refusal, Finding}
 use Rattle.stab.proofs.Bools.{unless_nothing, nothing≢found}
 use Rattle.stab.proofs.Scans.{count_le}
 use Rattle.stab.proofs.Packed.{near_packs, read_back}
 use Rattle.stab.proofs.Exactness.Refusals.{FindsNear, of_whole, of_at, ◌or_else◌, once, of_refusal}
 use Rattle.growing.specs.Growing.{NodeRow, room_for, added, beyond_refusal, added_refusal, new_refusal, add_refusal, take_back_refusal, begun, begin_refusal, begin_answer, growth_by, Call, add, take_back, call_refusal, changed, answered, growth_numbers, growth_packed}
 use Rattle.growing.specs.declared.Growth.{Growth}
-use Rattle.growing.specs.declared.Growth.TheVariants.{Held, Refused as GrowthRefused}
 use Rattle.growing.proofs.States.{held_clears}
 use Rattle.growing.proofs.Held.{fits}
 use Rattle.growing.proofs.Grown.{passed}
@@ -24,8 +23,7 @@ use Rattle.grow.specs.Packed.{as_verdict}
 
 numbers_are : (r : Growth) → verdict_numbers (as_verdict r) ≡ growth_numbers r
 unfolding verdict_numbers refused_numbers growth_numbers
-numbers_are (Held nodes links shown) = refl
-numbers_are (GrowthRefused why p shown) = refl
+numbers_are r = refl
 
 pub packed_is : (r : Growth) → growth_packed r ≡ packed (as_verdict r)
 unfolding growth_packed packed
@@ -33,7 +31,7 @@ packed_is r = ap one_number (sym (numbers_are r))
 
 -- ---- whatever is found is a refusal at a place that packs
 
-of_nothing : FindsNear Nothing
+of_nothing : FindsNear no_refusal
 of_nothing why p e = absurd (nothing≢found e)
 
 of_step : (T : Tableau) (j : ℕ) → j < 4096 → FindsNear (step_refusal T j)
@@ -61,10 +59,10 @@ of_call T take_back = of_refusal held_mode T or_else of_whole _ _
 
 -- ---- the answers pack
 
-pub growth_packs : (x : Finding) (S T : Tableau) → FindsNear x → (x ≡ Nothing → T.node_rows ≤ 1024) → Packs (as_verdict (growth_by x S T))
+pub growth_packs : (x : Finding) (S T : Tableau) → FindsNear x → (x ≡ no_refusal → T.node_rows ≤ 1024) → Packs (as_verdict (growth_by x S T))
 unfolding growth_by link_count
-growth_packs Nothing S T f few = (omega (arith, few refl), omega (arith, few refl, count_le (is_link T.nodes) T.node_rows))
-growth_packs (Found why p) S T f few = near_packs why p (f why p refl)
+growth_packs (Ok u) S T f few = (omega (arith, few refl), omega (arith, few refl, count_le (is_link T.nodes) T.node_rows))
+growth_packs (Err r) S T f few = near_packs r.why r.place (f r.why r.place refl)
 
 pub begin_packs : (T : Tableau) → Packs (as_verdict (begin_answer T))
 unfolding begin_answer begin_refusal

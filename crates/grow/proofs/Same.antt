@@ -15,8 +15,7 @@ use Rattle.stab.specs.Keeps.{KeepsSet, KeepsParent}
 use Rattle.stab.specs.declared.Refusal.{Refusal}
 use Rattle.stab.specs.declared.Refusal.TheVariants.{TableTooShort, TooMany, Children}
 use Rattle.stab.specs.declared.Rule.{Rule}
-use Rattle.stab.specs.declared.Finding.{Finding}
-use Rattle.stab.specs.declared.Finding.TheVariants.{Nothing}
+use Rattle.stab.specs.Finding.{no_refusal, Finding}
 use Rattle.stab.proofs.Bools.{same_test, unless_nothing, nothing_unless, otherwise_same, otherwise_first_same}
 use Rattle.stab.proofs.Scans.{scan_same, nothing_scan}
 use Rattle.stab.proofs.Whole.{le_z_of}
@@ -37,12 +36,12 @@ alike_back A = record {
 }
 
 -- two tests that refuse alike
-at_same : (a b : Bool) (why : Refusal) (j : ℕ) → (at_unless a why j ≡ Nothing → at_unless b why j ≡ Nothing) → (at_unless b why j ≡ Nothing → at_unless a why j ≡ Nothing) → at_unless a why j ≡ at_unless b why j
+at_same : (a b : Bool) (why : Refusal) (j : ℕ) → (at_unless a why j ≡ no_refusal → at_unless b why j ≡ no_refusal) → (at_unless b why j ≡ no_refusal → at_unless a why j ≡ no_refusal) → at_unless a why j ≡ at_unless b why j
 unfolding at_unless
 at_same a b why j f g =
     ap (λ (t : Bool). at_unless t why j) (same_test a b (λ e. unless_nothing b _ _ (f (nothing_unless a _ _ e))) (λ e. unless_nothing a _ _ (g (nothing_unless b _ _ e))))
 
-otherwise_both : {x y z w : Finding} → x ≡ y → (y ≡ Nothing → z ≡ w) → (x otherwise z) ≡ (y otherwise w)
+otherwise_both : {x y z w : Finding} → x ≡ y → (y ≡ no_refusal → z ≡ w) → (x otherwise z) ≡ (y otherwise w)
 otherwise_both {x} {y} {z} {w} e f = otherwise_first_same z e ∙ otherwise_same y z w f
 
 -- the rows held, all of them

@@ -7,10 +7,9 @@ use Rattle.stab.specs.Lent.{lent, header}
 use Rattle.stab.specs.Check.{link_count}
 use Rattle.stab.specs.declared.Header.{Header}
 use Rattle.branch.specs.Parents.{AllUpFit}
-use Rattle.growing.specs.Growing.{NodeRow, node_numbers}
+use Rattle.growing.specs.Growing.{NodeRow, node_numbers, held_rows}
 use Rattle.growing.specs.Complete.{complete}
 use Rattle.growing.specs.declared.Growth.{Growth}
-use Rattle.growing.specs.declared.Growth.TheVariants.{Held}
 
 -- a node row, from its seven numbers and its set
 unfoldable pub row_from : List ℤ → List ℤ → NodeRow
@@ -46,7 +45,7 @@ nodes_only nodes k = lent [] [] nodes [] (header 0 0 (pos 0) (pos 0) k 0)
 
 -- what is shown of them
 unfoldable pub shown : List ℤ → ℕ → Growth
-shown nodes k = Held k (link_count (nodes_only nodes k)) (complete (nodes_only nodes k))
+shown nodes k = held_rows k (link_count (nodes_only nodes k)) (complete (nodes_only nodes k))
 
 -- what is known of them when their children are counted
 pub record Countable (nodes : List ℤ) (h : Header) : Type 0 where

@@ -4,7 +4,7 @@
 mod children;
 mod row;
 
-ghost use Rattle.std.specs.Prelude.{◌≡◌, ◌+◌, ◌*◌, ◌≤◌, suc, leb, ltb, pos, length, take};
+ghost use Rattle.std.specs.Prelude.{◌≡◌, ◌+◌, ◌*◌, ◌≤◌, suc, leb, ltb, pos, length, take, false};
 ghost use Rattle.stab.specs.Basic.{◌and◌};
 ghost use Rattle.stab.specs.Lent.{lent};
 ghost use Rattle.stab.specs.Text.{padded};
@@ -17,7 +17,7 @@ ghost use Rattle.grow.specs.Moved.{placed};
 use branch::links::links;
 use branch::node;
 use growing::{Growth, Reply};
-use stab::{Finding, Header, Place, Refusal};
+use stab::{Counts, Header, Refusal, Refused, Verdict};
 use tableau::check;
 
 // 24: there is room for one more row, with a set of `size`, in tables of these lengths.
@@ -40,13 +40,13 @@ fn room(nodes: usize, n: usize, members: usize, m: usize, size: usize) -> bool
 }
 
 // A child beyond is found at the parent, and said at the added row n.
-fn place_of(why: Refusal, place: Place, n: usize) -> Place
-    ensures { result ≡ placed n why place }
+fn said_of(refused: Refused, n: usize) -> Refused
+    ensures { result ≡ record { why = refused.why; place = placed n refused.why refused.place } }
 {
-    if answer::number(why) == 17 {
-        Place::At(n)
+    if answer::number(refused.why) == 17 {
+        refused.why.at(n)
     } else {
-        place
+        refused
     }
 }
 
@@ -70,6 +70,16 @@ fn reply(h: Header, answer: Growth) -> Reply
     }
 }
 
+// A verdict that leaves rows that are not closed.
+fn open(verdict: Verdict) -> Growth
+    ensures { result ≡ record { verdict = verdict; closed = false } }
+{
+    Growth {
+        verdict,
+        closed: false,
+    }
+}
+
 // The rows held are refused, or else the call; they stay as they stood. Rows that are refused are not closed.
 pub fn turn_away(
     schema: &[i32],
@@ -77,23 +87,21 @@ pub fn turn_away(
     nodes: &[i32],
     members: &[i32],
     h: Header,
-    why: Refusal,
-    place: Place,
+    refused: Refused,
 ) -> Reply
-    ensures { result ≡ reply_of h (turned_away (lent schema.now proof.now nodes.now members.now h) why place) }
+    ensures { result ≡ reply_of h (turned_away (lent schema.now proof.now nodes.now members.now h) refused.why refused.place) }
 {
     match check::held(schema, proof, nodes, members, h) {
-        Finding::Found { why: w, place: p } => reply(
-            h,
-            Growth::Refused {
-                why: w,
-                place: p,
-                closed: false,
-            },
-        ),
-        Finding::Nothing => {
+        Err(earlier) => reply(h, open(Err(earlier))),
+        Ok(()) => {
             let closed = children::complete(nodes, h);
-            reply(h, Growth::Refused { why, place, closed })
+            reply(
+                h,
+                Growth {
+                    verdict: Err(refused),
+                    closed,
+                },
+            )
         }
     }
 }
@@ -103,9 +111,12 @@ fn show(nodes: &[i32], h: Header) -> Growth
     requires { Countable nodes.now h }
     ensures { result ≡ shown nodes.now h.node_rows }
 {
-    Growth::Held {
+    let counts = Counts {
         nodes: h.node_rows,
         links: links(nodes, h.node_rows),
+    };
+    Growth {
+        verdict: Ok(counts),
         closed: children::complete(nodes, h),
     }
 }
@@ -135,22 +146,8 @@ pub fn begin(
     row::hold(nodes, 0, members, 0);
     let none = holding(h, 0, 0);
     match check::held(schema, proof, nodes, members, none) {
-        Finding::Found { why, place } => reply(
-            none,
-            Growth::Refused {
-                why,
-                place,
-                closed: false,
-            },
-        ),
-        Finding::Nothing => reply(
-            none,
-            Growth::Held {
-                nodes: 0,
-                links: 0,
-                closed: false,
-            },
-        ),
+        Err(refused) => reply(none, open(Err(refused))),
+        Ok(()) => reply(none, open(Ok(Counts { nodes: 0, links: 0 }))),
     }
 }
 
@@ -172,15 +169,7 @@ pub fn try_row(
     let n = h.node_rows;
     let m = h.member_count;
     if !room(nodes.len(), n, members.len(), m, set.len()) {
-        return turn_away(
-            schema,
-            proof,
-            nodes,
-            members,
-            h,
-            Refusal::Room,
-            Place::Whole,
-        );
+        return turn_away(schema, proof, nodes, members, h, Refusal::Room.whole());
     }
     let mut saved_node = [0i32; 9];
     let mut saved_set = [0i32; 8192];
@@ -196,7 +185,7 @@ pub fn try_row(
     );
     let more = holding(h, n + 1, m + set.len());
     match check::held(schema, proof, nodes, members, more) {
-        Finding::Nothing => {
+        Ok(()) => {
             if keep {
                 return settle(nodes, members, more);
             }
@@ -205,17 +194,9 @@ pub fn try_row(
             row::put_back(nodes, n, members, m, size, &saved_node, &saved_set);
             reply(h, answer)
         }
-        Finding::Found { why, place } => {
+        Err(refused) => {
             row::put_back(nodes, n, members, m, set.len(), &saved_node, &saved_set);
-            turn_away(
-                schema,
-                proof,
-                nodes,
-                members,
-                h,
-                why,
-                place_of(why, place, n),
-            )
+            turn_away(schema, proof, nodes, members, h, said_of(refused, n))
         }
     }
 }
@@ -249,26 +230,11 @@ pub fn take_back(
 {
     let n = h.node_rows;
     if n == 0 {
-        return turn_away(
-            schema,
-            proof,
-            nodes,
-            members,
-            h,
-            Refusal::NoRow,
-            Place::Whole,
-        );
+        return turn_away(schema, proof, nodes, members, h, Refusal::NoRow.whole());
     }
     match check::held(schema, proof, nodes, members, h) {
-        Finding::Found { why, place } => reply(
-            h,
-            Growth::Refused {
-                why,
-                place,
-                closed: false,
-            },
-        ),
-        Finding::Nothing => {
+        Err(refused) => reply(h, open(Err(refused))),
+        Ok(()) => {
             let start = node::natural_of(nodes, n - 1, node::START);
             settle(nodes, members, holding(h, n - 1, start))
         }

@@ -14,24 +14,21 @@ use Rattle.stab.specs.Basic.{◌and◌, eq_z, within, nat, ◌otherwise◌}
 use Rattle.stab.specs.Node.{Tableau, row_count, set}
 use Rattle.stab.specs.Check.{whole_unless, refusal, held_mode, link_count, check}
 use Rattle.stab.specs.Text.{padded}
-use Rattle.stab.specs.declared.Place.TheVariants.{Whole}
+use Rattle.std.specs.Prelude.{None, Ok, Err}
+use Rattle.stab.specs.Finding.{accept, refuse, no_refusal, Finding}
 use Rattle.stab.specs.declared.Refusal.TheVariants.{Waiting}
-use Rattle.stab.specs.declared.Verdict.TheVariants.{Accepted}
-use Rattle.stab.specs.declared.Finding.{Finding}
-use Rattle.stab.specs.declared.Finding.TheVariants.{Found, Nothing}
 use Rattle.stab.proofs.Bools.{and_both, unless_nothing, nothing_unless, found_unless, otherwise_first, otherwise_second, otherwise_nothing, otherwise_found}
 use Rattle.stab.proofs.Whole.{num, le_of}
 use Rattle.tidied.proofs.Sets.{few}
-use Rattle.growing.specs.Growing.{NodeRow, holding, added, new_refusal, add_refusal, shortened, take_back_refusal, growth_by, left_by, begun, begin_refusal, rows_held, first_rows, done, add, take_back, shown_number}
+use Rattle.growing.specs.Growing.{NodeRow, holding, added, new_refusal, add_refusal, shortened, take_back_refusal, growth_by, left_by, begun, begin_refusal, rows_held, first_rows, done, add, take_back, shown_number, held_rows}
 use Rattle.growing.specs.Enquiry.{stored, nothing_waits, waits, waiting_row, Editor, EditorCall, enquire, commit, grow, commit_refusal, editor_refusal, spoken_of, editor_answer, held_after, waiting_after, waiting_refused, waiting_by, edited, shown_of, edited_all, opened, pending_after, pending_refused, pending_by, committed, done_editing, done_editing_if, pending, leave_editing}
-use Rattle.growing.specs.declared.Growth.TheVariants.{Held}
 use Rattle.growing.proofs.States.{Holds, held_clears, added_last}
 use Rattle.growing.proofs.Held.{room, new_set, holds_shortened}
 use Rattle.growing.proofs.Grown.{added_holds, added_ok, add_holds, add_rows, back_holds, some_row, back_rows, closed_left, left_same, counts_left}
 
 -- ---- a set that is accepted has room in the waiting row
 
-pub accepted_few : (T : Tableau) (w : NodeRow) → add_refusal T w ≡ Nothing → length w.members ≤ 1024
+pub accepted_few : (T : Tableau) (w : NodeRow) → add_refusal T w ≡ no_refusal → length w.members ≤ 1024
 accepted_few T w ok =
     let H = added_holds T w ok in
     let k = added_ok T w ok in
@@ -69,10 +66,10 @@ nothing_waits_lem = refl
 -- the waiting memory, by the row that waits
 abbrev Waits : Editor → Option NodeRow → Type 0
 Waits E none = E.waiting ≡ nothing_waits
-Waits E (some w) = (E.waiting ≡ stored w) × (add_refusal E.held w ≡ Nothing)
+Waits E (some w) = (E.waiting ≡ stored w) × (add_refusal E.held w ≡ no_refusal)
 
 -- nothing can be committed where nothing waits
-no_commit : (E : Editor) → E.waiting ≡ nothing_waits → commit_refusal E ≡ Nothing → ⊥
+no_commit : (E : Editor) → E.waiting ≡ nothing_waits → commit_refusal E ≡ no_refusal → ⊥
 unfolding commit_refusal whole_unless
 no_commit E e ok =
     true≢false (sym (unless_nothing (waits E.waiting) _ _ (otherwise_first _ _ (otherwise_second (refusal held_mode E.held) _ ok))) ∙ ap waits e ∙ nothing_waits_lem)
@@ -90,11 +87,11 @@ committed_row E w (e, ok) = ap waiting_row e ∙ stored_row w
 -- ---- one call
 
 -- where a commit succeeds, a row waits and is added
-commit_adds : (E : Editor) (p : Option NodeRow) → Waits E p → commit_refusal E ≡ Nothing → (w : NodeRow) × (p ≡ some w) × (waiting_row E.waiting ≡ w) × (add_refusal E.held w ≡ Nothing)
+commit_adds : (E : Editor) (p : Option NodeRow) → Waits E p → commit_refusal E ≡ no_refusal → (w : NodeRow) × (p ≡ some w) × (waiting_row E.waiting ≡ w) × (add_refusal E.held w ≡ no_refusal)
 commit_adds E none W ok = absurd (no_commit E W ok)
 commit_adds E (some w) W ok = (w, refl, committed_row E w W, W.1)
 
-call_holds : (E : Editor) (p : Option NodeRow) → Holds E.held → Waits E p → (call : EditorCall) → editor_refusal E call ≡ Nothing → Holds (held_after E call)
+call_holds : (E : Editor) (p : Option NodeRow) → Holds E.held → Waits E p → (call : EditorCall) → editor_refusal E call ≡ no_refusal → Holds (held_after E call)
 unfolding editor_refusal held_after
 call_holds E p H W (enquire w) ok = H
 call_holds E p H W commit ok =
@@ -102,7 +99,7 @@ call_holds E p H W commit ok =
 call_holds E p H W (grow (add w)) ok = add_holds E.held w ok
 call_holds E p H W (grow take_back) ok = holds_shortened E.held (back_holds E.held ok) (some_row E.held ok)
 
-call_rows : (E : Editor) (p : Option NodeRow) → Waits E p → (call : EditorCall) → editor_refusal E call ≡ Nothing → rows_held (held_after E call) ≡ done_editing p call (rows_held E.held)
+call_rows : (E : Editor) (p : Option NodeRow) → Waits E p → (call : EditorCall) → editor_refusal E call ≡ no_refusal → rows_held (held_after E call) ≡ done_editing p call (rows_held E.held)
 unfolding editor_refusal held_after done_editing done committed
 call_rows E p W (enquire w) ok = refl
 call_rows E p W commit ok =
@@ -114,7 +111,7 @@ call_rows E p W (grow (add w)) ok = add_rows E.held w ok
 call_rows E p W (grow take_back) ok = back_rows E.held ok
 
 -- what waits after an accepted call, and after a refused one
-call_waits : (E : Editor) (call : EditorCall) → editor_refusal E call ≡ Nothing → Waits (record { held = held_after E call; waiting = waiting_after call }) (pending_after call)
+call_waits : (E : Editor) (call : EditorCall) → editor_refusal E call ≡ no_refusal → Waits (record { held = held_after E call; waiting = waiting_after call }) (pending_after call)
 unfolding editor_refusal held_after waiting_after pending_after
 call_waits E (enquire w) ok = (refl, ok)
 call_waits E commit ok = refl
@@ -133,24 +130,24 @@ unfolding edited left_by
 edited_holds E p H W call = by (editor_refusal E call) refl
   where
     by : (x : Finding) → editor_refusal E call ≡ x → Holds (left_by x E.held (held_after E call))
-    by Nothing e = call_holds E p H W call e
-    by (Found why place) e = H
+    by (Ok u) e = call_holds E p H W call e
+    by (Err r) e = H
 
 edited_waits : (E : Editor) (p : Option NodeRow) → Waits E p → (call : EditorCall) → Waits (edited E call) (pending_by (editor_refusal E call) p call)
 unfolding edited left_by waiting_by pending_by
 edited_waits E p W call = by (editor_refusal E call) refl
   where
     by : (x : Finding) → editor_refusal E call ≡ x → Waits (record { held = left_by x E.held (held_after E call); waiting = waiting_by x E.waiting call }) (pending_by x p call)
-    by Nothing e = call_waits E call e
-    by (Found why place) e = refused_waits E p W call
+    by (Ok u) e = call_waits E call e
+    by (Err r) e = refused_waits E p W call
 
 edited_rows : (E : Editor) (p : Option NodeRow) → Waits E p → (call : EditorCall) → rows_held (edited E call).held ≡ done_editing_if (editor_refusal E call) p call (rows_held E.held)
 unfolding edited left_by done_editing_if
 edited_rows E p W call = by (editor_refusal E call) refl
   where
     by : (x : Finding) → editor_refusal E call ≡ x → rows_held (left_by x E.held (held_after E call)) ≡ done_editing_if x p call (rows_held E.held)
-    by Nothing e = call_rows E p W call e
-    by (Found why place) e = refl
+    by (Ok u) e = call_rows E p W call e
+    by (Err r) e = refl
 
 -- ---- lists of calls
 
@@ -171,7 +168,7 @@ unfolding opened begun holding rows_held first_rows
 rows_edited T calls = all_left (opened T) none refl calls [] refl
 
 -- they pass the check, no node and missing children aside
-pub always_edited : (T : Tableau) → begin_refusal T ≡ Nothing → (calls : List EditorCall) → refusal held_mode (edited_all (opened T) calls).held ≡ Nothing
+pub always_edited : (T : Tableau) → begin_refusal T ≡ no_refusal → (calls : List EditorCall) → refusal held_mode (edited_all (opened T) calls).held ≡ no_refusal
 unfolding opened begin_refusal
 always_edited T ok calls =
     (held_clears (edited_all (opened T) calls).held).1 (all_held (opened T) none ((held_clears (begun T)).0 ok) refl calls).0
@@ -187,7 +184,7 @@ enquiry_changes_none E w = left_same (editor_refusal E (enquire w)) E.held
 
 -- "closed" is shown exactly when the whole check accepts the rows that the call leaves, of an enquiry those that adding would leave: after
 -- every call, refused ones included
-pub closed_edited : (E : Editor) (call : EditorCall) → (shown_number (editor_answer E call) ≡ 1) ↔ (check (shown_of E call) ≡ Accepted (shown_of E call).node_rows (link_count (shown_of E call)))
+pub closed_edited : (E : Editor) (call : EditorCall) → (shown_number (editor_answer E call) ≡ 1) ↔ (check (shown_of E call) ≡ accept (shown_of E call).node_rows (link_count (shown_of E call)))
 unfolding editor_answer editor_refusal shown_of edited held_after spoken_of
 closed_edited E (enquire w) = closed_left (add_refusal E.held w) E.held (added E.held w)
 closed_edited E commit = closed_left (commit_refusal E) E.held (added E.held (waiting_row E.waiting))
@@ -197,11 +194,11 @@ closed_edited E (grow take_back) = closed_left (take_back_refusal E.held) E.held
 -- for every list of calls, and one call more
 pub closed_editing : (T : Tableau) (calls : List EditorCall) (call : EditorCall) →
     let E = edited_all (opened T) calls in
-    (shown_number (editor_answer E call) ≡ 1) ↔ (check (shown_of E call) ≡ Accepted (shown_of E call).node_rows (link_count (shown_of E call)))
+    (shown_number (editor_answer E call) ≡ 1) ↔ (check (shown_of E call) ≡ accept (shown_of E call).node_rows (link_count (shown_of E call)))
 closed_editing T calls call = closed_edited (edited_all (opened T) calls) call
 
 -- an accepted call gives their counts
-pub counts_edited : (E : Editor) (call : EditorCall) (n l : ℕ) (shown : Bool) → editor_answer E call ≡ Held n l shown → (n ≡ (shown_of E call).node_rows) × (l ≡ link_count (shown_of E call))
+pub counts_edited : (E : Editor) (call : EditorCall) (n l : ℕ) (shown : Bool) → editor_answer E call ≡ held_rows n l shown → (n ≡ (shown_of E call).node_rows) × (l ≡ link_count (shown_of E call))
 unfolding editor_answer editor_refusal shown_of edited held_after spoken_of
 counts_edited E (enquire w) n l shown e = counts_left (add_refusal E.held w) E.held (added E.held w) n l shown e
 counts_edited E commit n l shown e = counts_left (commit_refusal E) E.held (added E.held (waiting_row E.waiting)) n l shown e
@@ -210,7 +207,7 @@ counts_edited E (grow take_back) n l shown e = counts_left (take_back_refusal E.
 
 -- a commit succeeds exactly when a row waits, "the row last enquired about, if that enquiry said yes and no commit or take-back succeeded
 -- since", and then gives what the enquiry gives
-pub commit_exactly : (T : Tableau) → begin_refusal T ≡ Nothing → (calls : List EditorCall) → (commit_refusal (edited_all (opened T) calls) ≡ Nothing) ↔ ((w : NodeRow) × (pending (opened T) none calls ≡ some w))
+pub commit_exactly : (T : Tableau) → begin_refusal T ≡ no_refusal → (calls : List EditorCall) → (commit_refusal (edited_all (opened T) calls) ≡ no_refusal) ↔ ((w : NodeRow) × (pending (opened T) none calls ≡ some w))
 unfolding opened begin_refusal
 commit_exactly T ok calls =
     let h = (all_held (opened T) none ((held_clears (begun T)).0 ok) refl calls).1 in (
@@ -218,7 +215,7 @@ commit_exactly T ok calls =
       λ (w, e). let g : Waits (edited_all (opened T) calls) (some w) = subst (Waits (edited_all (opened T) calls)) e h in commits (edited_all (opened T) calls) w g ∙ g.1,
     )
 
-pub commit_as_enquired : (T : Tableau) → begin_refusal T ≡ Nothing → (calls : List EditorCall) (w : NodeRow) → pending (opened T) none calls ≡ some w → editor_answer (edited_all (opened T) calls) commit ≡ editor_answer (edited_all (opened T) calls) (enquire w)
+pub commit_as_enquired : (T : Tableau) → begin_refusal T ≡ no_refusal → (calls : List EditorCall) (w : NodeRow) → pending (opened T) none calls ≡ some w → editor_answer (edited_all (opened T) calls) commit ≡ editor_answer (edited_all (opened T) calls) (enquire w)
 unfolding opened begin_refusal editor_answer editor_refusal spoken_of
 commit_as_enquired T ok calls w e =
     let E = edited_all (opened T) calls in
@@ -226,7 +223,7 @@ commit_as_enquired T ok calls w e =
     ap₂ (λ (x : Finding) (v : NodeRow). growth_by x E.held (added E.held v)) (commits E w g) (committed_row E w g)
 
 -- "26, by commit, when no such row waits"
-pub commit_26 : (T : Tableau) → begin_refusal T ≡ Nothing → (calls : List EditorCall) → pending (opened T) none calls ≡ none → commit_refusal (edited_all (opened T) calls) ≡ Found Waiting Whole
+pub commit_26 : (T : Tableau) → begin_refusal T ≡ no_refusal → (calls : List EditorCall) → pending (opened T) none calls ≡ none → commit_refusal (edited_all (opened T) calls) ≡ refuse Waiting None
 unfolding opened begin_refusal commit_refusal whole_unless
 commit_26 T ok calls e =
     let E = edited_all (opened T) calls in

@@ -1,5 +1,5 @@
 -- Rows that have passed still pass with an accepted row more, and without their last row.
-use Rattle.std.specs.Prelude.{if◌then◌else◌}
+use Rattle.std.specs.Prelude.{if◌then◌else◌, Ok}
 use Prim.Native.Nat.{ℕ, zero, suc, ◌+◌, ◌*◌, ◌-◌, ◌<◌, ◌≤◌}
 use native.Mathlib.Omega.{arith}
 use mathlib.Core.Path.{◌≡◌, refl, sym, ◌∙◌, ap, ap₂, subst}
@@ -19,7 +19,7 @@ use Rattle.stab.specs.Check.{whole_unless, at_unless, set_refusal, parent_refusa
 use Rattle.stab.specs.Keeps.{OuterRow, KeepsSet, KeepsParent, KeepsTables}
 use Rattle.stab.specs.Text.{padded}
 use Rattle.stab.specs.declared.Rule.{Rule}
-use Rattle.stab.specs.declared.Finding.TheVariants.{Nothing}
+use Rattle.stab.specs.Finding.{no_refusal}
 use Rattle.stab.proofs.Bools.{and_left, and_right, if_false, unless_nothing, nothing_unless, otherwise_first, otherwise_second, otherwise_nothing}
 use Rattle.stab.proofs.Whole.{atom, num, of_le, le_of, le_z_of, of_le_z, eq_z_true, eq_z_not, pos_injective}
 use Rattle.stab.proofs.Trees.{below_nat, below_pos}
@@ -93,15 +93,15 @@ count_more p n = go (p n)
     go false = omega arith
 
 -- nothing is found of a node, missing children aside
-pub held_node : (T : Tableau) (j : ℕ) → step_refusal T j ≡ Nothing → children_held T j ≡ true → node_refusal false T j ≡ Nothing
+pub held_node : (T : Tableau) (j : ℕ) → step_refusal T j ≡ no_refusal → children_held T j ≡ true → node_refusal false T j ≡ no_refusal
 unfolding node_refusal at_unless children_as
 held_node T j s c = otherwise_nothing (step_refusal T j) _ s ∙ nothing_unless (children_held T j) _ _ c
 
-pub held_step : (T : Tableau) (j : ℕ) → node_refusal false T j ≡ Nothing → step_refusal T j ≡ Nothing
+pub held_step : (T : Tableau) (j : ℕ) → node_refusal false T j ≡ no_refusal → step_refusal T j ≡ no_refusal
 unfolding node_refusal
 held_step T j h = otherwise_first _ _ h
 
-pub held_children : (T : Tableau) (j : ℕ) → node_refusal false T j ≡ Nothing → children_held T j ≡ true
+pub held_children : (T : Tableau) (j : ℕ) → node_refusal false T j ≡ no_refusal → children_held T j ≡ true
 unfolding node_refusal at_unless children_as
 held_children T j h = unless_nothing (children_held T j) _ _ (otherwise_second (step_refusal T j) _ h)
 
@@ -114,7 +114,7 @@ no_later T (suc i) p h k =
     eq_z_not _ _ (λ e. let l = below_nat (suc i) (node_at T.nodes (suc i)).up b in let q = pos_injective _ p (below_pos (suc i) _ b ∙ e) in omega arith)
 
 -- where no child is beyond, the parent's children are not too many
-beyond_held : (U : Tableau) (k j : ℕ) → j < k → (node_at U.nodes k).up ≡ pos j → beyond_refusal U k ≡ Nothing → children_held U j ≡ true
+beyond_held : (U : Tableau) (k j : ℕ) → j < k → (node_at U.nodes k).up ≡ pos j → beyond_refusal U k ≡ no_refusal → children_held U j ≡ true
 unfolding beyond_refusal at_unless node nat
 beyond_held U zero j h e b = absurd (omega arith)
 beyond_held U (suc i) j h e b = subst (λ (z : ℤ). children_held U (nat z) ≡ true) e (unless_nothing (children_held U (nat (node_at U.nodes (suc i)).up)) _ _ b)
@@ -145,7 +145,7 @@ module _ (T : Tableau) (H : Holds T) where
     pub old_parent : (j : ℕ) → j < T.node_rows → KeepsParent (added T w) j
     old_parent j h = parent_kept A j h (H.parents j h)
 
-    pub old_step : (j : ℕ) → j < T.node_rows → step_refusal (added T w) j ≡ Nothing
+    pub old_step : (j : ℕ) → j < T.node_rows → step_refusal (added T w) j ≡ no_refusal
     old_step j h = step_same A j h (H.parents j h) ∙ held_step T j (H.steps j h)
 
     -- the children that node j has with the new row
@@ -187,12 +187,12 @@ module _ (T : Tableau) (H : Holds T) where
 
   -- ---- and where it is accepted
 
-  module _ (w : NodeRow) (ok : new_refusal T w ≡ Nothing) where
+  module _ (w : NodeRow) (ok : new_refusal T w ≡ no_refusal) where
     pub room : room_for T w ≡ true
     unfolding new_refusal whole_unless
     room = unless_nothing (room_for T w) _ _ (otherwise_first _ _ ok)
 
-    ok_row : added_refusal (added T w) T.node_rows ≡ Nothing
+    ok_row : added_refusal (added T w) T.node_rows ≡ no_refusal
     unfolding new_refusal
     ok_row = otherwise_second _ _ ok
 
@@ -204,12 +204,12 @@ module _ (T : Tableau) (H : Holds T) where
     unfolding added_refusal
     new_parent = (parent_clears (added T w) T.node_rows).0 (otherwise_first _ _ (otherwise_second (set_refusal (added T w) T.node_rows) _ ok_row))
 
-    new_beyond : beyond_refusal (added T w) T.node_rows ≡ Nothing
+    new_beyond : beyond_refusal (added T w) T.node_rows ≡ no_refusal
     unfolding added_refusal
     new_beyond =
         otherwise_first _ _ (otherwise_second (parent_refusal (added T w) T.node_rows) _ (otherwise_second (set_refusal (added T w) T.node_rows) _ ok_row))
 
-    new_step : step_refusal (added T w) T.node_rows ≡ Nothing
+    new_step : step_refusal (added T w) T.node_rows ≡ no_refusal
     unfolding added_refusal
     new_step =
         otherwise_second (beyond_refusal (added T w) T.node_rows) _ (otherwise_second (parent_refusal (added T w) T.node_rows) _ (otherwise_second (set_refusal (added T w) T.node_rows) _ ok_row))
@@ -230,7 +230,7 @@ module _ (T : Tableau) (H : Holds T) where
       fresh = H.fresh;
       sets = λ j h. at_last j h (KeepsSet (added T w)) (old_set w room) new_set;
       parents = λ j h. at_last j h (KeepsParent (added T w)) (old_parent w room) new_parent;
-      steps = λ j h. at_last j h (λ i. node_refusal false (added T w) i ≡ Nothing) (λ i l. held_node (added T w) i (old_step w room i l) (old_children i l)) (held_node (added T w) T.node_rows new_step (new_children w room new_parent));
+      steps = λ j h. at_last j h (λ i. node_refusal false (added T w) i ≡ no_refusal) (λ i l. held_node (added T w) i (old_step w room i l) (old_children i l)) (held_node (added T w) T.node_rows new_step (new_children w room new_parent));
     }
       where
         at_last : (j : ℕ) → j < suc T.node_rows → (P : ℕ → Type 0) → ((i : ℕ) → i < T.node_rows → P i) → P T.node_rows → P j

@@ -14,7 +14,8 @@ use Rattle.stab.specs.Check.{whole_unless, holds, set_refusal, parent_refusal, n
 use Rattle.stab.specs.Keeps.{KeepsFormulas, KeepsSet, KeepsParent, KeepsTables, Fresh}
 use Rattle.stab.specs.Text.{padded}
 use Rattle.stab.specs.declared.Refusal.TheVariants.{TableTooShort, TooMany}
-use Rattle.stab.specs.declared.Finding.TheVariants.{Nothing}
+use Rattle.std.specs.Prelude.{Ok}
+use Rattle.stab.specs.Finding.{no_refusal}
 use Rattle.stab.proofs.Tests.{◌&◌, le_tests, ◌clears◌, whole_clears, ◌then◌, scan_clears}
 use Rattle.stab.proofs.Exactness.Formulas.{present_clears}
 use Rattle.stab.proofs.Exactness.Nodes.{set_clears, parent_clears}
@@ -30,7 +31,7 @@ pub record Holds (T : Tableau) : Type 0 where
   pub fresh : Fresh T
   pub sets : (j : ℕ) → j < T.node_rows → KeepsSet T j
   pub parents : (j : ℕ) → j < T.node_rows → KeepsParent T j
-  pub steps : (j : ℕ) → j < T.node_rows → node_refusal false T j ≡ Nothing
+  pub steps : (j : ℕ) → j < T.node_rows → node_refusal false T j ≡ no_refusal
 
 pub held_clears : (T : Tableau) → refusal held_mode T clears Holds T
 unfolding refusal held_mode tables_hold holds within_limits enough_nodes ◌implies◌ whole_unless unless
@@ -44,7 +45,7 @@ held_clears T =
     whole_clears TooMany (le_tests (row_count T) 1024 & le_tests T.node_rows 1024 & le_tests T.member_count 8192) then
     present_clears T then
     scan_clears (set_refusal T) T.node_rows (λ j l. set_clears T j) then
-    nothing then
+    none_clears then
     scan_clears (parent_refusal T) T.node_rows (λ j l. parent_clears T j) then
     scan_clears (node_refusal false T) T.node_rows (λ j l. (λ e. e, λ e. e))) (
       λ p. record {
@@ -70,8 +71,8 @@ held_clears T =
           ),
     )
   where
-    nothing : Nothing clears Unit {0}
-    nothing = (λ e. tt, λ u. refl)
+    none_clears : no_refusal clears Unit {0}
+    none_clears = (λ e. tt, λ u. refl)
 
 -- ---- tables that hold some rows, 0 past them
 

@@ -1,13 +1,12 @@
 -- 02, No. 8: enquiry and commit.
-use Rattle.std.specs.Prelude.{Bool, List, [], ◌∷◌, ◌++◌, ℤ, pos, length, get_or, take, drop}
+use Rattle.std.specs.Prelude.{Bool, List, [], ◌∷◌, ◌++◌, ℤ, pos, length, get_or, take, drop, Ok, Err}
 use Rattle.std.proofs.Math.Option.{Option, none, some}
 use Rattle.stab.specs.Basic.{◌and◌, eq_z, within, nat, ◌otherwise◌}
 use Rattle.stab.specs.Node.{Tableau}
 use Rattle.stab.specs.Check.{whole_unless, refusal, held_mode}
 use Rattle.stab.specs.Text.{padded}
 use Rattle.stab.specs.declared.Refusal.TheVariants.{Waiting}
-use Rattle.stab.specs.declared.Finding.{Finding}
-use Rattle.stab.specs.declared.Finding.TheVariants.{Nothing, Found}
+use Rattle.stab.specs.Finding.{no_refusal, refuse, Finding}
 use Rattle.growing.specs.Growing.{NodeRow, added, new_refusal, add_refusal, shortened, take_back_refusal, growth_by, left_by, begun, done, Call, add, take_back}
 use Rattle.growing.specs.declared.Growth.{Growth}
 
@@ -98,8 +97,8 @@ waiting_refused W commit = W
 waiting_refused W (grow call) = W
 
 unfoldable pub waiting_by : Finding → List ℤ → EditorCall → List ℤ
-waiting_by Nothing W call = waiting_after call
-waiting_by (Found why p) W call = waiting_refused W call
+waiting_by (Ok u) W call = waiting_after call
+waiting_by (Err r) W call = waiting_refused W call
 
 -- one call: the state after it
 unfoldable pub edited : Editor → EditorCall → Editor
@@ -138,8 +137,8 @@ pending_refused p commit = p
 pending_refused p (grow call) = p
 
 unfoldable pub pending_by : Finding → Option NodeRow → EditorCall → Option NodeRow
-pending_by Nothing p call = pending_after call
-pending_by (Found why place) p call = pending_refused p call
+pending_by (Ok u) p call = pending_after call
+pending_by (Err r) p call = pending_refused p call
 
 -- what a successful call does to a list of rows, where p is the row that waits
 unfoldable pub committed : Option NodeRow → List NodeRow → List NodeRow
@@ -152,8 +151,8 @@ done_editing p commit ws = committed p ws
 done_editing p (grow call) ws = done call ws
 
 unfoldable pub done_editing_if : Finding → Option NodeRow → EditorCall → List NodeRow → List NodeRow
-done_editing_if Nothing p call ws = done_editing p call ws
-done_editing_if (Found why place) p call ws = ws
+done_editing_if (Ok u) p call ws = done_editing p call ws
+done_editing_if (Err r) p call ws = ws
 
 -- the row that waits after some calls, and the rows that the successful ones leave
 unfoldable pub pending : Editor → Option NodeRow → List EditorCall → Option NodeRow

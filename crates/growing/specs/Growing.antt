@@ -1,20 +1,15 @@
 -- 02, No. 7: a tableau that grows on screen.
-use Rattle.std.specs.Prelude.{ℕ, zero, suc, ◌+◌, ◌*◌, ◌-◌, Bool, true, false, List, [], ◌∷◌, ◌++◌, leb, ltb, ℤ, pos, length, take, if◌then◌else◌}
+use Rattle.std.specs.Prelude.{ℕ, zero, suc, ◌+◌, ◌*◌, ◌-◌, Bool, true, false, List, [], ◌∷◌, ◌++◌, leb, ltb, ℤ, pos, length, take, if◌then◌else◌, Ok, Err}
 use Rattle.stab.specs.Basic.{◌and◌, nat, ◌otherwise◌}
 use Rattle.stab.specs.Node.{Tableau, node_at, node, set}
 use Rattle.stab.specs.Rule.{children_held}
 use Rattle.stab.specs.Check.{whole_unless, at_unless, set_refusal, parent_refusal, step_refusal, refusal, held_mode, link_count, check}
 use Rattle.stab.specs.Text.{padded}
-use Rattle.stab.specs.Answer.{Numbers, refusal_number, place_number, one_number}
-use Rattle.stab.specs.declared.Place.{Place}
+use Rattle.stab.specs.Answer.{Numbers, verdict_numbers, one_number}
+use Rattle.stab.specs.Finding.{accept, refuse, no_refusal, Verdict, Place, Finding}
 use Rattle.stab.specs.declared.Refusal.{Refusal}
 use Rattle.stab.specs.declared.Refusal.TheVariants.{Children, Room, NoRow}
-use Rattle.stab.specs.declared.Verdict.{Verdict}
-use Rattle.stab.specs.declared.Verdict.TheVariants.{Accepted, Refused}
-use Rattle.stab.specs.declared.Finding.{Finding}
-use Rattle.stab.specs.declared.Finding.TheVariants.{Nothing, Found}
 use Rattle.growing.specs.declared.Growth.{Growth}
-use Rattle.growing.specs.declared.Growth.TheVariants.{Held, Refused as GrowthRefused}
 
 -- The state is a Tableau: the formula rows, and the lent tables of nodes and members with how many rows and members are held.
 
@@ -71,7 +66,7 @@ room_for T w =
 -- "a child beyond the number that its parent's rule has gives 17, here before 11 and with the added row as its place": for row j, in
 -- the state that holds it; the first row has no parent
 unfoldable pub beyond_refusal : Tableau → ℕ → Finding
-beyond_refusal T zero = Nothing
+beyond_refusal T zero = no_refusal
 beyond_refusal T (suc i) = at_unless (children_held T (nat (node T (suc i)).up)) Children (suc i)
 
 -- "An added row passes 9 to 16": row j, in the state that holds it
@@ -111,22 +106,29 @@ begin_refusal T = refusal held_mode (begun T)
 
 -- "closed" is shown exactly when the whole check accepts the rows held
 unfoldable pub is_accepted : Verdict → Bool
-is_accepted (Accepted nodes links) = true
-is_accepted (Refused why p) = false
+is_accepted (Ok c) = true
+is_accepted (Err r) = false
 
 unfoldable pub closed : Tableau → Bool
 closed T = is_accepted (check T)
 
 -- "An accepted one gives place 0 and the node and link counts of the rows held"; "closed" speaks of the rows held after every call,
 -- "refused ones included". A refused call leaves the old rows, an accepted one the new.
+-- rows that are held, or a call that is turned away; either way whether the rows that it leaves are closed
+abbrev pub held_rows : ℕ → ℕ → Bool → Growth
+held_rows nodes links shown = record { verdict = accept nodes links; closed = shown }
+
+abbrev pub refused_call : Refusal → Place → Bool → Growth
+refused_call why p shown = record { verdict = refuse why p; closed = shown }
+
 unfoldable pub growth_by : Finding → Tableau → Tableau → Growth
-growth_by Nothing old new = Held new.node_rows (link_count new) (closed new)
-growth_by (Found why p) old new = GrowthRefused why p (closed old)
+growth_by (Ok u) old new = held_rows new.node_rows (link_count new) (closed new)
+growth_by (Err r) old new = refused_call r.why r.place (closed old)
 
 -- "A refused call leaves the tableau as it stood"
 unfoldable pub left_by : Finding → Tableau → Tableau → Tableau
-left_by Nothing old new = new
-left_by (Found why p) old new = old
+left_by (Ok u) old new = new
+left_by (Err r) old new = old
 
 pub data Call : Type 0 where
   add : NodeRow → Call
@@ -150,7 +152,7 @@ after T call = left_by (call_refusal T call) T (changed T call)
 
 -- a call that is refused for this, once the rows held have passed
 unfoldable pub turned_away : Tableau → Refusal → Place → Growth
-turned_away T why p = growth_by (refusal held_mode T otherwise Found why p) T T
+turned_away T why p = growth_by (refusal held_mode T otherwise refuse why p) T T
 
 -- the state after a row was tried at the end, and kept there or not
 unfoldable pub tried : Bool → Tableau → NodeRow → Tableau
@@ -196,8 +198,8 @@ done (add w) ws = ws ++ w ∷ []
 done take_back ws = without_last ws
 
 unfoldable pub done_if : Finding → Call → List NodeRow → List NodeRow
-done_if Nothing call ws = done call ws
-done_if (Found why p) call ws = ws
+done_if (Ok u) call ws = done call ws
+done_if (Err r) call ws = ws
 
 -- what the accepted ones of some calls leave of these rows
 unfoldable pub leave : Tableau → List Call → List NodeRow → List NodeRow
@@ -208,13 +210,11 @@ leave T (call ∷ calls) ws = leave (after T call) calls (done_if (call_refusal 
 
 -- as a check's
 unfoldable pub growth_numbers : Growth → Numbers
-growth_numbers (Held nodes links shown) = record { answer = 0; place = pos 0; nodes = nodes; links = links }
-growth_numbers (GrowthRefused why p shown) = record { answer = refusal_number why; place = place_number p; nodes = 0; links = 0 }
+growth_numbers g = verdict_numbers g.verdict
 
 -- 1 for "closed", else 0
 unfoldable pub shown_number : Growth → ℕ
-shown_number (Held nodes links shown) = if shown then 1 else 0
-shown_number (GrowthRefused why p shown) = if shown then 1 else 0
+shown_number g = if g.closed then 1 else 0
 
 unfoldable pub growth_packed : Growth → ℕ
 growth_packed r = one_number (growth_numbers r)

@@ -2,21 +2,14 @@
 // what a call does.
 #![tactic(auto)]
 
-use stab::{Place, Refusal};
+use stab::Verdict;
 
-// The rows are held, with the numbers of nodes and links; or the call is turned away. Either way: whether the rows that it leaves are closed.
+// The verdict on a call: the rows are held, with the numbers of nodes and links, or it is turned away; and whether the rows that it leaves are
+// closed.
 #[derive(Clone, Copy)]
-pub enum Growth {
-    Held {
-        nodes: usize,
-        links: usize,
-        closed: bool,
-    },
-    Refused {
-        why: Refusal,
-        place: Place,
-        closed: bool,
-    },
+pub struct Growth {
+    pub verdict: Verdict,
+    pub closed: bool,
 }
 
 // What a call gives: its answer, and how many rows and members are held after it.

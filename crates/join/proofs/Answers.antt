@@ -15,19 +15,17 @@ use Rattle.stab.specs.Node.{Tableau, rows, row_count}
 use Rattle.stab.specs.Check.{whole_unless, at_unless, refusal, present_mode}
 use Rattle.stab.specs.Keeps.{KeepsOlder}
 use Rattle.stab.specs.Text.{padded}
-use Rattle.stab.specs.declared.Place.{Place}
-use Rattle.stab.specs.declared.Place.TheVariants.{Whole, At}
+use Rattle.std.specs.Prelude.{None, Some, Ok, Err, Result}
+use Rattle.stab.specs.Finding.{no_refusal, refuse, Place, Finding}
+use Rattle.stab.specs.declared.Refused.{Refused}
+use Rattle.stab.specs.declared.Header.{Header}
 use Rattle.stab.specs.declared.Refusal.{Refusal}
 use Rattle.stab.specs.declared.Refusal.TheVariants.{TableTooShort, Leasts, Joint}
-use Rattle.stab.specs.declared.Finding.{Finding}
-use Rattle.stab.specs.declared.Finding.TheVariants.{Nothing, Found}
 use Rattle.stab.proofs.Bools.{decide, and_left, and_right, and_both, and_first_true, and_first_false, and_second_false, nothing_unless, found_unless, otherwise_nothing, otherwise_found, nothing≢found}
 use Rattle.stab.proofs.Formed.{formed_tests}
 use Rattle.stab.proofs.Tests.{below_tests}
 use Rattle.tidied.specs.Tidied.{folding_of, tidied}
 use Rattle.joint.specs.Joint.{schema_count, or_row, joint_schema, untidied, joint, joint_fits, Rooms, join_refusal, joined_by, join, joined_table, joined_schema, joined_proof, joined_nodes, joined_members}
-use Rattle.joint.specs.declared.Joined.{Joined}
-use Rattle.joint.specs.declared.Joined.TheVariants.{Record, Refused as JoinRefused}
 use Rattle.jointrows.specs.Kept.{Joinable}
 use Rattle.jointrows.proofs.Rows.{few_stay}
 use Rattle.jointrefusal.specs.Before.{fits_before, found_before}
@@ -101,12 +99,12 @@ module _ (A B : Tableau) where
 -- ---- what is found
 
 -- what a later part finds is found by what takes its place
-otherwise_carries : (x y z : Finding) (why : Refusal) (p : Place) → (y ≡ Found why p → z ≡ Found why p) → (x otherwise y) ≡ Found why p → (x otherwise z) ≡ Found why p
+otherwise_carries : (x y z : Finding) (why : Refusal) (p : Place) → (y ≡ refuse why p → z ≡ refuse why p) → (x otherwise y) ≡ refuse why p → (x otherwise z) ≡ refuse why p
 unfolding ◌otherwise◌
-otherwise_carries Nothing y z why p f h = f h
-otherwise_carries (Found w q) y z why p f h = h
+otherwise_carries (Ok u) y z why p f h = f h
+otherwise_carries (Err r) y z why p f h = h
 
-limit_carries : (A B : Tableau) (why : Refusal) (p : Place) → whole_unless (fits_before A B) Joint ≡ Found why p → whole_unless (joint_fits (joint A B)) Joint ≡ Found why p
+limit_carries : (A B : Tableau) (why : Refusal) (p : Place) → whole_unless (fits_before A B) Joint ≡ refuse why p → whole_unless (joint_fits (joint A B)) Joint ≡ refuse why p
 unfolding whole_unless
 limit_carries A B why p h =
     ⊎_elim
@@ -115,18 +113,18 @@ limit_carries A B why p h =
     (decide (fits_before A B))
 
 module _ (R : Rooms) (A B : Tableau) where
-  pub short_found : roomy R ≡ false → join_refusal R A B ≡ Found TableTooShort (At 0)
+  pub short_found : roomy R ≡ false → join_refusal R A B ≡ refuse TableTooShort (Some 0)
   unfolding join_refusal at_unless
   short_found h = otherwise_found _ _ (found_unless _ _ _ h)
 
-  pub found_before_lem : roomy R ≡ true → (why : Refusal) (p : Place) → found_before A B ≡ Found why p → join_refusal R A B ≡ Found why p
+  pub found_before_lem : roomy R ≡ true → (why : Refusal) (p : Place) → found_before A B ≡ refuse why p → join_refusal R A B ≡ refuse why p
   unfolding join_refusal at_unless found_before
   found_before_lem f why p h =
       otherwise_nothing _ _ (nothing_unless _ _ _ f)
       ∙ otherwise_carries (refusal present_mode A) _ _ why p
       (otherwise_carries (refusal present_mode B) _ _ why p (otherwise_carries (whole_unless (eq_z A.least B.least) Leasts) _ _ why p (limit_carries A B why p))) h
 
-  limit_left : roomy R ≡ true → found_before A B ≡ Nothing → join_refusal R A B ≡ whole_unless (joint_fits (joint A B)) Joint
+  limit_left : roomy R ≡ true → found_before A B ≡ no_refusal → join_refusal R A B ≡ whole_unless (joint_fits (joint A B)) Joint
   unfolding join_refusal at_unless
   limit_left f h =
       otherwise_nothing _ _ (nothing_unless _ _ _ f)
@@ -136,7 +134,7 @@ module _ (R : Rooms) (A B : Tableau) where
 
   -- ---- the answer and the tables
 
-  module _ {r : Joined} {schema proof nodes members : List ℤ} where
+  module _ {r : Result Header Refused} {schema proof nodes members : List ℤ} where
     answered : {found : Finding} → join_refusal R A B ≡ found → r ≡ joined_by found (joint A B) → schema ≡ joined_table found R.schema (joint A B).schema → proof ≡ joined_table found R.proof (joint A B).proof → nodes ≡ joined_table found R.nodes (joint A B).nodes → members ≡ joined_table found R.members (joint A B).members → Answers R A B r schema proof nodes members
     unfolding join joined_schema joined_proof joined_nodes joined_members
     answered e a b c d f = record {
@@ -147,17 +145,17 @@ module _ (R : Rooms) (A B : Tableau) where
       member_table = f ∙ sym (ap (λ (o : Finding). joined_table o R.members (joint A B).members) e);
     }
 
-    pub refused_by : {why : Refusal} {p : Place} → join_refusal R A B ≡ Found why p → r ≡ JoinRefused why p → schema ≡ padded (pos 0) R.schema [] → proof ≡ padded (pos 0) R.proof [] → nodes ≡ padded (pos 0) R.nodes [] → members ≡ padded (pos 0) R.members [] → Answers R A B r schema proof nodes members
+    pub refused_by : {why : Refusal} {p : Place} → join_refusal R A B ≡ refuse why p → r ≡ refuse why p → schema ≡ padded (pos 0) R.schema [] → proof ≡ padded (pos 0) R.proof [] → nodes ≡ padded (pos 0) R.nodes [] → members ≡ padded (pos 0) R.members [] → Answers R A B r schema proof nodes members
     unfolding joined_by joined_table
     refused_by e a b c d f = answered e a b c d f
 
     -- 29
-    pub too_large : roomy R ≡ true → found_before A B ≡ Nothing → joint_fits (joint A B) ≡ false → r ≡ JoinRefused Joint Whole → schema ≡ padded (pos 0) R.schema [] → proof ≡ padded (pos 0) R.proof [] → nodes ≡ padded (pos 0) R.nodes [] → members ≡ padded (pos 0) R.members [] → Answers R A B r schema proof nodes members
+    pub too_large : roomy R ≡ true → found_before A B ≡ no_refusal → joint_fits (joint A B) ≡ false → r ≡ refuse Joint None → schema ≡ padded (pos 0) R.schema [] → proof ≡ padded (pos 0) R.proof [] → nodes ≡ padded (pos 0) R.nodes [] → members ≡ padded (pos 0) R.members [] → Answers R A B r schema proof nodes members
     unfolding whole_unless
     too_large f n h = refused_by (limit_left f n ∙ found_unless (joint_fits (joint A B)) _ _ h)
 
     -- the joined record
-    pub record_made : roomy R ≡ true → found_before A B ≡ Nothing → joint_fits (joint A B) ≡ true → r ≡ Record (pos (or_row A B)) A.least (schema_count A B) (folding_of (untidied A B)).count (suc (A.node_rows + B.node_rows)) (length (joint A B).members) → schema ≡ padded (pos 0) R.schema (joint_schema A B) → proof ≡ padded (pos 0) R.proof (folding_of (untidied A B)).table → nodes ≡ padded (pos 0) R.nodes (joint A B).nodes → members ≡ padded (pos 0) R.members (joint A B).members → Answers R A B r schema proof nodes members
+    pub record_made : roomy R ≡ true → found_before A B ≡ no_refusal → joint_fits (joint A B) ≡ true → r ≡ Ok (record { root = pos (or_row A B); least = A.least; schema_rows = schema_count A B; proof_rows = (folding_of (untidied A B)).count; node_rows = suc (A.node_rows + B.node_rows); member_count = length (joint A B).members }) → schema ≡ padded (pos 0) R.schema (joint_schema A B) → proof ≡ padded (pos 0) R.proof (folding_of (untidied A B)).table → nodes ≡ padded (pos 0) R.nodes (joint A B).nodes → members ≡ padded (pos 0) R.members (joint A B).members → Answers R A B r schema proof nodes members
     unfolding whole_unless joined_by joined_table joint tidied untidied
     record_made f n h a b c d e = answered (limit_left f n ∙ nothing_unless (joint_fits (joint A B)) _ _ h) a b c d e
 

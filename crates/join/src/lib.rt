@@ -1,19 +1,18 @@
 // One record for either fault: two accepted records joined into one, under the or of their roots.
 #![tactic(auto)]
 
-ghost use Rattle.std.specs.Prelude.{◌≡◌, true};
+ghost use Rattle.std.specs.Prelude.{◌≡◌, true, Ok};
 ghost use Rattle.stab.specs.Lent.{lent};
-ghost use Rattle.stab.specs.declared.Finding.TheVariants.{Nothing};
+ghost use Rattle.stab.specs.Finding.{no_refusal};
 ghost use Rattle.joint.specs.Joint.{joined_schema, joined_proof, joined_nodes, joined_members};
 ghost use Rattle.joint.specs.Joint.{join as join_of};
 ghost use Rattle.jointrefusal.specs.Before.{found_before};
 ghost use Rattle.join.specs.Kept.{rooms, roomy, Answers};
 
-use joint::Joined;
 use jointnodes::fill_nodes;
 use jointrefusal::{refusal, refuse};
 use jointrows::fill_rows;
-use stab::{Finding, Header, Place, Refusal};
+use stab::{Header, Refusal, Refused};
 
 // Two records in which nothing was found before: 29, or the joined record.
 fn filled(
@@ -31,9 +30,9 @@ fn filled(
     out_proof: &mut [i32],
     out_nodes: &mut [i32],
     out_members: &mut [i32],
-) -> Joined
+) -> Result<Header, Refused>
     requires out_members_value { roomy (rooms out_schema.old out_proof.old out_nodes.old out_members.old) ≡ true }
-    requires second_value { found_before (lent first_schema.now first_proof.now first_nodes.now first_members.now first) (lent second_schema.now second_proof.now second_nodes.now second_members.now second) ≡ Nothing }
+    requires second_value { found_before (lent first_schema.now first_proof.now first_nodes.now first_members.now first) (lent second_schema.now second_proof.now second_nodes.now second_members.now second) ≡ no_refusal }
     ensures { Answers (rooms out_schema.old out_proof.old out_nodes.old out_members.old) (lent first_schema.now first_proof.now first_nodes.now first_members.now first) (lent second_schema.now second_proof.now second_nodes.now second_members.now second) result out_schema.new out_proof.new out_nodes.new out_members.new }
 {
     let or_row = first.schema_rows + second.schema_rows;
@@ -53,8 +52,7 @@ fn filled(
     );
     if 1024 < or_row + 1 + rows {
         return refuse(
-            Refusal::Joint,
-            Place::Whole,
+            Refusal::Joint.whole(),
             out_schema,
             out_proof,
             out_nodes,
@@ -76,22 +74,21 @@ fn filled(
     );
     if 8192 < members {
         return refuse(
-            Refusal::Joint,
-            Place::Whole,
+            Refusal::Joint.whole(),
             out_schema,
             out_proof,
             out_nodes,
             out_members,
         );
     }
-    Joined::Record {
+    Ok(Header {
+        schema_rows: or_row + 1,
+        proof_rows: rows,
         root: signed::of(or_row),
         least: first.least,
-        schema: or_row + 1,
-        proof: rows,
-        nodes: 1 + first.node_rows + second.node_rows,
-        members,
-    }
+        node_rows: 1 + first.node_rows + second.node_rows,
+        member_count: members,
+    })
 }
 
 // The result tables have their full sizes.
@@ -122,7 +119,7 @@ pub fn join(
     out_proof: &mut [i32],
     out_nodes: &mut [i32],
     out_members: &mut [i32],
-) -> Joined
+) -> Result<Header, Refused>
     ensures answer { result ≡ join_of (rooms out_schema.old out_proof.old out_nodes.old out_members.old) (lent first_schema.now first_proof.now first_nodes.now first_members.now first) (lent second_schema.now second_proof.now second_nodes.now second_members.now second) }
     ensures schema { out_schema.new ≡ joined_schema (rooms out_schema.old out_proof.old out_nodes.old out_members.old) (lent first_schema.now first_proof.now first_nodes.now first_members.now first) (lent second_schema.now second_proof.now second_nodes.now second_members.now second) }
     ensures rows { out_proof.new ≡ joined_proof (rooms out_schema.old out_proof.old out_nodes.old out_members.old) (lent first_schema.now first_proof.now first_nodes.now first_members.now first) (lent second_schema.now second_proof.now second_nodes.now second_members.now second) }
@@ -131,8 +128,7 @@ pub fn join(
 {
     if !full(out_schema, out_proof, out_nodes, out_members) {
         return refuse(
-            Refusal::TableTooShort,
-            Place::At(0),
+            Refusal::TableTooShort.at(0),
             out_schema,
             out_proof,
             out_nodes,
@@ -151,10 +147,8 @@ pub fn join(
         second_members,
         second,
     ) {
-        Finding::Found { why, place } => {
-            refuse(why, place, out_schema, out_proof, out_nodes, out_members)
-        }
-        Finding::Nothing => {
+        Err(refused) => { refuse(refused, out_schema, out_proof, out_nodes, out_members) }
+        Ok(()) => {
             filled(
                 first_schema,
                 first_proof,

@@ -16,8 +16,8 @@ use Rattle.stab.specs.Rule.{of_rule}
 use Rattle.stab.specs.Text.{padded}
 use Rattle.stab.specs.Check.{whole_unless, check, is_link, link_count, refusal, present_mode}
 use Rattle.stab.specs.Keeps.{KeepsTables, Keeps}
-use Rattle.stab.specs.declared.Verdict.TheVariants.{Accepted}
-use Rattle.stab.specs.declared.Finding.TheVariants.{Nothing}
+use Rattle.std.specs.Prelude.{Ok}
+use Rattle.stab.specs.Finding.{accept, no_refusal}
 use Rattle.stab.proofs.Bools.{and_left, and_right, otherwise_first, otherwise_second, unless_nothing}
 use Rattle.stab.proofs.Whole.{eq_z_true}
 use Rattle.stab.proofs.Trees.{tree_agrees, below_nat}
@@ -158,7 +158,7 @@ module _ (A B : Tableau) where
 
 -- ---- the theorems
 
-module _ (R : Rooms) (A B : Tableau) (nA lA nB lB : ℕ) (first : check A ≡ Accepted nA lA) (second : check B ≡ Accepted nB lB) (join-made : join_refusal R A B ≡ Nothing) where
+module _ (R : Rooms) (A B : Tableau) (nA lA nB lB : ℕ) (first : check A ≡ accept nA lA) (second : check B ≡ accept nB lB) (join-made : join_refusal R A B ≡ no_refusal) where
   same_least_lem : A.least ≡ B.least
   unfolding join_refusal whole_unless
   same_least_lem =
@@ -179,7 +179,7 @@ module _ (R : Rooms) (A B : Tableau) (nA lA nB lB : ℕ) (first : check A ≡ Ac
   keeps_b = ((accepts_exactly B nB lB).0 second).0
 
   -- "If the present check accepts both inputs and the join isn't turned away, it accepts the join, and the join's links are the sum of theirs."
-  pub joint_accepted : check (joint A B) ≡ Accepted (suc (nA + nB)) (lA + lB)
+  pub joint_accepted : check (joint A B) ≡ accept (suc (nA + nB)) (lA + lB)
   unfolding joint tidied untidied
   joint_accepted =
       let a = (accepts_exactly A nA lA).0 first in
@@ -191,7 +191,7 @@ module _ (R : Rooms) (A B : Tableau) (nA lA nB lB : ℕ) (first : check A ≡ Ac
       )
 
   -- and it accepts what is left in lent memory, with those counts
-  pub joint_lent : check (in_tables (joint A B) (joined_schema R A B) (joined_proof R A B) (joined_nodes R A B) (joined_members R A B)) ≡ Accepted (suc (nA + nB)) (lA + lB)
+  pub joint_lent : check (in_tables (joint A B) (joined_schema R A B) (joined_proof R A B) (joined_nodes R A B) (joined_members R A B)) ≡ accept (suc (nA + nB)) (lA + lB)
   unfolding joined_schema joined_proof joined_nodes joined_members joined_table
   joint_lent =
       let k = (joint_keeps A B keeps_a keeps_b same_least_lem made_fits).older.tables in

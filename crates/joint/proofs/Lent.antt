@@ -8,16 +8,14 @@ use borrow.Author.Tests.{leb-true}
 use Rattle.stab.specs.Node.{Tableau, row_count}
 use Rattle.stab.specs.Check.{whole_unless, refusal, present_mode}
 use Rattle.stab.specs.Answer.{Numbers, refused_numbers, verdict_numbers, packed, answer_in, place_in, numbers_in, Packs}
-use Rattle.stab.specs.declared.Verdict.{Verdict}
-use Rattle.stab.specs.declared.Verdict.TheVariants.{Accepted, Refused}
-use Rattle.stab.specs.declared.Finding.{Finding}
-use Rattle.stab.specs.declared.Finding.TheVariants.{Nothing, Found}
+use Rattle.std.specs.Prelude.{Ok, Err, Result}
+use Rattle.stab.specs.Finding.{accept, refuse, no_refusal, Verdict, Finding}
+use Rattle.stab.specs.declared.Refused.{Refused}
+use Rattle.stab.specs.declared.Header.{Header}
 use Rattle.stab.proofs.Bools.{and_left, and_right, unless_nothing, otherwise_second}
 use Rattle.stab.proofs.Packed.{near_packs, read_back}
 use Rattle.stab.proofs.Exactness.Refusals.{FindsNear, of_whole, of_at, ◌or_else◌, of_refusal}
 use Rattle.joint.specs.Joint.{joint, joint_fits, Rooms, join_refusal, joined_by, join, joined_numbers, joined_packed, JoinedFits}
-use Rattle.joint.specs.declared.Joined.{Joined}
-use Rattle.joint.specs.declared.Joined.TheVariants.{Record, Refused as JoinRefused}
 
 -- ---- the place of what is found is within the limits
 
@@ -28,13 +26,13 @@ module _ (R : Rooms) (A B : Tableau) where
 
   -- ---- the counts of the joined record
 
-  fits : join_refusal R A B ≡ Nothing → joint_fits (joint A B) ≡ true
+  fits : join_refusal R A B ≡ no_refusal → joint_fits (joint A B) ≡ true
   unfolding join_refusal whole_unless
   fits e =
       unless_nothing (joint_fits (joint A B)) _ _
       (otherwise_second _ _ (otherwise_second (refusal present_mode B) _ (otherwise_second (refusal present_mode A) _ (otherwise_second _ _ e))))
 
-  counts : joint_fits (joint A B) ≡ true → JoinedFits (joined_by Nothing (joint A B))
+  counts : joint_fits (joint A B) ≡ true → JoinedFits (joined_by no_refusal (joint A B))
   unfolding joint_fits joined_by row_count
   counts h =
       let rest = and_right (leb ((joint A B).schema_rows + (joint A B).proof_rows) 1024) _ h in
@@ -46,8 +44,8 @@ module _ (R : Rooms) (A B : Tableau) where
   join_fits = by (join_refusal R A B) refl
     where
       by : (x : Finding) → join_refusal R A B ≡ x → JoinedFits (joined_by x (joint A B))
-      by Nothing e = counts (fits e)
-      by (Found why p) e = unfold joined_by in near_packs why p (found_near why p e)
+      by (Ok u) e = counts (fits e)
+      by (Err r) e = unfold joined_by in near_packs r.why r.place (found_near r.why r.place e)
 
 -- ---- answer and place are read back from the number
 
@@ -55,7 +53,7 @@ answer_back : (v : Verdict) → Packs v → (answer_in (packed v) ≡ (verdict_n
 unfolding numbers_in
 answer_back v h = (ap (λ (a : Numbers). a.answer) (read_back v h), ap (λ (a : Numbers). a.place) (read_back v h))
 
-pub joined_read_back : (r : Joined) → JoinedFits r → (answer_in (joined_packed r) ≡ (joined_numbers r).answer) × (place_in (joined_packed r) ≡ (joined_numbers r).place)
+pub joined_read_back : (r : Result Header Refused) → JoinedFits r → (answer_in (joined_packed r) ≡ (joined_numbers r).answer) × (place_in (joined_packed r) ≡ (joined_numbers r).place)
 unfolding joined_packed joined_numbers packed verdict_numbers refused_numbers
-joined_read_back (Record root least schema proof nodes members) h = answer_back (Accepted 0 0) (omega arith, omega arith)
-joined_read_back (JoinRefused why p) h = answer_back (Refused why p) h
+joined_read_back (Ok c) h = answer_back (accept 0 0) (omega arith, omega arith)
+joined_read_back (Err r) h = answer_back (Err r) h

@@ -1,5 +1,5 @@
 -- 02, No. 11: one record for either fault.
-use Rattle.std.specs.Prelude.{ℕ, zero, suc, ◌+◌, ◌-◌, ◌≤◌, Bool, List, [], ◌∷◌, ◌++◌, leb, ltb, ℤ, pos, neg_ℤ, ◌+ℤ◌, take, if◌then◌else◌}
+use Rattle.std.specs.Prelude.{ℕ, zero, suc, ◌+◌, ◌-◌, ◌≤◌, Bool, List, [], ◌∷◌, ◌++◌, leb, ltb, ℤ, pos, neg_ℤ, ◌+ℤ◌, take, if◌then◌else◌, Err, Ok, Result}
 use Rattle.std.specs.Int.Signed.{le_z}
 use Rattle.stab.specs.Basic.{◌and◌, eq_z, nat, ◌otherwise◌}
 use Rattle.stab.specs.Formula.{Row, row_at, small_enough}
@@ -8,12 +8,10 @@ use Rattle.stab.specs.Check.{whole_unless, at_unless, refusal, present_mode}
 use Rattle.stab.specs.Text.{padded}
 use Rattle.stab.specs.Answer.{refusal_number, place_number, one_number, Packs}
 use Rattle.stab.specs.declared.Refusal.TheVariants.{TableTooShort, Leasts, Joint}
-use Rattle.stab.specs.declared.Verdict.TheVariants.{Refused}
-use Rattle.stab.specs.declared.Finding.{Finding}
-use Rattle.stab.specs.declared.Finding.TheVariants.{Nothing, Found}
+use Rattle.stab.specs.Finding.{refuse, no_refusal, Finding}
+use Rattle.stab.specs.declared.Refused.{Refused}
+use Rattle.stab.specs.declared.Header.{Header}
 use Rattle.tidied.specs.Tidied.{through, renumbered, columns, tidied}
-use Rattle.joint.specs.declared.Joined.{Joined}
-use Rattle.joint.specs.declared.Joined.TheVariants.{Record, Refused as JoinRefused}
 
 -- ---- where rows stand in the joined record
 
@@ -134,17 +132,17 @@ join_refusal R A B =
     whole_unless (eq_z A.least B.least) Leasts otherwise
     whole_unless (joint_fits (joint A B)) Joint
 
-unfoldable pub joined_by : Finding → Tableau → Joined
-joined_by Nothing J = Record J.root J.least J.schema_rows J.proof_rows J.node_rows J.member_count
-joined_by (Found why p) J = JoinRefused why p
+unfoldable pub joined_by : Finding → Tableau → Result Header Refused
+joined_by (Ok u) J = Ok (record { root = J.root; least = J.least; schema_rows = J.schema_rows; proof_rows = J.proof_rows; node_rows = J.node_rows; member_count = J.member_count })
+joined_by (Err r) J = Err r
 
-unfoldable pub join : Rooms → Tableau → Tableau → Joined
+unfoldable pub join : Rooms → Tableau → Tableau → Result Header Refused
 join R A B = joined_by (join_refusal R A B) (joint A B)
 
 -- lent memory of n numbers: 0 past the last, all 0 after a refusal
 unfoldable pub joined_table : Finding → ℕ → List ℤ → List ℤ
-joined_table Nothing n xs = padded (pos 0) n xs
-joined_table (Found why p) n xs = padded (pos 0) n []
+joined_table (Ok u) n xs = padded (pos 0) n xs
+joined_table (Err r) n xs = padded (pos 0) n []
 
 -- the four lent tables
 unfoldable pub joined_schema : Rooms → Tableau → Tableau → List ℤ
@@ -171,23 +169,23 @@ pub record JoinedNumbers : Type 0 where
   pub nodes : ℕ
   pub members : ℕ
 
-unfoldable pub joined_numbers : Joined → JoinedNumbers
-joined_numbers (Record root least schema proof nodes members) =
-    record { answer = 0; place = pos 0; root = root; least = least; schema = schema; proof = proof; nodes = nodes; members = members }
-joined_numbers (JoinRefused why p) =
-    record { answer = refusal_number why; place = place_number p; root = pos 0; least = pos 0; schema = 0; proof = 0; nodes = 0; members = 0 }
+unfoldable pub joined_numbers : Result Header Refused → JoinedNumbers
+joined_numbers (Ok c) =
+    record { answer = 0; place = pos 0; root = c.root; least = c.least; schema = c.schema_rows; proof = c.proof_rows; nodes = c.node_rows; members = c.member_count }
+joined_numbers (Err r) =
+    record { answer = refusal_number r.why; place = place_number r.place; root = pos 0; least = pos 0; schema = 0; proof = 0; nodes = 0; members = 0 }
 
 -- the one number, without counts
-unfoldable pub joined_packed : Joined → ℕ
+unfoldable pub joined_packed : Result Header Refused → ℕ
 joined_packed r = let a = joined_numbers r in one_number (record { answer = a.answer; place = a.place; nodes = 0; links = 0 })
 
 -- the counts are within the limits, and a refusal's place fits
-abbrev pub JoinedFits : Joined → Type 0
-JoinedFits (Record root least schema proof nodes members) = (schema ≤ 1024) × (proof ≤ 1024) × (nodes ≤ 1024) × (members ≤ 8192)
-JoinedFits (JoinRefused why p) = Packs (Refused why p)
+abbrev pub JoinedFits : Result Header Refused → Type 0
+JoinedFits (Ok c) = (c.schema_rows ≤ 1024) × (c.proof_rows ≤ 1024) × (c.node_rows ≤ 1024) × (c.member_count ≤ 8192)
+JoinedFits (Err r) = Packs (Err r)
 
 -- the lent results
-unfoldable pub joined_results : Joined → List ℤ
+unfoldable pub joined_results : Result Header Refused → List ℤ
 joined_results r =
     let a = joined_numbers r in
     a.root ∷ a.least ∷ pos a.schema ∷ pos a.proof ∷ pos a.nodes ∷ pos a.members ∷ []

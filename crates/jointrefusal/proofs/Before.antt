@@ -12,7 +12,8 @@ use Rattle.stab.specs.Node.{Tableau, rows, row_count, formula, schema_of}
 use Rattle.stab.specs.Check.{whole_unless, schema_refusal, refusal, present_mode, link_count}
 use Rattle.stab.specs.Keeps.{Loose, Fixed, Outer, FormedAs, KeepsRow, KeepsOlder, Keeps}
 use Rattle.stab.specs.declared.Refusal.TheVariants.{Leasts}
-use Rattle.stab.specs.declared.Finding.TheVariants.{Nothing}
+use Rattle.std.specs.Prelude.{Ok}
+use Rattle.stab.specs.Finding.{no_refusal}
 use Rattle.stab.proofs.Bools.{and_left, and_right, unless_nothing, otherwise_first, otherwise_second}
 use Rattle.stab.proofs.Tests.{below_tests}
 use Rattle.stab.proofs.Trees.{below_nat, tree_agrees}
@@ -29,7 +30,7 @@ use Rattle.jointrefusal.specs.Before.{or_small, sizes_fit, fits_before, found_be
 -- ---- one record
 
 -- what is not refused is accepted, and keeps the rules
-pub keeps : (T : Tableau) → refusal present_mode T ≡ Nothing → Keeps T
+pub keeps : (T : Tableau) → refusal present_mode T ≡ no_refusal → Keeps T
 keeps T h = ((accepts_exactly T T.node_rows (link_count T)).0 (finds_accepted T h)).0
 
 pub few_rows : (A : Tableau) → KeepsOlder A → A.schema_rows + A.proof_rows ≤ 1024
@@ -67,7 +68,7 @@ module _ (A : Tableau) (K : KeepsOlder A) where
       tree_agrees (rows A) (row_at A.schema) (nat A.root) (λ a k. schema_row a (omega arith))
 
   -- the schema rows pass by themselves
-  pub schema_passes : schema_refusal (schema_of A) ≡ Nothing
+  pub schema_passes : schema_refusal (schema_of A) ≡ no_refusal
   unfolding schema_refusal row_count
   schema_passes =
       (formulas_clears (row_at A.schema) A.schema_rows A.schema_rows A.root A.least).1
@@ -96,16 +97,16 @@ sizes_are A B KA KB e =
 
 -- ---- nothing is found
 
-module _ (A B : Tableau) (h : found_before A B ≡ Nothing) where
-  pub first_passes : refusal present_mode A ≡ Nothing
+module _ (A B : Tableau) (h : found_before A B ≡ no_refusal) where
+  pub first_passes : refusal present_mode A ≡ no_refusal
   unfolding found_before
   first_passes = otherwise_first _ _ h
 
-  pub second_passes : refusal present_mode B ≡ Nothing
+  pub second_passes : refusal present_mode B ≡ no_refusal
   unfolding found_before
   second_passes = otherwise_first _ _ (otherwise_second (refusal present_mode A) _ h)
 
-  pub leasts_pass : whole_unless (eq_z A.least B.least) Leasts ≡ Nothing
+  pub leasts_pass : whole_unless (eq_z A.least B.least) Leasts ≡ no_refusal
   unfolding found_before
   leasts_pass = otherwise_first _ _ (otherwise_second (refusal present_mode B) _ (otherwise_second (refusal present_mode A) _ h))
 

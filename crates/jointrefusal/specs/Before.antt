@@ -5,7 +5,7 @@ use Rattle.stab.specs.Formula.{Formula, size, depth, join, disj, small_enough, s
 use Rattle.stab.specs.Node.{Tableau, rows, schema_of}
 use Rattle.stab.specs.Check.{whole_unless, refusal, present_mode}
 use Rattle.stab.specs.declared.Refusal.TheVariants.{Leasts, Joint}
-use Rattle.stab.specs.declared.Finding.{Finding}
+use Rattle.stab.specs.Finding.{Finding}
 use Rattle.joint.specs.Joint.{or_row, joint}
 
 -- the or of two formulas is within the limits

@@ -1,11 +1,11 @@
 // How much there is of two records, and how large the or of their roots is.
-ghost use Rattle.std.specs.Prelude.{◌≡◌, [], ◌*◌, ◌≤◌, max, length};
+ghost use Rattle.std.specs.Prelude.{◌≡◌, [], ◌*◌, ◌≤◌, max, length, Ok};
 ghost use Rattle.stab.specs.Formula as F;
 ghost use Rattle.stab.specs.Formula.{schema_formula};
 ghost use Rattle.stab.specs.Node.{schema_of};
 ghost use Rattle.stab.specs.Lent.{lent, lent_schema, schema_header};
 ghost use Rattle.stab.specs.Check.{schema_refusal};
-ghost use Rattle.stab.specs.declared.Finding.TheVariants.{Nothing};
+ghost use Rattle.stab.specs.Finding.{no_refusal};
 ghost use Rattle.jointrefusal.specs.Before.{or_small, sizes_fit};
 
 use formula::rows::{Facts, known};
@@ -21,13 +21,13 @@ fn larger(a: u32, b: u32) -> u32
 // The numbers of the root, where the schema rows are well formed and small.
 fn root_facts(schema: &[i32], h: SchemaHeader) -> Facts
     requires rows_bound { (h.rows ≤ 1024) × (4 * h.rows ≤ length schema.now) }
-    requires h_value { schema_refusal (lent_schema schema.now h) ≡ Nothing }
+    requires h_value { schema_refusal (lent_schema schema.now h) ≡ no_refusal }
     ensures size_value { result.size ≡ F.size (schema_formula (lent_schema schema.now h)) }
     ensures depth_value { result.depth ≡ F.depth (schema_formula (lent_schema schema.now h)) }
     ensures size_bound { (result.size ≤ 4096) × (result.depth ≤ 64) }
 {
     let mut facts = [0u32; 4096];
-    schema_formulas(schema, h, &mut facts);
+    let _ = schema_formulas(schema, h, &mut facts);
     known(&facts, signed::natural(h.root))
 }
 
@@ -40,8 +40,8 @@ fn or_fits(
 ) -> bool
     requires rows_bound { (first.rows ≤ 1024) × (4 * first.rows ≤ length first_schema.now) }
     requires rows_bound_2 { (second.rows ≤ 1024) × (4 * second.rows ≤ length second_schema.now) }
-    requires first_value { schema_refusal (lent_schema first_schema.now first) ≡ Nothing }
-    requires second_value { schema_refusal (lent_schema second_schema.now second) ≡ Nothing }
+    requires first_value { schema_refusal (lent_schema first_schema.now first) ≡ no_refusal }
+    requires second_value { schema_refusal (lent_schema second_schema.now second) ≡ no_refusal }
     ensures { result ≡ or_small (schema_formula (lent_schema first_schema.now first)) (schema_formula (lent_schema second_schema.now second)) }
 {
     let f = root_facts(first_schema, first);
@@ -67,8 +67,8 @@ fn schema_header(h: Header) -> SchemaHeader
 pub fn both_fit(first_schema: &[i32], first: Header, second_schema: &[i32], second: Header) -> bool
     requires schema_rows_bound { (first.schema_rows ≤ 1024) × (first.node_rows ≤ 1024) × (4 * first.schema_rows ≤ length first_schema.now) }
     requires schema_rows_bound_2 { (second.schema_rows ≤ 1024) × (second.node_rows ≤ 1024) × (4 * second.schema_rows ≤ length second_schema.now) }
-    requires first_value { schema_refusal (schema_of (lent first_schema.now [] [] [] first)) ≡ Nothing }
-    requires second_value { schema_refusal (schema_of (lent second_schema.now [] [] [] second)) ≡ Nothing }
+    requires first_value { schema_refusal (schema_of (lent first_schema.now [] [] [] first)) ≡ no_refusal }
+    requires second_value { schema_refusal (schema_of (lent second_schema.now [] [] [] second)) ≡ no_refusal }
     ensures { result ≡ sizes_fit (lent first_schema.now [] [] [] first) (lent second_schema.now [] [] [] second) }
 {
     if 1024 <= first.schema_rows + second.schema_rows {

@@ -13,13 +13,10 @@ use Rattle.stab.specs.Basic.{◌and◌, nat, below, ◌otherwise◌, scan}
 use Rattle.stab.specs.Formula.{Schema}
 use Rattle.stab.specs.Model.{Model, pair_refusal, model_refusal, satisfied, assignment}
 use Rattle.stab.specs.Check.{whole_unless, holds, root_fits, formulas_refusal, schema_refusal, verdict}
-use Rattle.stab.specs.declared.Place.{Place}
-use Rattle.stab.specs.declared.Place.TheVariants.{Whole}
+use Rattle.std.specs.Prelude.{None}
+use Rattle.stab.specs.Finding.{no_refusal, refuse, accept, Place, Finding}
 use Rattle.stab.specs.declared.Refusal.{Refusal}
 use Rattle.stab.specs.declared.Refusal.TheVariants.{TableTooShort}
-use Rattle.stab.specs.declared.Finding.{Finding}
-use Rattle.stab.specs.declared.Finding.TheVariants.{Nothing, Found}
-use Rattle.stab.specs.declared.Verdict.TheVariants.{Accepted, Refused}
 use Rattle.stab.proofs.Bools.{and_left, and_right, same_test, nothing_unless, unless_nothing, found_unless, otherwise_first, otherwise_second, otherwise_nothing, otherwise_found}
 use Rattle.stab.proofs.Findings.{otherwise_assoc}
 use Rattle.stab.proofs.Trees.{below_nat}
@@ -43,19 +40,19 @@ n_small least n h = leb-true (nat n) 9999 (sym (high_is 9999 n) ∙ and_right (l
 -- ---- refusals of the whole record
 
 module _ (ok : Bool) (why : Refusal) where
-  pub whole_none : ok ≡ true → whole_unless ok why ≡ Nothing
+  pub whole_none : ok ≡ true → whole_unless ok why ≡ no_refusal
   unfolding whole_unless
   whole_none h = nothing_unless ok _ _ h
 
-  whole_some : ok ≡ false → whole_unless ok why ≡ Found why Whole
+  whole_some : ok ≡ false → whole_unless ok why ≡ refuse why None
   unfolding whole_unless
   whole_some h = found_unless ok _ _ h
 
   -- the test fails, and its refusal is what is found
-  pub found_last : (r : Finding) → r ≡ Found why Whole → ok ≡ false → r ≡ whole_unless ok why
+  pub found_last : (r : Finding) → r ≡ refuse why None → ok ≡ false → r ≡ whole_unless ok why
   found_last r e h = e ∙ sym (whole_some h)
 
-  pub found_here : (rest : Finding) (r : Finding) → r ≡ Found why Whole → ok ≡ false → r ≡ (whole_unless ok why otherwise rest)
+  pub found_here : (rest : Finding) (r : Finding) → r ≡ refuse why None → ok ≡ false → r ≡ (whole_unless ok why otherwise rest)
   found_here rest r e h = e ∙ sym (otherwise_found (whole_unless ok why) rest (whole_some h))
 
   -- the test passes, and what is found is found later
@@ -64,7 +61,7 @@ module _ (ok : Bool) (why : Refusal) where
 
 -- ---- what passed
 
-pub passed_root : (S : Schema) → schema_refusal S ≡ Nothing → nat S.root < S.rows
+pub passed_root : (S : Schema) → schema_refusal S ≡ no_refusal → nat S.root < S.rows
 unfolding schema_refusal formulas_refusal whole_unless root_fits
 passed_root S h =
     below_nat S.rows S.root (and_left (below S.rows S.root) _ (unless_nothing (root_fits S.rows S.root S.least) _ _ (otherwise_first _ _ h)))
@@ -75,7 +72,7 @@ pub model_is : (M : Model) → model_refusal M ≡ (tables_refusal M.schema.tabl
 unfolding model_refusal tables_refusal truth_refusal satisfied assignment
 model_is M = sym (otherwise_assoc _ _ _)
 
-module _ (s k : ℕ) (schema pairs : List ℤ) (h : tables_refusal schema s pairs k ≡ Nothing) where
+module _ (s k : ℕ) (schema pairs : List ℤ) (h : tables_refusal schema s pairs k ≡ no_refusal) where
   tables_held : (holds schema 4 s and holds pairs 2 k) ≡ true
   unfolding tables_refusal whole_unless
   tables_held = unless_nothing _ _ _ (otherwise_first _ _ h)
@@ -95,10 +92,10 @@ module _ (s k : ℕ) (schema pairs : List ℤ) (h : tables_refusal schema s pair
   pairs_few = leb-true k 4096 (and_right (leb s 1024) _ tables_few)
 
 -- the verdict of what was found
-pub accepted_is : (x : Finding) (f : Finding) → f ≡ x → f ≡ Nothing → Accepted 0 0 ≡ verdict x (Accepted 0 0)
+pub accepted_is : (x : Finding) (f : Finding) → f ≡ x → f ≡ no_refusal → accept 0 0 ≡ verdict x (accept 0 0)
 unfolding verdict
-accepted_is x f e h = ap (λ (y : Finding). verdict y (Accepted 0 0)) (sym (h) ∙ e)
+accepted_is x f e h = ap (λ (y : Finding). verdict y (accept 0 0)) (sym (h) ∙ e)
 
-pub refused_is : (x : Finding) (f : Finding) (why : Refusal) (p : Place) → f ≡ x → f ≡ Found why p → Refused why p ≡ verdict x (Accepted 0 0)
+pub refused_is : (x : Finding) (f : Finding) (why : Refusal) (p : Place) → f ≡ x → f ≡ refuse why p → refuse why p ≡ verdict x (accept 0 0)
 unfolding verdict
-refused_is x f why p e h = ap (λ (y : Finding). verdict y (Accepted 0 0)) (sym (h) ∙ e)
+refused_is x f why p e h = ap (λ (y : Finding). verdict y (accept 0 0)) (sym (h) ∙ e)

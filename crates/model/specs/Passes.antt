@@ -7,7 +7,7 @@ use Rattle.stab.specs.Meaning.{truth}
 use Rattle.stab.specs.Model.{listed}
 use Rattle.stab.specs.Check.{whole_unless, holds}
 use Rattle.stab.specs.declared.Refusal.TheVariants.{TableTooShort, TooMany, Width, False}
-use Rattle.stab.specs.declared.Finding.{Finding}
+use Rattle.stab.specs.Finding.{Finding}
 use Rattle.formula.specs.Facts.{AllFormed}
 use Rattle.pairs.specs.Pairs.{Sorted}
 

@@ -11,10 +11,8 @@ use Rattle.stab.specs.Basic.{◌and◌, eq_z, within, nat, below, scan, unless, 
 use Rattle.stab.specs.Formula.{Row, row_at, Kind, constant, literal, junction, iteration, unknown, kind_of, Formula, part_if, part, decode, tree_n, tree, size, depth, is_outer, well_formed, small_enough}
 use Rattle.stab.specs.Check.{at_unless, whole_unless, row_refusal, root_fits, formula_refusal, formulas_refusal, schema_refusal}
 use Rattle.stab.specs.Lent.{lent_schema, schema_header}
-use Rattle.stab.specs.declared.Finding.{Finding}
+use Rattle.stab.specs.Finding.{refuse, no_refusal, Place, Finding}
 use Rattle.stab.specs.declared.Refusal.{Refusal}
-use Rattle.stab.specs.declared.Place.{Place}
-use Rattle.stab.specs.declared.Finding.TheVariants.{Found, Nothing}
 use Rattle.stab.proofs.Bools.{decide, and_left, and_both, nothing_unless, unless_nothing, otherwise_nothing, otherwise_first, otherwise_second, found≢nothing}
 use Rattle.stab.proofs.Scans.{scan_nothing, nothing_scan, all_use}
 use Rattle.stab.proofs.Trees.{below_of}
@@ -110,7 +108,7 @@ module _ (n : ℕ) (t : List ℤ) (a : 1 ≤ n) (b : n ≤ 3) where
   small_rows zero f = refl
   small_rows (suc m) f = and_both _ _ (small_rows m (λ r l. f r (omega arith))) (f m (omega arith))
 
-  pub passes_listed : RowsFit n t → passes ≡ Nothing → on_list n t ≡ true
+  pub passes_listed : RowsFit n t → passes ≡ no_refusal → on_list n t ≡ true
   unfolding schema_refusal formulas_refusal formula_refusal whole_unless row_refusal at_unless is_small on_list nat
   passes_listed f h =
       let rest = otherwise_second (unless (root_fits n (pos (n - 1)) (pos 0)) _ _) _ h in
@@ -123,7 +121,7 @@ module _ (n : ℕ) (t : List ℤ) (a : 1 ≤ n) (b : n ≤ 3) where
       and_both (well_formed (row_at t) r) _ (unless_nothing (well_formed (row_at t) r) _ _ (otherwise_first _ _ (rows r l))) (fitting_small (row_at t r) r (omega arith) (f r l))))
       outer))
 
-  pub listed_passes : on_list n t ≡ true → passes ≡ Nothing
+  pub listed_passes : on_list n t ≡ true → passes ≡ no_refusal
   unfolding schema_refusal formulas_refusal formula_refusal whole_unless row_refusal at_unless is_small nat
   listed_passes h =
       otherwise_nothing _ _ (nothing_unless (root_fits n (pos (n - 1)) (pos 0)) _ _ root_fits_lem)
@@ -133,5 +131,5 @@ module _ (n : ℕ) (t : List ℤ) (a : 1 ≤ n) (b : n ≤ 3) where
       ∙ nothing_unless (small_enough (row_at t) r) _ _ (few_small (row_at t) r (omega arith))))
       ∙ nothing_unless (is_outer (tree (row_at t) (n - 1))) _ _ (listed_outer n t h)
 
-  pub fails_unlisted : (why : Refusal) (p : Place) → passes ≡ Found why p → on_list n t ≡ false
+  pub fails_unlisted : (why : Refusal) (p : Place) → passes ≡ refuse why p → on_list n t ≡ false
   fails_unlisted why p h = ⊎_elim (λ e. absurd (found≢nothing (sym h ∙ listed_passes e))) (λ e. e) (decide (on_list n t))

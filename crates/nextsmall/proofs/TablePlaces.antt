@@ -21,7 +21,7 @@ use Rattle.small.specs.Fits.{columns, RowsFit}
 use Rattle.small.proofs.Lists.{filtered_out}
 use Rattle.small.proofs.Order.{table_length, tables_ascend}
 use Rattle.small.proofs.Listed.{last_row, row_of_start, table_fits}
-use Rattle.small.proofs.Next.{skips, skips_itself, takes_first, after_front, before_behind}
+use Rattle.small.proofs.NextTable.{skips, skips_itself, takes_first, after_front, before_behind}
 use Rattle.nextsmall.specs.Places.{RowPlace, TablePlace, first_from}
 use Rattle.nextsmall.proofs.RowPlaces.{count_0, count_1, count_2}
 

@@ -4,29 +4,24 @@
 mod list;
 mod rows;
 
-ghost use Rattle.std.specs.Prelude.{◌≡◌, [], ◌*◌, ◌≤◌, pos, length};
+ghost use Rattle.std.specs.Prelude.{◌≡◌, [], ◌*◌, ◌≤◌, pos, length, None, Err};
 ghost use Rattle.stab.specs.Text.{padded};
-ghost use Rattle.stab.specs.declared.Place.TheVariants.{Whole};
 ghost use Rattle.small.specs.Small.{next_small, next_small_table};
-ghost use Rattle.small.specs.declared.NextSmall.TheVariants.{Refused};
 
-use small::NextSmall;
-use stab::{Place, Refusal};
+use small::Next;
+use stab::{Refusal, Refused};
 
 // A refusal, which leaves all 0.
-fn refuse(why: Refusal, table: &mut [i32]) -> NextSmall
-    ensures value { result ≡ Refused why Whole }
+fn refuse(why: Refusal, table: &mut [i32]) -> Result<Next, Refused>
+    ensures value { result ≡ Err (record { why = why; place = None }) }
     ensures table_after { table.new ≡ padded (pos 0) (length table.old) [] }
 {
     signed::clear(table, 0);
-    NextSmall::Refused {
-        why,
-        place: Place::Whole,
-    }
+    Err(why.whole())
 }
 
 // The table after one of 1 to 3 rows.
-fn after(table: &[i32], rows: usize, next: &mut [i32]) -> NextSmall
+fn after(table: &[i32], rows: usize, next: &mut [i32]) -> Result<Next, Refused>
     requires { (1 ≤ rows) × (rows ≤ 3) × (4 * rows ≤ length table.now) × (4 * rows ≤ length next.old) }
     ensures value { result ≡ next_small rows table.now (length next.old) }
     ensures next_after { next.new ≡ next_small_table rows table.now (length next.old) }
@@ -40,15 +35,15 @@ fn after(table: &[i32], rows: usize, next: &mut [i32]) -> NextSmall
     }
     if list::first(rows, i + 1, next) {
         signed::clear(next, 4 * rows);
-        return NextSmall::Table;
+        return Ok(Next::Table);
     }
     signed::clear(next, 0);
-    NextSmall::Last
+    Ok(Next::Last)
 }
 
 // The next table on the list of small schemata into a lent table, or that the given one is the last, or a refusal. Tables are tried from
 // the given one upward, so that the cost is a step for each row that a row can be and for each table passed over.
-pub fn next_small(table: &[i32], rows: usize, next: &mut [i32]) -> NextSmall
+pub fn next_small(table: &[i32], rows: usize, next: &mut [i32]) -> Result<Next, Refused>
     ensures answer { result ≡ next_small rows table.now (length next.old) }
     ensures table { next.new ≡ next_small_table rows table.now (length next.old) }
 {

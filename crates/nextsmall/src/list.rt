@@ -6,7 +6,7 @@ ghost use Rattle.nextsmall.specs.Places.{as_row, TablePlace, FirstGiven};
 
 use crate::rows::{Columns, candidate, count, place as row_place};
 use formula_pass::schema_formulas;
-use stab::{Finding, SchemaHeader};
+use stab::SchemaHeader;
 
 // How many tables of n rows there are.
 pub fn total(n: usize) -> usize
@@ -84,10 +84,7 @@ pub fn on_list(table: &[i32], n: usize) -> bool
         root,
         least: 0,
     };
-    match schema_formulas(table, h, &mut facts) {
-        Finding::Nothing => true,
-        Finding::Found { why: _, place: _ } => false,
-    }
+    schema_formulas(table, h, &mut facts).is_ok()
 }
 
 // The first table from a place on that is on the list goes to the front of a lent table. Whether there is one.

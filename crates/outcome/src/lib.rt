@@ -5,20 +5,14 @@ ghost use Rattle.std.specs.Prelude.{◌≡◌};
 ghost use Rattle.stab.specs.Read.{read_proof, read_model};
 ghost use Rattle.outcome.specs.Outcomes.{verdict_of, check_outcome, check_after, model_outcome, model_after};
 
-use stab::{Header, ModelRead, Place, ProofRead, Refusal, SchemaHeader, SchemaRead, Verdict};
+use stab::{Header, Refused, SchemaHeader, Verdict};
 use text::read;
 
 // The first text or the second is refused in reading; or both are read, and the verdict stands beside the counts of their formula rows.
 #[derive(Clone, Copy)]
 pub enum Outcome {
-    First {
-        why: Refusal,
-        place: Place,
-    },
-    Second {
-        why: Refusal,
-        place: Place,
-    },
+    First(Refused),
+    Second(Refused),
     Judged {
         verdict: Verdict,
         schema_rows: usize,
@@ -31,8 +25,8 @@ pub fn verdict(o: Outcome) -> Verdict
     ensures { result ≡ verdict_of o }
 {
     match o {
-        Outcome::First { why, place } => Verdict::Refused { why, place },
-        Outcome::Second { why, place } => Verdict::Refused { why, place },
+        Outcome::First(refused) => Err(refused),
+        Outcome::Second(refused) => Err(refused),
         Outcome::Judged {
             verdict: v,
             schema_rows: _,
@@ -49,11 +43,7 @@ fn check_after(older: bool, table: &[i32], h: SchemaHeader, proof: &[u8]) -> Out
     let mut nodes = [0i32; 9216];
     let mut members = [0i32; 8192];
     match read::read_proof(proof, &mut more, &mut nodes, &mut members) {
-        ProofRead::Proof {
-            rows: p,
-            nodes: k,
-            members: m,
-        } => Outcome::Judged {
+        Ok(counts) => Outcome::Judged {
             verdict: tableau::check::check_as(
                 older,
                 table,
@@ -62,17 +52,17 @@ fn check_after(older: bool, table: &[i32], h: SchemaHeader, proof: &[u8]) -> Out
                 &members,
                 Header {
                     schema_rows: h.rows,
-                    proof_rows: p,
+                    proof_rows: counts.rows,
                     root: h.root,
                     least: h.least,
-                    node_rows: k,
-                    member_count: m,
+                    node_rows: counts.nodes,
+                    member_count: counts.members,
                 },
             ),
             schema_rows: h.rows,
-            proof_rows: p,
+            proof_rows: counts.rows,
         },
-        ProofRead::Refused { why, place } => Outcome::Second { why, place },
+        Err(refused) => Outcome::Second(refused),
     }
 }
 
@@ -82,10 +72,8 @@ pub fn check_outcome(older: bool, schema: &[u8], proof: &[u8]) -> Outcome
 {
     let mut table = [0i32; 4096];
     match read::read_schema(schema, &mut table) {
-        SchemaRead::Schema { root, least, rows } => {
-            check_after(older, &table, SchemaHeader { rows, root, least }, proof)
-        }
-        SchemaRead::Refused { why, place } => Outcome::First { why, place },
+        Ok(h) => check_after(older, &table, h, proof),
+        Err(refused) => Outcome::First(refused),
     }
 }
 
@@ -95,12 +83,12 @@ fn model_after(table: &[i32], h: SchemaHeader, model: &[u8]) -> Outcome
 {
     let mut pairs = [0i32; 8192];
     match read::read_model(model, &mut pairs) {
-        ModelRead::Model { n, pairs: k } => Outcome::Judged {
-            verdict: model::check_model(table, h, n, &pairs, k),
+        Ok(m) => Outcome::Judged {
+            verdict: model::check_model(table, h, m.n, &pairs, m.pairs),
             schema_rows: h.rows,
             proof_rows: 0,
         },
-        ModelRead::Refused { why, place } => Outcome::Second { why, place },
+        Err(refused) => Outcome::Second(refused),
     }
 }
 
@@ -110,9 +98,7 @@ pub fn model_outcome(schema: &[u8], model: &[u8]) -> Outcome
 {
     let mut table = [0i32; 4096];
     match read::read_schema(schema, &mut table) {
-        SchemaRead::Schema { root, least, rows } => {
-            model_after(&table, SchemaHeader { rows, root, least }, model)
-        }
-        SchemaRead::Refused { why, place } => Outcome::First { why, place },
+        Ok(h) => model_after(&table, h, model),
+        Err(refused) => Outcome::First(refused),
     }
 }

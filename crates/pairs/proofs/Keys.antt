@@ -1,5 +1,5 @@
 -- The order of pairs in range is the order of their keys.
-use Rattle.std.specs.Prelude.{if◌then◌else◌}
+use Rattle.std.specs.Prelude.{if◌then◌else◌, Some}
 use Prim.Native.Nat.{ℕ, zero, suc, ◌+◌, ◌-◌, ◌*◌, ◌^◌, ◌<◌, ◌≤◌}
 use native.Mathlib.Omega.{arith}
 use native.Mathlib.Numerals.{add-one, sub-one}
@@ -14,9 +14,8 @@ use borrow.Author.Tests.{ltb-true, ltb-false, lt-ltb, le-ltb, eqb-true, eq-eqb, 
 use Rattle.stab.specs.Basic.{◌and◌, eq_z, nat, within, count, scan}
 use Rattle.stab.specs.Model.{pair_symbol, pair_index, pair_in_range, pair_before, pair_follows, pair_refusal, is_pair, listed}
 use Rattle.stab.specs.Check.{at_unless}
-use Rattle.stab.specs.declared.Place.TheVariants.{At}
+use Rattle.stab.specs.Finding.{no_refusal, refuse}
 use Rattle.stab.specs.declared.Refusal.TheVariants.{Pair}
-use Rattle.stab.specs.declared.Finding.TheVariants.{Nothing, Found}
 use Rattle.stab.proofs.Bools.{and_left, and_right, and_both, or_cases, or_left, or_right, or_false, if_true, if_false, decide, same_test, nothing_unless, unless_nothing, found_unless, or_first_false}
 use Rattle.stab.proofs.Whole.{atom, num, ◌⊕◌, ◌⊖◌, lt_of, of_lt, of_not_lt, of_eq, plus_nat, nat_pos, eq_z_true, eq_z_of, minus_nat}
 use Rattle.stab.proofs.Scans.{below_suc, nothing_scan, scan_more, scan_found}
@@ -298,30 +297,30 @@ module _ (t : List ℤ) (n a x w : ℕ) (s : Sorted t n) (q : x + w ≤ 131072) 
 
 -- ---- the pass over the pairs
 
-pair_none : (t : List ℤ) (k : ℕ) → (pair_in_range t k and pair_follows t k) ≡ true → pair_refusal t k ≡ Nothing
+pair_none : (t : List ℤ) (k : ℕ) → (pair_in_range t k and pair_follows t k) ≡ true → pair_refusal t k ≡ no_refusal
 unfolding pair_refusal at_unless
 pair_none t k h = nothing_unless _ _ _ h
 
-none_pair : (t : List ℤ) (k : ℕ) → pair_refusal t k ≡ Nothing → (pair_in_range t k and pair_follows t k) ≡ true
+none_pair : (t : List ℤ) (k : ℕ) → pair_refusal t k ≡ no_refusal → (pair_in_range t k and pair_follows t k) ≡ true
 unfolding pair_refusal at_unless
 none_pair t k h = unless_nothing _ _ _ h
 
-pair_some : (t : List ℤ) (k : ℕ) → (pair_in_range t k and pair_follows t k) ≡ false → pair_refusal t k ≡ Found Pair (At k)
+pair_some : (t : List ℤ) (k : ℕ) → (pair_in_range t k and pair_follows t k) ≡ false → pair_refusal t k ≡ refuse Pair (Some k)
 unfolding pair_refusal at_unless
 pair_some t k h = found_unless _ _ _ h
 
 -- pairs that are not turned away are sorted
-pub scan_sorted : (t : List ℤ) (n : ℕ) → scan (pair_refusal t) n ≡ Nothing → Sorted t n
+pub scan_sorted : (t : List ℤ) (n : ℕ) → scan (pair_refusal t) n ≡ no_refusal → Sorted t n
 scan_sorted t n h =
     record {
       in_range = λ k p. and_left (pair_in_range t k) _ (none_pair t k (nothing_scan (pair_refusal t) n h k p));
       follows = λ k p. and_right (pair_in_range t k) _ (none_pair t k (nothing_scan (pair_refusal t) n h k p));
     }
 
-pub pairs_more : (t : List ℤ) (k : ℕ) → scan (pair_refusal t) k ≡ Nothing → (pair_in_range t k and pair_follows t k) ≡ true → scan (pair_refusal t) (k + 1) ≡ Nothing
+pub pairs_more : (t : List ℤ) (k : ℕ) → scan (pair_refusal t) k ≡ no_refusal → (pair_in_range t k and pair_follows t k) ≡ true → scan (pair_refusal t) (k + 1) ≡ no_refusal
 pairs_more t k h p = scan_more (pair_refusal t) k h (pair_none t k p)
 
-pub pairs_found : (t : List ℤ) (n k : ℕ) → k < n → scan (pair_refusal t) k ≡ Nothing → (pair_in_range t k and pair_follows t k) ≡ false → scan (pair_refusal t) n ≡ Found Pair (At k)
+pub pairs_found : (t : List ℤ) (n k : ℕ) → k < n → scan (pair_refusal t) k ≡ no_refusal → (pair_in_range t k and pair_follows t k) ≡ false → scan (pair_refusal t) n ≡ refuse Pair (Some k)
 pairs_found t n k l h p = scan_found (pair_refusal t) n k l h (pair_some t k p)
 
 -- one more pair in range

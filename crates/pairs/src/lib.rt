@@ -10,7 +10,7 @@ ghost use Rattle.pairs.specs.Index.{unbiased, Movable};
 ghost use Rattle.pairs.specs.Pairs.{AllInRange, Sorted, key_at, keys_below};
 ghost use Rattle.pairs.specs.Word.{word_at};
 
-use stab::{Finding, Place, Refusal};
+use stab::{Refusal, Refused};
 
 // What x stands for, and what stands at i in a lent table, added up.
 pub fn moved(x: usize, t: &[i32], i: usize) -> usize
@@ -110,19 +110,14 @@ fn pair_fits(pairs: &[i32], k: usize) -> bool
 }
 
 // The first of the pairs that is out of order or range.
-pub fn pairs_pass(pairs: &[i32], count: usize) -> Finding
+pub fn pairs_pass(pairs: &[i32], count: usize) -> Result<(), Refused>
     requires { count ≤ 4096 }
     ensures { result ≡ scan (pair_refusal pairs.now) count }
 {
-    let mut k = 0;
-    while k < count {
+    for k in 0..count {
         if !pair_fits(pairs, k) {
-            return Finding::Found {
-                why: Refusal::Pair,
-                place: Place::At(k),
-            };
+            return Err(Refusal::Pair.at(k));
         }
-        k += 1;
     }
-    Finding::Nothing
+    Ok(())
 }

@@ -12,11 +12,9 @@ use Rattle.stab.specs.Basic.{all_of}
 use Rattle.stab.specs.Text.{bytes, newline, heading_line, row_line, five_digits, padded}
 use Rattle.stab.specs.Answer.{refusal_number, place_number, Numbers, refused_numbers, verdict_numbers, Packs}
 use Rattle.stab.specs.Program.{printed}
-use Rattle.stab.specs.declared.Place.{Place}
-use Rattle.stab.specs.declared.Place.TheVariants.{Whole, At}
+use Rattle.std.specs.Prelude.{None, Some, Ok, Err}
+use Rattle.stab.specs.Finding.{refuse, Verdict, Place}
 use Rattle.stab.specs.declared.Refusal.{Refusal}
-use Rattle.stab.specs.declared.Verdict.{Verdict}
-use Rattle.stab.specs.declared.Verdict.TheVariants.{Accepted, Refused}
 use Rattle.stab.proofs.Bools.{and_both}
 use Rattle.stab.proofs.Packed.{number_range}
 use Rattle.digits.specs.Over.{over}
@@ -61,10 +59,10 @@ natural_fits : (v : ℕ) → v ≤ 99999 → five_digits (pos v) ≡ true
 unfolding five_digits
 natural_fits v h = le-leb v 99999 h
 
-place_fits_lem : (why : Refusal) (p : Place) → Packs (Refused why p) → five_digits (place_number p) ≡ true
+place_fits_lem : (why : Refusal) (p : Place) → Packs (refuse why p) → five_digits (place_number p) ≡ true
 unfolding five_digits
-place_fits_lem why Whole h = refl
-place_fits_lem why (At k) h = le-leb k 99999 (omega arith)
+place_fits_lem why None h = refl
+place_fits_lem why (Some k) h = le-leb k 99999 (omega arith)
 
 four : (a b c d : ℤ) → five_digits a ≡ true → five_digits b ≡ true → five_digits c ≡ true → five_digits d ≡ true → all_of five_digits (a ∷ b ∷ c ∷ d ∷ []) ≡ true
 unfolding all_of
@@ -72,11 +70,11 @@ four a b c d p q r s = and_both _ _ p (and_both _ _ q (and_both _ _ r (and_both 
 
 pub row_digits : (v : Verdict) → Packs v → all_of five_digits (number_row (verdict_numbers v)) ≡ true
 unfolding number_row verdict_numbers refused_numbers
-row_digits (Accepted n l) h =
-    four _ _ _ _ (natural_fits 0 (omega arith)) (natural_fits 0 (omega arith)) (natural_fits n (omega (arith, h.0))) (natural_fits l (omega (arith, h.1)))
-row_digits (Refused why p) h =
+row_digits (Ok c) h =
+    four _ _ _ _ (natural_fits 0 (omega arith)) (natural_fits 0 (omega arith)) (natural_fits c.nodes (omega (arith, h.0))) (natural_fits c.links (omega (arith, h.1)))
+row_digits (Err r) h =
     four _ _ _ _
-    (natural_fits (refusal_number why) (omega (arith, (number_range why).1)))
-    (place_fits_lem why p h)
+    (natural_fits (refusal_number r.why) (omega (arith, (number_range r.why).1)))
+    (place_fits_lem r.why r.place h)
     (natural_fits 0 (omega arith))
     (natural_fits 0 (omega arith))

@@ -8,18 +8,18 @@ ghost use Rattle.stab.specs.Answer.{place_code, place_number, verdict_numbers, P
 ghost use Rattle.stab.specs.Program.{printed};
 ghost use Rattle.printing.specs.Printing.{number_row, printed_row};
 
-use stab::{Place, Verdict};
+use stab::{Counts, Verdict};
 
 const HEADING: [u8; 24] = *b"answer place nodes links";
 
 // The number of a place.
-fn place_number(place: Place) -> i32
+fn place_number(place: Option<usize>) -> i32
     requires { place_code place ≤ 99999 }
     ensures { result ≡ place_number place }
 {
     match place {
-        Place::Whole => -1,
-        Place::At(k) => signed::of(k),
+        None => -1,
+        Some(k) => signed::of(k),
     }
 }
 
@@ -29,11 +29,11 @@ fn numbers(v: Verdict) -> [i32; 4]
     ensures { result ≡ number_row (verdict_numbers v) }
 {
     match v {
-        Verdict::Accepted { nodes, links } => [0, 0, signed::of(nodes), signed::of(links)],
-        Verdict::Refused { why, place } => {
+        Ok(Counts { nodes, links }) => [0, 0, signed::of(nodes), signed::of(links)],
+        Err(refused) => {
             [
-                signed::of(answer::number(why) as usize),
-                place_number(place),
+                signed::of(answer::number(refused.why) as usize),
+                place_number(refused.place),
                 0,
                 0,
             ]

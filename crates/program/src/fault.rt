@@ -7,7 +7,7 @@ ghost use Rattle.stab.specs.Program.{among as amongNumbers};
 ghost use Rattle.program.specs.Faults.{place_line, Few, checked_fault, modelled_fault};
 
 use outcome::Outcome;
-use stab::{Fault, Place, Refusal, Verdict};
+use stab::{Fault, Refusal, Verdict};
 
 // No line.
 fn none() -> Fault
@@ -99,12 +99,12 @@ fn model_points(why: Refusal, k: usize) -> Fault
 }
 
 // A place as a line: that of a refusal in reading.
-fn place_line(place: Place) -> usize
+fn place_line(place: Option<usize>) -> usize
     ensures { result ≡ place_line place }
 {
     match place {
-        Place::Whole => 0,
-        Place::At(k) => k,
+        None => 0,
+        Some(k) => k,
     }
 }
 
@@ -114,10 +114,10 @@ fn check_verdict(s: usize, p: usize, v: Verdict) -> Fault
     ensures { result ≡ verdict_fault (check_points s p) v }
 {
     match v {
-        Verdict::Accepted { nodes: _, links: _ } => none(),
-        Verdict::Refused { why, place } => match place {
-            Place::Whole => none(),
-            Place::At(k) => check_points(s, p, why, k),
+        Ok(_) => none(),
+        Err(refused) => match refused.place {
+            None => none(),
+            Some(k) => check_points(s, p, refused.why, k),
         },
     }
 }
@@ -128,10 +128,10 @@ fn model_verdict(v: Verdict) -> Fault
     ensures { result ≡ verdict_fault model_points v }
 {
     match v {
-        Verdict::Accepted { nodes: _, links: _ } => none(),
-        Verdict::Refused { why, place } => match place {
-            Place::Whole => none(),
-            Place::At(k) => model_points(why, k),
+        Ok(_) => none(),
+        Err(refused) => match refused.place {
+            None => none(),
+            Some(k) => model_points(refused.why, k),
         },
     }
 }
@@ -142,8 +142,8 @@ pub fn checked(o: Outcome) -> Fault
     ensures { result ≡ checked_fault o }
 {
     match o {
-        Outcome::First { why: _, place } => in_first(place_line(place)),
-        Outcome::Second { why: _, place } => in_second(place_line(place)),
+        Outcome::First(refused) => in_first(place_line(refused.place)),
+        Outcome::Second(refused) => in_second(place_line(refused.place)),
         Outcome::Judged {
             verdict,
             schema_rows,
@@ -158,8 +158,8 @@ pub fn modelled(o: Outcome) -> Fault
     ensures { result ≡ modelled_fault o }
 {
     match o {
-        Outcome::First { why: _, place } => in_first(place_line(place)),
-        Outcome::Second { why: _, place } => in_second(place_line(place)),
+        Outcome::First(refused) => in_first(place_line(refused.place)),
+        Outcome::Second(refused) => in_second(place_line(refused.place)),
         Outcome::Judged {
             verdict,
             schema_rows: _,

@@ -15,13 +15,11 @@ use Rattle.stab.specs.Text.{Line, lines, five_digits, text_limit, padded}
 use Rattle.stab.specs.Read.{Reading, stopped, require, read_text, read_schema_lines, read_proof_lines, read_model_lines, read_schema, read_proof, read_model, schema_answer, proof_answer, model_answer, schema_table, proof_table, node_table, member_table, pair_table, table_of}
 use Rattle.stab.specs.Check.{holds}
 use Rattle.stab.specs.Write.{Writing, wrote, refused, rows_writable, sets_writable, schema_text, proof_text, model_text, write_schema, write_proof, write_model, written, output}
-use Rattle.stab.specs.declared.Place.{Place}
+use Rattle.std.specs.Prelude.{Ok, Err}
+use Rattle.stab.specs.Finding.{Place}
+use Rattle.stab.specs.declared.Refused.{Refused}
 use Rattle.stab.specs.declared.Refusal.{Refusal}
 use Rattle.stab.specs.declared.Refusal.TheVariants.{TextTooLong, TableTooShort}
-use Rattle.stab.specs.declared.SchemaRead.TheVariants.{Schema, Refused as SchemaRefused}
-use Rattle.stab.specs.declared.ProofRead.TheVariants.{Proof, Refused as ProofRefused}
-use Rattle.stab.specs.declared.ModelRead.TheVariants.{Model, Refused as ModelRefused}
-use Rattle.stab.specs.declared.Written.TheVariants.{Text, Refused as WriteRefused}
 use Rattle.stab.proofs.Bools.{and_left, and_right}
 use Rattle.stab.proofs.Texts.{schema_back, proof_back, model_back}
 use Rattle.stab.proofs.Texts.Rows.{require_true}
@@ -32,24 +30,24 @@ use Rattle.round.proofs.Kept.{none_kept}
 -- ---- rows that were written, read from the front of the output
 
 -- what was written, and where it stands
-came : (n : ℕ) (w : Writing) (bytes : ℕ) → written w ≡ Text bytes → (text : List ℕ) × (w ≡ wrote text) × (take bytes (output n w) ≡ text)
+came : (n : ℕ) (w : Writing) (bytes : ℕ) → written w ≡ Ok bytes → (text : List ℕ) × (w ≡ wrote text) × (take bytes (output n w) ≡ text)
 unfolding written output padded
 came n (wrote text) bytes e =
-    let f : Text (length text) ≡ Text bytes = e in
+    let f : Ok (length text) ≡ Ok bytes = e in
     let size : length text ≡ bytes = cc in
     (text, refl, take_at text _ bytes size)
 came n (refused why place) bytes e = let z : ◌≡◌ {A = ℕ} 0 1 = cc in absurd (omega arith)
 
-bytes_within : (n : ℕ) (w : Writing) (bytes : ℕ) → written w ≡ Text bytes → bytes ≤ length (output n w)
+bytes_within : (n : ℕ) (w : Writing) (bytes : ℕ) → written w ≡ Ok bytes → bytes ≤ length (output n w)
 unfolding written output padded
 bytes_within n (wrote text) bytes e =
-    let f : Text (length text) ≡ Text bytes = e in
+    let f : Ok (length text) ≡ Ok bytes = e in
     let size : length text ≡ bytes = cc in
     omega (arith, length-append text (replicate (n - length text) 0))
 bytes_within n (refused why place) bytes e = let z : ◌≡◌ {A = ℕ} 0 1 = cc in absurd (omega arith)
 
 -- as the output holds it
-pub text_within : (n : ℕ) (w : Writing) (out : List ℕ) (bytes : ℕ) → out ≡ output n w → written w ≡ Text bytes → bytes ≤ length out
+pub text_within : (n : ℕ) (w : Writing) (out : List ℕ) (bytes : ℕ) → out ≡ output n w → written w ≡ Ok bytes → bytes ≤ length out
 text_within n w out bytes e h = subst (λ (l : List ℕ). bytes ≤ length l) (sym e) (bytes_within n w bytes h)
 
 -- a table under its full size
@@ -70,7 +68,7 @@ module _ (t : List ℤ) (rows : ℕ) (root least : ℤ) (n m : ℕ) where
   schema_read_lem text true e f =
       let w = passes (holds t 4 rows) (leb rows 1024) (five_digits root and five_digits least and rows_writable 4 rows t) n (schema_text t rows root least) text e in
       let b = schema_back t rows root least n m text e f in
-      (ap schema_answer b ∙ ap (Schema root least) (counted 4 rows t (omega arith) w.holding), ap (schema_table m) b)
+      (ap schema_answer b ∙ ap (λ (n : ℕ). Ok (record { root = root; least = least; rows = n })) (counted 4 rows t (omega arith) w.holding), ap (schema_table m) b)
   schema_read_lem text false e f =
       let w = passes (holds t 4 rows) (leb rows 1024) (five_digits root and five_digits least and rows_writable 4 rows t) n (schema_text t rows root least) text e in
       let b = not_full (leb 4096 m) read_schema_lines text (subst (λ (x : List ℕ). length x ≤ 65536) w.same w.short) f in
@@ -78,7 +76,7 @@ module _ (t : List ℤ) (rows : ℕ) (root least : ℤ) (n m : ℕ) where
 
   pub schema_rows_again_lem : (bytes : ℕ) →
       let w = write_schema t rows root least n in
-      written w ≡ Text bytes →
+      written w ≡ Ok bytes →
       let back = read_schema m (take bytes (output n w)) in
       (schema_answer back ≡ schema_again w (leb 4096 m) root least rows) × (schema_table m back ≡ table_again w (leb 4096 m) m (take (4 * rows) t))
   schema_rows_again_lem bytes h =
@@ -104,7 +102,7 @@ module _ (t : List ℤ) (rows : ℕ) (nodes : List ℤ) (k : ℕ) (members : Lis
       let y = counted 9 k nodes (omega arith) (and_left _ _ held) in
       let z = length-take-le c members (omega arith) in
       let g = proof_back t rows nodes k members c n a b d text e f in
-      (ap proof_answer g ∙ (λ i. Proof (x i) (y i) (z i)), ap (proof_table a) g, ap (node_table b) g, ap (member_table d) g)
+      (ap proof_answer g ∙ (λ i. Ok (record { rows = x i; nodes = y i; members = z i })), ap (proof_table a) g, ap (node_table b) g, ap (member_table d) g)
   proof_read_lem text false e f =
       let w = passes (holds t 4 rows and holds nodes 9 k and holds members 1 c) (leb rows 1024 and leb k 1024 and leb c 8192)
       (rows_writable 4 rows t and sets_writable nodes k members c) n (proof_text t rows nodes k members) text e in
@@ -113,7 +111,7 @@ module _ (t : List ℤ) (rows : ℕ) (nodes : List ℤ) (k : ℕ) (members : Lis
 
   pub proof_rows_again_lem : (bytes : ℕ) →
       let w = write_proof t rows nodes k members c n in
-      written w ≡ Text bytes →
+      written w ≡ Ok bytes →
       let back = read_proof a b d (take bytes (output n w)) in
       let full = leb 4096 a and leb 9216 b and leb 8192 d in
       (proof_answer back ≡ proof_again w full rows k c)
@@ -137,7 +135,7 @@ module _ (v : ℤ) (t : List ℤ) (rows n m : ℕ) where
   model_read_lem text true e f =
       let w = passes (holds t 2 rows) (leb rows 4096) (five_digits v and rows_writable 2 rows t) n (model_text v t rows) text e in
       let b = model_back v t rows n m text e f in
-      (ap model_answer b ∙ ap (Model v) (counted 2 rows t (omega arith) w.holding), ap (pair_table m) b)
+      (ap model_answer b ∙ ap (λ (k : ℕ). Ok (record { n = v; pairs = k })) (counted 2 rows t (omega arith) w.holding), ap (pair_table m) b)
   model_read_lem text false e f =
       let w = passes (holds t 2 rows) (leb rows 4096) (five_digits v and rows_writable 2 rows t) n (model_text v t rows) text e in
       let b = not_full (leb 8192 m) read_model_lines text (subst (λ (x : List ℕ). length x ≤ 65536) w.same w.short) f in
@@ -145,7 +143,7 @@ module _ (v : ℤ) (t : List ℤ) (rows n m : ℕ) where
 
   pub model_rows_again_lem : (bytes : ℕ) →
       let w = write_model v t rows n in
-      written w ≡ Text bytes →
+      written w ≡ Ok bytes →
       let back = read_model m (take bytes (output n w)) in
       (model_answer back ≡ model_again w (leb 8192 m) v rows) × (pair_table m back ≡ table_again w (leb 8192 m) m (take (2 * rows) t))
   model_rows_again_lem bytes h =
@@ -157,31 +155,36 @@ module _ (v : ℤ) (t : List ℤ) (rows n m : ℕ) where
 
 -- ---- rows that were not written
 
-pub output_unwritten : (w : Writing) (n : ℕ) (why : Refusal) (p : Place) → written w ≡ WriteRefused why p → (a : ℕ) → output n w ≡ kept 0 a (output n w)
+pub output_unwritten : (w : Writing) (n : ℕ) (e : Refused) → written w ≡ Err e → (a : ℕ) → output n w ≡ kept 0 a (output n w)
 unfolding written output
-output_unwritten (wrote text) n why p e a = cc
-output_unwritten (refused u q) n why p e a = none_kept 0 a n
+output_unwritten (wrote text) n e h a = cc
+output_unwritten (refused why place) n e h a = none_kept 0 a n
 
-pub table_unwritten : (w : Writing) (full : Bool) (m : ℕ) (numbers : List ℤ) (why : Refusal) (p : Place) → written w ≡ WriteRefused why p
+pub table_unwritten : (w : Writing) (full : Bool) (m : ℕ) (numbers : List ℤ) (e : Refused) → written w ≡ Err e
     → replicate m (pos 0) ≡ table_again w full m numbers
 unfolding written table_again
-table_unwritten (wrote text) full m numbers why p e = cc
-table_unwritten (refused u q) full m numbers why p e = sym (padded_none (pos 0) m)
+table_unwritten (wrote text) full m numbers e h = cc
+table_unwritten (refused why place) full m numbers e h = sym (padded_none (pos 0) m)
 
-pub schema_unwritten : (w : Writing) (full : Bool) (root least : ℤ) (rows : ℕ) (why : Refusal) (p : Place) → written w ≡ WriteRefused why p
-    → SchemaRefused why p ≡ schema_again w full root least rows
+-- the refusal that is answered
+refusal_is : (why : Refusal) (place : Place) (e : Refused) → written (refused why place) ≡ Err e → e ≡ record { why = why; place = place }
+unfolding written
+refusal_is why place e h = cc
+
+pub schema_unwritten : (w : Writing) (full : Bool) (root least : ℤ) (rows : ℕ) (e : Refused) → written w ≡ Err e
+    → Err e ≡ schema_again w full root least rows
 unfolding written schema_again
-schema_unwritten (wrote text) full root least rows why p e = cc
-schema_unwritten (refused u q) full root least rows why p e = let f : WriteRefused u q ≡ WriteRefused why p = e in cc
+schema_unwritten (wrote text) full root least rows e h = cc
+schema_unwritten (refused why place) full root least rows e h = ap Err (refusal_is why place e h)
 
-pub proof_unwritten : (w : Writing) (full : Bool) (rows nodes members : ℕ) (why : Refusal) (p : Place) → written w ≡ WriteRefused why p
-    → ProofRefused why p ≡ proof_again w full rows nodes members
+pub proof_unwritten : (w : Writing) (full : Bool) (rows nodes members : ℕ) (e : Refused) → written w ≡ Err e
+    → Err e ≡ proof_again w full rows nodes members
 unfolding written proof_again
-proof_unwritten (wrote text) full rows nodes members why p e = cc
-proof_unwritten (refused u q) full rows nodes members why p e = let f : WriteRefused u q ≡ WriteRefused why p = e in cc
+proof_unwritten (wrote text) full rows nodes members e h = cc
+proof_unwritten (refused why place) full rows nodes members e h = ap Err (refusal_is why place e h)
 
-pub model_unwritten : (w : Writing) (full : Bool) (n : ℤ) (pairs : ℕ) (why : Refusal) (p : Place) → written w ≡ WriteRefused why p
-    → ModelRefused why p ≡ model_again w full n pairs
+pub model_unwritten : (w : Writing) (full : Bool) (n : ℤ) (pairs : ℕ) (e : Refused) → written w ≡ Err e
+    → Err e ≡ model_again w full n pairs
 unfolding written model_again
-model_unwritten (wrote text) full n pairs why p e = cc
-model_unwritten (refused u q) full n pairs why p e = let f : WriteRefused u q ≡ WriteRefused why p = e in cc
+model_unwritten (wrote text) full n pairs e h = cc
+model_unwritten (refused why place) full n pairs e h = ap Err (refusal_is why place e h)

@@ -14,7 +14,8 @@ use Rattle.stab.specs.Formula.{formula_rows, tree, loose, is_outer}
 use Rattle.stab.specs.Node.{Tableau, rows, row_count, is_row, formula, is_outer_row, node, node_at, set, set_of, set_end, set_start, set_follows, set_fits}
 use Rattle.stab.specs.Check.{set_refusal, at_unless}
 use Rattle.stab.specs.declared.Refusal.TheVariants.{Set}
-use Rattle.stab.specs.declared.Finding.TheVariants.{Nothing}
+use Rattle.std.specs.Prelude.{Ok}
+use Rattle.stab.specs.Finding.{no_refusal}
 use Rattle.stab.proofs.Bools.{and_left, and_right, and_first_false, decide, unless_nothing}
 use Rattle.stab.proofs.Scans.{nothing_scan}
 use Rattle.stab.proofs.Trees.{below_nat}
@@ -62,7 +63,7 @@ module _ (T : Tableau) (facts : List ℕ) (n : ℕ) (rows_are : T.schema_rows + 
 -- ---- what a set that was not refused is
 
 module _ (T : Tableau) where
-  fits_of : (j : ℕ) → set_refusal T j ≡ Nothing → set_fits T j ≡ true
+  fits_of : (j : ℕ) → set_refusal T j ≡ no_refusal → set_fits T j ≡ true
   unfolding set_refusal at_unless
   fits_of j h = and_left _ _ (unless_nothing _ _ _ h)
 
@@ -121,7 +122,7 @@ module _ (T : Tableau) where
       }
 
   -- what the pass over the sets gives
-  pub sets_known : (k : ℕ) → scan (set_refusal T) k ≡ Nothing → AllSetsKnown T k
+  pub sets_known : (k : ℕ) → scan (set_refusal T) k ≡ no_refusal → AllSetsKnown T k
   sets_known k h j p = known_of j (λ i q. fits_of i (nothing_scan (set_refusal T) k h i (omega arith)))
 
 -- ---- the members of such a set

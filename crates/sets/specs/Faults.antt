@@ -2,7 +2,7 @@
 use Rattle.std.specs.Prelude.{ℕ, List, ℤ}
 use Rattle.stab.specs.Check.{at_unless}
 use Rattle.stab.specs.declared.Refusal.TheVariants.{Set, Parent}
-use Rattle.stab.specs.declared.Finding.{Finding}
+use Rattle.stab.specs.Finding.{Finding}
 use Rattle.branch.specs.Sets.{set_right}
 use Rattle.branch.specs.Parents.{parent_right}
 

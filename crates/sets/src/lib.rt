@@ -11,7 +11,7 @@ ghost use Rattle.sets.specs.Faults.{set_fault};
 
 use branch::node;
 use formula::rows::LOOSE;
-use stab::{Finding, Place, Refusal};
+use stab::{Refusal, Refused};
 
 // z is the number of an outer row.
 fn is_outer(facts: &[u32], n: usize, z: i32) -> bool
@@ -49,12 +49,10 @@ fn list_fits(facts: &[u32], n: usize, members: &[i32], start: usize, len: usize)
     requires { (4 * n ≤ length facts.now) × (start + len ≤ length members.now) }
     ensures { result ≡ list_fits facts.now n (take len (drop start members.now)) }
 {
-    let mut i: usize = 0;
-    while i < len {
+    for i in 0..len {
         if !member_fits(facts, n, members, start, len, i) {
             return false;
         }
-        i += 1;
     }
     true
 }
@@ -104,21 +102,23 @@ fn set_is_right(
 }
 
 // The first node whose set is not right, for n formula rows with their facts.
-pub fn sets(facts: &[u32], n: usize, nodes: &[i32], k: usize, members: &[i32], m: usize) -> Finding
+pub fn sets(
+    facts: &[u32],
+    n: usize,
+    nodes: &[i32],
+    k: usize,
+    members: &[i32],
+    m: usize,
+) -> Result<(), Refused>
     requires { (4 * n ≤ length facts.now) × (k ≤ 1024) × (m ≤ length members.now) }
     ensures { result ≡ scan (set_fault facts.now n nodes.now k members.now m) k }
 {
     let mut from: usize = 0;
-    let mut j: usize = 0;
-    while j < k {
+    for j in 0..k {
         if !set_is_right(facts, n, nodes, k, members, m, j, from) {
-            return Finding::Found {
-                why: Refusal::Set,
-                place: Place::At(j),
-            };
+            return Err(Refusal::Set.at(j));
         }
         from += node::natural_of(nodes, j, node::SIZE);
-        j += 1;
     }
-    Finding::Nothing
+    Ok(())
 }

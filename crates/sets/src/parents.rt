@@ -6,7 +6,7 @@ ghost use Rattle.branch.specs.Sets.{Within};
 ghost use Rattle.sets.specs.Faults.{parent_fault};
 
 use branch::node;
-use stab::{Finding, Place, Refusal};
+use stab::{Refusal, Refused};
 
 // Node 0 has -1, any other node a smaller number.
 fn up_fits(nodes: &[i32], j: usize) -> bool
@@ -48,19 +48,14 @@ fn parent_is_right(nodes: &[i32], members: &[i32], root: i32, j: usize) -> bool
 }
 
 // The first node with a wrong parent, or node 0 with a wrong set.
-pub fn parents(nodes: &[i32], k: usize, members: &[i32], root: i32) -> Finding
+pub fn parents(nodes: &[i32], k: usize, members: &[i32], root: i32) -> Result<(), Refused>
     requires { (k ≤ 1024) × ((j : ℕ) → j < k → Within nodes.now (length members.now) j) }
     ensures { result ≡ scan (parent_fault nodes.now members.now root) k }
 {
-    let mut j: usize = 0;
-    while j < k {
+    for j in 0..k {
         if !parent_is_right(nodes, members, root, j) {
-            return Finding::Found {
-                why: Refusal::Parent,
-                place: Place::At(j),
-            };
+            return Err(Refusal::Parent.at(j));
         }
-        j += 1;
     }
-    Finding::Nothing
+    Ok(())
 }

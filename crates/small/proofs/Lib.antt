@@ -2,6 +2,6 @@
 pub mod Lists
 pub mod Order
 pub mod Listed
-pub mod Next
+pub mod NextTable
 pub mod Packs
 pub mod Trials

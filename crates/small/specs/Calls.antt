@@ -1,10 +1,11 @@
 -- 02, No. 14: what is promised of the list and of repeated calls.
-use Rattle.std.specs.Prelude.{ℕ, ◌*◌, ◌≡◌, true, ℤ, take}
+use Rattle.std.specs.Prelude.{ℕ, ◌*◌, ◌≡◌, true, ℤ, take, Ok, Err, Result}
 use mathlib.Core.List.{List, [], ◌∷◌, Memᴰ}
 use Rattle.std.proofs.Math.Option.{Option, none, some}
 use Rattle.small.specs.Small.{table_before, next_small, next_small_table}
-use Rattle.small.specs.declared.NextSmall.{NextSmall}
-use Rattle.small.specs.declared.NextSmall.TheVariants.{Table, Last, Refused as NextRefused}
+use Rattle.small.specs.declared.Next.TheVariants.{Table, Last}
+use Rattle.stab.specs.declared.Refused.{Refused}
+use Rattle.small.specs.declared.Next.{Next}
 
 -- each table comes before every later one, so none stands twice
 abbrev pub Ascends : List (List ℤ) → Type 0
@@ -22,10 +23,10 @@ first_of [] = none
 first_of (u ∷ us) = some u
 
 -- what a call adds to those after it: the table u where one is given
-unfoldable pub given : NextSmall → List ℤ → List (List ℤ) → List (List ℤ)
-given Table u us = u ∷ us
-given Last u us = []
-given (NextRefused why p) u us = []
+unfoldable pub given : Result Next Refused → List ℤ → List (List ℤ) → List (List ℤ)
+given (Ok Table) u us = u ∷ us
+given (Ok Last) u us = []
+given (Err r) u us = []
 
 -- "From the first table .. repeated calls": the tables of n rows that calls give one after another, with a result table of each of these
 -- lengths in turn and from the result table of the call before, up to the first call that gives none

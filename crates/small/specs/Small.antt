@@ -1,5 +1,5 @@
 -- 02, No. 14: all small schemata.
-use Rattle.std.specs.Prelude.{ℕ, zero, suc, ◌*◌, ◌-◌, Bool, true, false, List, [], ◌∷◌, ◌++◌, leb, ℤ, pos, neg_ℤ, take, if◌then◌else◌}
+use Rattle.std.specs.Prelude.{ℕ, zero, suc, ◌*◌, ◌-◌, Bool, true, false, List, [], ◌∷◌, ◌++◌, leb, ℤ, pos, neg_ℤ, take, if◌then◌else◌, Ok, Err, Result}
 use Rattle.std.proofs.Math.Option.{Option, none, some}
 use Rattle.std.specs.Int.Signed.{lt_z}
 use Rattle.stab.specs.Basic.{◌and◌, ◌or◌, eq_z, within, ◌otherwise◌}
@@ -8,12 +8,10 @@ use Rattle.stab.specs.Check.{whole_unless, holds}
 use Rattle.stab.specs.Text.{padded}
 use Rattle.stab.specs.Answer.{refusal_number, place_number, one_number}
 use Rattle.stab.specs.declared.Refusal.TheVariants.{TableTooShort, NotListed}
-use Rattle.stab.specs.declared.Verdict.{Verdict}
-use Rattle.stab.specs.declared.Verdict.TheVariants.{Accepted, Refused}
-use Rattle.stab.specs.declared.Finding.{Finding}
-use Rattle.stab.specs.declared.Finding.TheVariants.{Found, Nothing}
-use Rattle.small.specs.declared.NextSmall.{NextSmall}
-use Rattle.small.specs.declared.NextSmall.TheVariants.{Table, Last, Refused as NextRefused}
+use Rattle.stab.specs.Finding.{accept, Verdict, Finding}
+use Rattle.small.specs.declared.Next.TheVariants.{Table, Last}
+use Rattle.stab.specs.declared.Refused.{Refused}
+use Rattle.small.specs.declared.Next.{Next}
 
 -- ---- which tables are on the list
 
@@ -116,15 +114,15 @@ next_refusal n t room =
     whole_unless (holds t 4 n and leb (4 * n) room) TableTooShort otherwise
     whole_unless (on_list n t) NotListed
 
-unfoldable pub next_or : Option (List ℤ) → NextSmall
-next_or none = Last
-next_or (some u) = Table
+unfoldable pub next_or : Option (List ℤ) → Result Next Refused
+next_or none = Ok Last
+next_or (some u) = Ok Table
 
-unfoldable pub next_by : Finding → Option (List ℤ) → NextSmall
-next_by Nothing next = next_or next
-next_by (Found why p) next = NextRefused why p
+unfoldable pub next_by : Finding → Option (List ℤ) → Result Next Refused
+next_by (Ok u) next = next_or next
+next_by (Err r) next = Err r
 
-unfoldable pub next_small : ℕ → List ℤ → ℕ → NextSmall
+unfoldable pub next_small : ℕ → List ℤ → ℕ → Result Next Refused
 next_small n t room = next_by (next_refusal n t room) (next_table n t)
 
 -- the lent result table: the next one, 0 past its rows; with "last" and after a refusal "a result table of 0s"
@@ -133,8 +131,8 @@ numbers_or none = []
 numbers_or (some u) = u
 
 unfoldable pub next_numbers : Finding → Option (List ℤ) → List ℤ
-next_numbers Nothing next = numbers_or next
-next_numbers (Found why p) next = []
+next_numbers (Ok u) next = numbers_or next
+next_numbers (Err r) next = []
 
 unfoldable pub next_small_table : ℕ → List ℤ → ℕ → List ℤ
 next_small_table n t room = padded (pos 0) room (next_numbers (next_refusal n t room) (next_table n t))
@@ -147,17 +145,17 @@ pub record NextNumbers : Type 0 where
   pub place : ℤ
   pub given : ℕ
 
-unfoldable pub next_small_numbers : NextSmall → NextNumbers
-next_small_numbers Table = record { answer = 0; place = pos 0; given = 1 }
-next_small_numbers Last = record { answer = 0; place = pos 0; given = 0 }
-next_small_numbers (NextRefused why p) = record { answer = refusal_number why; place = place_number p; given = 0 }
+unfoldable pub next_small_numbers : Result Next Refused → NextNumbers
+next_small_numbers (Ok Table) = record { answer = 0; place = pos 0; given = 1 }
+next_small_numbers (Ok Last) = record { answer = 0; place = pos 0; given = 0 }
+next_small_numbers (Err r) = record { answer = refusal_number r.why; place = place_number r.place; given = 0 }
 
 -- the one number
-unfoldable pub next_packed : NextSmall → ℕ
+unfoldable pub next_packed : Result Next Refused → ℕ
 next_packed r = let a = next_small_numbers r in one_number (record { answer = a.answer; place = a.place; nodes = a.given; links = 0 })
 
 -- the verdict with that number
-abbrev pub next_verdict : NextSmall → Verdict
-next_verdict Table = Accepted 1 0
-next_verdict Last = Accepted 0 0
-next_verdict (NextRefused why p) = Refused why p
+abbrev pub next_verdict : Result Next Refused → Verdict
+next_verdict (Ok Table) = accept 1 0
+next_verdict (Ok Last) = accept 0 0
+next_verdict (Err r) = Err r

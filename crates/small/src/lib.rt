@@ -1,12 +1,9 @@
 // All small schemata: the answer. What each case means in the paper's numbers is in specs/Small.antt, with the list.
 #![tactic(auto)]
 
-use stab::{Place, Refusal};
-
-// The next table on the list, or that the given one is the last, or why it was turned away.
+// The next table on the list, or that the given one is the last.
 #[derive(Clone, Copy)]
-pub enum NextSmall {
+pub enum Next {
     Table,
     Last,
-    Refused { why: Refusal, place: Place },
 }

@@ -14,8 +14,8 @@ use Rattle.stab.specs.Check.{node_refusal, step_refusal, refusal, older_mode, ve
 use Rattle.stab.specs.Before.{step_by, node_by, refusal_by, check_by, tests_now, Ancestor, parent, further, target_above, loop_above, bound_above, tests_above}
 use Rattle.stab.specs.Keeps.{KeepsParent}
 use Rattle.stab.specs.declared.Refusal.TheVariants.{Drawn, Fields, Target, Bound as BoundWrong, Partner, Lowered, Children}
-use Rattle.stab.specs.declared.Verdict.TheVariants.{Accepted}
-use Rattle.stab.specs.declared.Finding.TheVariants.{Nothing}
+use Rattle.stab.specs.Finding.{accept, no_refusal}
+use Rattle.std.specs.Prelude.{Ok}
 use Rattle.stab.proofs.Bools.{decide, if_true, if_false}
 use Rattle.stab.proofs.Whole.{atom, num, ◌⊖◌, of_le, le_of, le_z_of, of_le_z, eq_z_true, eq_z_of}
 use Rattle.stab.proofs.Tests.{◌tests◌, ◌⇒◌, itself, at_clears, ◌then◌}
@@ -71,7 +71,7 @@ pub record Above (T : Tableau) (j : ℕ) : Type 0 where
   lowered : lowered_fits T j ≡ true
   children : children_fit T j ≡ true
 
-pub above_clears : (T : Tableau) (j : ℕ) → node_by tests_above T j ≡ Nothing → Above T j
+pub above_clears : (T : Tableau) (j : ℕ) → node_by tests_above T j ≡ no_refusal → Above T j
 unfolding node_by step_by tests_above
 above_clears T j h =
     let p =
@@ -157,7 +157,7 @@ module _ (T : Tableau) (parents : (k : ℕ) → k < T.node_rows → KeepsParent 
       (λ r. sym (other_above T j r) ∙ (found j l).bounds)
       (decide (of_rule 8 (node T j)))
 
-  node_kept : node_refusal true T j ≡ Nothing
+  node_kept : node_refusal true T j ≡ no_refusal
   unfolding node_refusal step_refusal children_as
   node_kept =
       ((at_clears Drawn j (itself (drawn T j)) then
@@ -174,7 +174,7 @@ module _ (T : Tableau) (parents : (k : ℕ) → k < T.node_rows → KeepsParent 
 -- ---- the theorem
 
 -- 02, No. 6: tableaux that were accepted are accepted, with the same counts, whatever their numbers
-pub ancestor_links_accepted : (T : Tableau) (n l : ℕ) → check_by tests_above T ≡ Accepted n l → check_older T ≡ Accepted n l
+pub ancestor_links_accepted : (T : Tableau) (n l : ℕ) → check_by tests_above T ≡ accept n l → check_older T ≡ accept n l
 unfolding check_by check_older verdict_on verdict
 ancestor_links_accepted T n l h =
     let a =

@@ -1,13 +1,11 @@
 -- Laws of the tests that the definitions are made of.
-use Rattle.std.specs.Prelude.{if◌then◌else◌}
+use Rattle.std.specs.Prelude.{if◌then◌else◌, Ok, Err}
 use mathlib.Core.Path.{◌≡◌, refl, sym, ◌∙◌, ap}
 use mathlib.Core.Logic.{◌⊎◌, inl, inr}
 use mathlib.Core.Bool.{Bool, true, false, not, true≢false, false≢true}
 use Rattle.stab.specs.Basic.{◌and◌, ◌or◌, ◌implies◌, ◌otherwise◌, unless}
-use Rattle.stab.specs.declared.Place.{Place}
+use Rattle.stab.specs.Finding.{Place, Finding, no_refusal, refuse}
 use Rattle.stab.specs.declared.Refusal.{Refusal}
-use Rattle.stab.specs.declared.Finding.{Finding}
-use Rattle.stab.specs.declared.Finding.TheVariants.{Nothing, Found}
 
 pub and_left : (a b : Bool) → (a and b) ≡ true → a ≡ true
 unfolding ◌and◌
@@ -120,55 +118,55 @@ same_test false false f g = refl
 -- ---- findings
 
 abbrev is_found : Finding → Bool
-is_found Nothing = false
-is_found (Found why place) = true
+is_found (Ok u) = false
+is_found (Err r) = true
 
-pub found≢nothing : {why : Refusal} {p : Place} → ¬ (Found why p ≡ Nothing)
+pub found≢nothing : {why : Refusal} {p : Place} → ¬ (refuse why p ≡ no_refusal)
 found≢nothing h = true≢false (ap is_found h)
 
-pub nothing≢found : {why : Refusal} {p : Place} → ¬ (Nothing ≡ Found why p)
+pub nothing≢found : {why : Refusal} {p : Place} → ¬ (no_refusal ≡ refuse why p)
 nothing≢found h = false≢true (ap is_found h)
 
-pub unless_nothing : (a : Bool) (why : Refusal) (p : Place) → unless a why p ≡ Nothing → a ≡ true
+pub unless_nothing : (a : Bool) (why : Refusal) (p : Place) → unless a why p ≡ no_refusal → a ≡ true
 unfolding unless
 unless_nothing true why p h = refl
 unless_nothing false why p h = absurd (found≢nothing h)
 
-pub nothing_unless : (a : Bool) (why : Refusal) (p : Place) → a ≡ true → unless a why p ≡ Nothing
+pub nothing_unless : (a : Bool) (why : Refusal) (p : Place) → a ≡ true → unless a why p ≡ no_refusal
 unfolding unless
 nothing_unless true why p h = refl
 nothing_unless false why p h = absurd (false≢true h)
 
-pub found_unless : (a : Bool) (why : Refusal) (p : Place) → a ≡ false → unless a why p ≡ Found why p
+pub found_unless : (a : Bool) (why : Refusal) (p : Place) → a ≡ false → unless a why p ≡ refuse why p
 unfolding unless
 found_unless true why p h = absurd (true≢false h)
 found_unless false why p h = refl
 
-pub otherwise_first : (x y : Finding) → (x otherwise y) ≡ Nothing → x ≡ Nothing
+pub otherwise_first : (x y : Finding) → (x otherwise y) ≡ no_refusal → x ≡ no_refusal
 unfolding ◌otherwise◌
-otherwise_first Nothing y h = refl
-otherwise_first (Found why p) y h = h
+otherwise_first (Ok u) y h = refl
+otherwise_first (Err r) y h = h
 
-pub otherwise_second : (x y : Finding) → (x otherwise y) ≡ Nothing → y ≡ Nothing
+pub otherwise_second : (x y : Finding) → (x otherwise y) ≡ no_refusal → y ≡ no_refusal
 unfolding ◌otherwise◌
-otherwise_second Nothing y h = h
-otherwise_second (Found why p) y h = absurd (found≢nothing h)
+otherwise_second (Ok u) y h = h
+otherwise_second (Err r) y h = absurd (found≢nothing h)
 
-pub otherwise_nothing : (x y : Finding) → x ≡ Nothing → (x otherwise y) ≡ y
+pub otherwise_nothing : (x y : Finding) → x ≡ no_refusal → (x otherwise y) ≡ y
 unfolding ◌otherwise◌
-otherwise_nothing Nothing y h = refl
-otherwise_nothing (Found why p) y h = absurd (found≢nothing h)
+otherwise_nothing (Ok u) y h = refl
+otherwise_nothing (Err r) y h = absurd (found≢nothing h)
 
-pub otherwise_found : (x y : Finding) {why : Refusal} {p : Place} → x ≡ Found why p → (x otherwise y) ≡ Found why p
+pub otherwise_found : (x y : Finding) {why : Refusal} {p : Place} → x ≡ refuse why p → (x otherwise y) ≡ refuse why p
 unfolding ◌otherwise◌
-otherwise_found Nothing y h = absurd (nothing≢found h)
-otherwise_found (Found why p) y h = h
+otherwise_found (Ok u) y h = absurd (nothing≢found h)
+otherwise_found (Err r) y h = h
 
 -- the second finding counts only where the first finds nothing
-pub otherwise_same : (x y z : Finding) → (x ≡ Nothing → y ≡ z) → (x otherwise y) ≡ (x otherwise z)
+pub otherwise_same : (x y z : Finding) → (x ≡ no_refusal → y ≡ z) → (x otherwise y) ≡ (x otherwise z)
 unfolding ◌otherwise◌
-otherwise_same Nothing y z h = h refl
-otherwise_same (Found why p) y z h = refl
+otherwise_same (Ok u) y z h = h refl
+otherwise_same (Err r) y z h = refl
 
 pub otherwise_first_same : {x y : Finding} (z : Finding) → x ≡ y → (x otherwise z) ≡ (y otherwise z)
 otherwise_first_same z e = ap (λ (w : Finding). w otherwise z) e

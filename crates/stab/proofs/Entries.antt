@@ -1,6 +1,6 @@
 -- What the text entries give fits into the numbers that they give: the counts of what is read, the places of refusals, the bytes of a text,
 -- the line at fault.
-use Rattle.std.specs.Prelude.{if◌then◌else◌, ltb}
+use Rattle.std.specs.Prelude.{if◌then◌else◌, ltb, Ok, Err, Result, None, Some}
 use Prim.Native.Nat.{ℕ, suc, ◌+◌, ◌-◌, ◌*◌, ◌/◌, ◌%◌, ◌≤◌, ◌<◌}
 use native.Mathlib.Omega.{arith}
 use mathlib.Core.Path.{◌≡◌, refl, sym, ◌∙◌, ap}
@@ -15,32 +15,23 @@ use Rattle.stab.specs.Basic.{◌and◌, ◌otherwise◌, nat}
 use Rattle.stab.specs.Text.{Line, lines, numbers, text_limit}
 use Rattle.stab.specs.Read.{Reading, read, stopped, ◌and_then◌, require, heading_at, values_of, values, values_at, rows_from, nodes_from, proof_rows_from, read_schema_lines, read_proof_lines, read_model_lines, read_text, read_schema, read_proof, read_model, schema_answer, proof_answer, model_answer}
 use Rattle.stab.specs.Write.{writing_of, writing, output_refusal, written, write_refusal}
-use Rattle.stab.specs.Answer.{Numbers, WrittenNumbers, refused_numbers, verdict_numbers, schema_numbers, proof_numbers, model_numbers, written_numbers, one_number, packed, answer_in, place_in, numbers_in, Packs}
+use Rattle.stab.specs.Answer.{Numbers, WrittenNumbers, refused_numbers, verdict_numbers, schema_numbers, proof_numbers, model_numbers, written_numbers, one_number, packed, answer_in, place_in, numbers_in, Packs, PlacePacks}
 use Rattle.stab.specs.Check.{check_as, whole_unless}
 use Rattle.stab.specs.Model.{check_model}
 use Rattle.stab.specs.LineNumber.{schema_row_line, proof_row_line, node_line, pair_line}
-use Rattle.stab.specs.Program.{tableau_of, model_of, no_fault, in_first, in_second, row_fault, among, check_points, model_points, verdict_fault, fault_after_reading, after_reading, check_texts, model_texts, check_fault, model_fault}
+use Rattle.stab.specs.Program.{place_fault, tableau_of, model_of, no_fault, in_first, in_second, row_fault, among, check_points, model_points, verdict_fault, fault_after_reading, after_reading, check_texts, model_texts, check_fault, model_fault}
 use Rattle.stab.specs.Entry.{without_counts, schema_packed, proof_packed, model_packed, written_packed, written_in, SchemaFits, ProofFits, ModelFits, WrittenFits, fault_number, fault_in, texts_packed, number_part, fault_part}
-use Rattle.stab.specs.declared.Place.{Place}
-use Rattle.stab.specs.declared.Finding.{Finding}
-use Rattle.stab.specs.declared.Finding.TheVariants.{Nothing, Found}
-use Rattle.stab.specs.declared.Written.{Written}
-use Rattle.stab.specs.declared.Written.TheVariants.{Text, Refused as WriteRefused}
+use Rattle.stab.specs.declared.ModelHeader.{ModelHeader}
+use Rattle.stab.specs.declared.ProofCounts.{ProofCounts}
+use Rattle.stab.specs.declared.SchemaHeader.{SchemaHeader}
+use Rattle.stab.specs.declared.Refused.{Refused}
+use Rattle.stab.specs.Finding.{Place, Finding, no_refusal, refuse, Verdict, accept}
 use Rattle.stab.specs.declared.Refusal.{Refusal}
 use Rattle.stab.specs.declared.Refusal.TheVariants.{Output}
 use Rattle.stab.specs.declared.Fault.{Fault}
-use Rattle.stab.specs.declared.Place.TheVariants.{Whole, At}
-use Rattle.stab.specs.declared.Verdict.{Verdict}
-use Rattle.stab.specs.declared.Verdict.TheVariants.{Accepted, Refused}
-use Rattle.stab.specs.declared.SchemaRead.{SchemaRead}
-use Rattle.stab.specs.declared.SchemaRead.TheVariants.{Schema, Refused as SchemaRefused}
-use Rattle.stab.specs.declared.ProofRead.{ProofRead}
-use Rattle.stab.specs.declared.ProofRead.TheVariants.{Proof, Refused as ProofRefused}
-use Rattle.stab.specs.declared.ModelRead.{ModelRead}
-use Rattle.stab.specs.declared.ModelRead.TheVariants.{Model, Refused as ModelRefused}
 use Rattle.stab.proofs.Bools.{and_left, and_right, unless_nothing, otherwise_second}
 use Rattle.stab.proofs.Texts.{schema_counts, proof_counts, model_counts}
-use Rattle.stab.proofs.Packed.{number_range, checked_packs, model_packs, near_packs, packed_acceptance, packed_refusal, read_back}
+use Rattle.stab.proofs.Packed.{number_range, checked_packs, model_packs, near_packs, packed_acceptance, packed_refusal, code_below, read_back}
 use Rattle.stab.proofs.Exactness.Refusals.{FindsNear, of_whole, ◌or_else◌}
 
 -- ---- a refusal in reading is at line b or above it
@@ -180,11 +171,11 @@ written_fits x n text near = go (x otherwise output_refusal n text) refl
     fits = leb (length text) n and leb (length text) 65536
 
     go : (y : Finding) → (x otherwise output_refusal n text) ≡ y → WrittenFits (written (writing_of y text))
-    go Nothing e = leb-true (length text) 65536 (and_right (leb (length text) n) _ (unless_nothing fits _ _ (otherwise_second x _ e)))
-    go (Found why place) e = near_packs why place (◌or_else◌ near (of_whole fits Output) why place e)
+    go (Ok u) e = leb-true (length text) 65536 (and_right (leb (length text) n) _ (unless_nothing fits _ _ (otherwise_second x _ e)))
+    go (Err r) e = near_packs r.why r.place (◌or_else◌ near (of_whole fits Output) r.why r.place e)
 
 -- a refusal in writing is packed as a check's
-pub written_refused : (why : Refusal) (p : Place) → packed (Refused why p) ≡ written_packed (WriteRefused why p)
+pub written_refused : (why : Refusal) (p : Place) → packed (refuse why p) ≡ written_packed (refuse why p)
 unfolding packed verdict_numbers refused_numbers written_packed written_numbers without_counts
 written_refused why p = omega arith
 
@@ -194,41 +185,41 @@ answer_back : (v : Verdict) → Packs v → (answer_in (packed v) ≡ (verdict_n
 unfolding numbers_in
 answer_back v h = (ap (λ (a : Numbers). a.answer) (read_back v h), ap (λ (a : Numbers). a.place) (read_back v h))
 
-success : Packs (Accepted 0 0)
+success : Packs (accept 0 0)
 success = (omega arith, omega arith)
 
-pub schema_read_back : (r : SchemaRead) → SchemaFits r → (answer_in (schema_packed r) ≡ (schema_numbers r).answer) × (place_in (schema_packed r) ≡ (schema_numbers r).place)
+pub schema_read_back : (r : Result SchemaHeader Refused) → SchemaFits r → (answer_in (schema_packed r) ≡ (schema_numbers r).answer) × (place_in (schema_packed r) ≡ (schema_numbers r).place)
 unfolding schema_packed schema_numbers without_counts packed verdict_numbers refused_numbers
-schema_read_back (Schema root least rows) h = answer_back (Accepted 0 0) success
-schema_read_back (SchemaRefused why p) h = answer_back (Refused why p) h
+schema_read_back (Ok c) h = answer_back (accept 0 0) success
+schema_read_back (Err r) h = answer_back (Err r) h
 
-pub proof_read_back : (r : ProofRead) → ProofFits r → (answer_in (proof_packed r) ≡ (proof_numbers r).answer) × (place_in (proof_packed r) ≡ (proof_numbers r).place)
+pub proof_read_back : (r : Result ProofCounts Refused) → ProofFits r → (answer_in (proof_packed r) ≡ (proof_numbers r).answer) × (place_in (proof_packed r) ≡ (proof_numbers r).place)
 unfolding proof_packed proof_numbers without_counts packed verdict_numbers refused_numbers
-proof_read_back (Proof rows nodes members) h = answer_back (Accepted 0 0) success
-proof_read_back (ProofRefused why p) h = answer_back (Refused why p) h
+proof_read_back (Ok c) h = answer_back (accept 0 0) success
+proof_read_back (Err r) h = answer_back (Err r) h
 
-pub model_read_back : (r : ModelRead) → ModelFits r → (answer_in (model_packed r) ≡ (model_numbers r).answer) × (place_in (model_packed r) ≡ (model_numbers r).place)
+pub model_read_back : (r : Result ModelHeader Refused) → ModelFits r → (answer_in (model_packed r) ≡ (model_numbers r).answer) × (place_in (model_packed r) ≡ (model_numbers r).place)
 unfolding model_packed model_numbers without_counts packed verdict_numbers refused_numbers
-model_read_back (Model n pairs) h = answer_back (Accepted 0 0) success
-model_read_back (ModelRefused why p) h = answer_back (Refused why p) h
+model_read_back (Ok c) h = answer_back (accept 0 0) success
+model_read_back (Err r) h = answer_back (Err r) h
 
 written_are : {a b : WrittenNumbers} → a.answer ≡ b.answer → a.place ≡ b.place → a.bytes ≡ b.bytes → a ≡ b
 written_are p q r i = record { answer = p i; place = q i; bytes = r i }
 
-packed_text : (n : ℕ) → written_packed (Text n) ≡ 67108864 + n
+packed_text : (n : ℕ) → written_packed (Ok n) ≡ 67108864 + n
 unfolding written_packed written_numbers without_counts one_number nat
 packed_text n = refl
 
-pub written_read_back : (w : Written) → WrittenFits w → written_in (written_packed w) ≡ written_numbers w
+pub written_read_back : (w : Result ℕ Refused) → WrittenFits w → written_in (written_packed w) ≡ written_numbers w
 unfolding written_in written_numbers verdict_numbers refused_numbers
-written_read_back (Text n) h =
+written_read_back (Ok n) h =
     let e = packed_text n in
-    let place : written_packed (Text n) / 67108864 % 8192 ≡ 1 = omega arith in
+    let place : written_packed (Ok n) / 67108864 % 8192 ≡ 1 = omega arith in
     written_are (omega arith) (ap (λ (c : ℕ). pos c -ℤ pos 1) place) (omega arith)
-written_read_back (WriteRefused why p) h =
-    let e = written_refused why p in
-    let b = answer_back (Refused why p) h in
-    written_are (ap (λ (x : ℕ). answer_in x) (sym e) ∙ b.0) (ap (λ (x : ℕ). place_in x) (sym e) ∙ b.1) (omega (arith, packed_refusal why p))
+written_read_back (Err r) h =
+    let e = written_refused r.why r.place in
+    let b = answer_back (Err r) h in
+    written_are (ap (λ (x : ℕ). answer_in x) (sym e) ∙ b.0) (ap (λ (x : ℕ). place_in x) (sym e) ∙ b.1) (omega (arith, packed_refusal r.why r.place))
 
 -- ---- where a refusal points: on a line below 16384, and read back from its number
 
@@ -249,11 +240,15 @@ unfolding model_points no_fault in_first in_second schema_row_line pair_line
 model_points_fit why k h =
     if_fits 16384 (among 7 8 why) _ _ (omega arith) (if_fits 16384 (among 18 18 why) _ _ (omega arith) (omega arith))
 
+place_fits : (points : ℕ → Fault) → ((k : ℕ) → k + 1 < 8192 → (points k).line < 16384) → (p : Place) → PlacePacks p → (place_fault points p).line < 16384
+unfolding place_fault no_fault
+place_fits points h None p = omega arith
+place_fits points h (Some k) p = h k p
+
 verdict_fits : (points : Refusal → ℕ → Fault) → ((why : Refusal) (k : ℕ) → k + 1 < 8192 → (points why k).line < 16384) → (v : Verdict) → Packs v → (verdict_fault points v).line < 16384
 unfolding verdict_fault no_fault
-verdict_fits points h (Accepted n l) p = omega arith
-verdict_fits points h (Refused why Whole) p = omega arith
-verdict_fits points h (Refused why (At k)) p = h why k p
+verdict_fits points h (Ok c) p = omega arith
+verdict_fits points h (Err r) p = place_fits (points r.why) (h r.why) r.place p
 
 after_fits : {A B : Type 0} (judge : A → B → Fault) (r : Reading A) (s : Reading B) → Stops 4100 r → Stops 4100 s
     → ((a : A) (b : B) → s ≡ read b → (judge a b).line < 16384) → (fault_after_reading judge r s).line < 16384
@@ -303,9 +298,8 @@ model_texts_pack schema model =
 
 -- the one number is below what stands above it
 pub packed_below : (v : Verdict) → Packs v → packed v < 17592186044416
-packed_below (Accepted n l) h = omega (arith, packed_acceptance n l, h.0, h.1)
-packed_below (Refused why Whole) h = omega (arith, packed_refusal why Whole, (number_range why).1)
-packed_below (Refused why (At k)) h = omega (arith, packed_refusal why (At k), (number_range why).1)
+packed_below (Ok c) h = omega (arith, packed_acceptance c.nodes c.links, h.0, h.1)
+packed_below (Err r) h = omega (arith, packed_refusal r.why r.place, code_below r.why r.place h, (number_range r.why).1)
 
 if_one : (t : Bool) → (if t then 1 else 0) ≤ 1
 if_one true = omega arith

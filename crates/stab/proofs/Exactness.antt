@@ -12,13 +12,14 @@ use Rattle.stab.specs.Node.{Tableau}
 use Rattle.stab.specs.Check.{link_count, verdict, refusal, present_mode, older_mode, verdict_on, check, check_older}
 use Rattle.stab.specs.Model.{Model, model_refusal, check_model}
 use Rattle.stab.specs.Keeps.{KeepsOlder, Keeps, KeepsModel}
-use Rattle.stab.specs.declared.Verdict.TheVariants.{Accepted}
+use Rattle.stab.specs.Finding.{accept}
+use Rattle.std.specs.Prelude.{Ok}
 use Checked.{older_clears, tableau_clears}
 use Models.{model_clears}
 use Refusals.{accepted}
 
 -- the check accepts exactly the records that keep the rules, and says how many nodes and links they have
-pub accepts_exactly : (T : Tableau) (n l : ℕ) → (check T ≡ Accepted n l) ↔ (Keeps T × (n ≡ T.node_rows) × (l ≡ link_count T))
+pub accepts_exactly : (T : Tableau) (n l : ℕ) → (check T ≡ accept n l) ↔ (Keeps T × (n ≡ T.node_rows) × (l ≡ link_count T))
 unfolding check verdict_on verdict
 accepts_exactly T n l = (
   λ h.
@@ -28,7 +29,7 @@ accepts_exactly T n l = (
 )
 
 -- the older check exactly those that keep document 01's rules, as 02, Nos. 3 to 6 amend them
-pub older_accepts_exactly : (T : Tableau) (n l : ℕ) → (check_older T ≡ Accepted n l) ↔ (KeepsOlder T × (n ≡ T.node_rows) × (l ≡ link_count T))
+pub older_accepts_exactly : (T : Tableau) (n l : ℕ) → (check_older T ≡ accept n l) ↔ (KeepsOlder T × (n ≡ T.node_rows) × (l ≡ link_count T))
 unfolding check_older verdict_on verdict
 older_accepts_exactly T n l = (
   λ h.
@@ -38,7 +39,7 @@ older_accepts_exactly T n l = (
 )
 
 -- the model check accepts exactly the models that are right
-pub model_accepts_exactly : (M : Model) → (check_model M ≡ Accepted 0 0) ↔ KeepsModel M
+pub model_accepts_exactly : (M : Model) → (check_model M ≡ accept 0 0) ↔ KeepsModel M
 unfolding check_model verdict
 model_accepts_exactly M = (
   λ h. (model_clears M).0 (accepted (model_refusal M) 0 0 0 0 h).0,
@@ -46,6 +47,6 @@ model_accepts_exactly M = (
 )
 
 -- an accepted model has both counts 0
-pub model_counts_zero : (M : Model) (n l : ℕ) → check_model M ≡ Accepted n l → (n ≡ 0) × (l ≡ 0)
+pub model_counts_zero : (M : Model) (n l : ℕ) → check_model M ≡ accept n l → (n ≡ 0) × (l ≡ 0)
 unfolding check_model
 model_counts_zero M n l h = let a = accepted (model_refusal M) 0 0 n l h in (a.1, a.2)

@@ -6,10 +6,9 @@ use mathlib.Core.Path.{◌≡◌, refl, sym, ◌∙◌}
 use lib.Dec.{leb}
 use borrow.Author.Tests.{leb-true, le-leb}
 use Rattle.stab.specs.Basic.{◌otherwise◌}
-use Rattle.stab.specs.declared.Place.{Place}
+use Rattle.std.specs.Prelude.{Ok, Err}
+use Rattle.stab.specs.Finding.{Place, Finding, no_refusal, refuse}
 use Rattle.stab.specs.declared.Refusal.{Refusal}
-use Rattle.stab.specs.declared.Finding.{Finding}
-use Rattle.stab.specs.declared.Finding.TheVariants.{Nothing, Found}
 use Rattle.stab.proofs.Bools.{same_test, otherwise_nothing, otherwise_found}
 
 -- n rows of w numbers fit into l numbers
@@ -21,15 +20,15 @@ rows_fit w n l h =
 
 pub otherwise_assoc : (x y z : Finding) → ((x otherwise y) otherwise z) ≡ (x otherwise (y otherwise z))
 unfolding ◌otherwise◌
-otherwise_assoc Nothing y z = refl
-otherwise_assoc (Found why p) y z = refl
+otherwise_assoc (Ok u) y z = refl
+otherwise_assoc (Err r) y z = refl
 
 -- a pass that found something, and one that found nothing
-pub stays : (f x rest : Finding) (why : Refusal) (p : Place) → f ≡ x → f ≡ Found why p → f ≡ (x otherwise rest)
+pub stays : (f x rest : Finding) (why : Refusal) (p : Place) → f ≡ x → f ≡ refuse why p → f ≡ (x otherwise rest)
 stays f x rest why p e h = h ∙ sym (otherwise_found x rest (sym e ∙ h))
 
-pub nothing_found : (f x : Finding) → f ≡ x → f ≡ Nothing → x ≡ Nothing
+pub nothing_found : (f x : Finding) → f ≡ x → f ≡ no_refusal → x ≡ no_refusal
 nothing_found f x e h = sym e ∙ h
 
-pub later : (x rest y : Finding) → x ≡ Nothing → y ≡ rest → y ≡ (x otherwise rest)
+pub later : (x rest y : Finding) → x ≡ no_refusal → y ≡ rest → y ≡ (x otherwise rest)
 later x rest y h e = e ∙ sym (otherwise_nothing x rest h)

@@ -13,9 +13,8 @@ use Rattle.stab.specs.Rule.{shortened, is_instance, partners_fit, is_lowered, ha
 use Rattle.stab.specs.Check.{at_unless, step_refusal, node_refusal, refusal, older_mode, verdict, verdict_on, check_older, link_count}
 use Rattle.stab.specs.Before.{step_by, node_by, refusal_by, check_by, agree, partners_in_order, has_lowered_in_order, lowered_in_order, tests_in_order}
 use Rattle.stab.specs.declared.Refusal.{Refusal}
-use Rattle.stab.specs.declared.Verdict.TheVariants.{Accepted}
-use Rattle.stab.specs.declared.Finding.{Finding}
-use Rattle.stab.specs.declared.Finding.TheVariants.{Nothing}
+use Rattle.stab.specs.Finding.{accept, Finding, no_refusal}
+use Rattle.std.specs.Prelude.{Ok}
 use Rattle.stab.proofs.Bools.{and_left, and_right, and_both, or_cases, or_left, or_right, implies_use, implies_make, otherwise_first, otherwise_second, otherwise_nothing}
 use Rattle.stab.proofs.Scans.{all_use, all_make}
 use Rattle.stab.proofs.Tests.{itself, at_clears}
@@ -79,7 +78,7 @@ lowered_kept T j h =
 -- nothing is found by the second where nothing is found by the first
 infix 3 ◌clears_too◌
 abbrev ◌clears_too◌ : Finding → Finding → Type 0
-x clears_too y = x ≡ Nothing → y ≡ Nothing
+x clears_too y = x ≡ no_refusal → y ≡ no_refusal
 
 infixr 25 ◌both◌
 ◌both◌ : {w x y z : Finding} → w clears_too x → y clears_too z → (w otherwise y) clears_too (x otherwise z)
@@ -103,7 +102,7 @@ refusal_kept T = refusal_by_kept tests_in_order T (λ parents found j l. node_ke
 -- ---- the theorem
 
 -- 02, No. 4: links and unfoldings that were accepted are accepted, for every tableau, whatever its numbers
-pub in_order_accepted : (T : Tableau) (n l : ℕ) → check_by tests_in_order T ≡ Accepted n l → check_older T ≡ Accepted n l
+pub in_order_accepted : (T : Tableau) (n l : ℕ) → check_by tests_in_order T ≡ accept n l → check_older T ≡ accept n l
 unfolding check_by check_older verdict_on verdict
 in_order_accepted T n l h =
     let a =

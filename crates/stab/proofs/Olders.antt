@@ -9,16 +9,14 @@ use Rattle.stab.specs.Formula.{Row}
 use Rattle.stab.specs.Node.{Tableau, rows, row_count}
 use Rattle.stab.specs.Check.{at_unless, row_refusal, stands_before, repeat_refusal, formula_refusal, formulas_refusal, refusal, present_mode, older_mode, link_count, verdict, verdict_on, check, check_older}
 use Rattle.stab.specs.Keeps.{Fresh}
-use Rattle.stab.specs.declared.Place.TheVariants.{At}
+use Rattle.stab.specs.Finding.{accept, refuse, Finding, no_refusal}
+use Rattle.std.specs.Prelude.{Some, Ok, Err}
 use Rattle.stab.specs.declared.Refusal.TheVariants.{Repeated}
-use Rattle.stab.specs.declared.Verdict.TheVariants.{Accepted, Refused}
-use Rattle.stab.specs.declared.Finding.{Finding}
-use Rattle.stab.specs.declared.Finding.TheVariants.{Nothing, Found}
 use Rattle.stab.proofs.Exactness.{accepts_exactly, older_accepts_exactly}
 
 -- the two find the same, or the first finds 27
 abbrev Or27 : Finding → Finding → Type 0
-Or27 x y = (x ≡ y) ⊎ ((r : ℕ) × (x ≡ Found Repeated (At r)))
+Or27 x y = (x ≡ y) ⊎ ((r : ℕ) × (x ≡ refuse Repeated (Some r)))
 
 -- what comes after, and what comes before
 first_or_27 : {x y : Finding} (z : Finding) → Or27 x y → Or27 (x otherwise z) (y otherwise z)
@@ -28,8 +26,8 @@ first_or_27 z (inr p) = inr (p.0, ap (λ (w : Finding). w otherwise z) p.1)
 
 then_or_27 : (x : Finding) {y z : Finding} → Or27 y z → Or27 (x otherwise y) (x otherwise z)
 unfolding ◌otherwise◌
-then_or_27 Nothing h = h
-then_or_27 (Found why p) h = inl refl
+then_or_27 (Ok u) h = h
+then_or_27 (Err r) h = inl refl
 
 both_or_27 : {x y w z : Finding} → Or27 x y → Or27 w z → Or27 (x otherwise w) (y otherwise z)
 unfolding ◌otherwise◌
@@ -45,9 +43,9 @@ unfolding formula_refusal repeat_refusal ◌otherwise◌ at_unless unless
 row_or_27 rows s r = go (row_refusal rows r) (ltb r s or not (stands_before rows r (rows r)))
   where
     go : (x : Finding) (t : Bool) → Or27 (x otherwise at_unless t Repeated r) x
-    go Nothing true = inl refl
-    go Nothing false = inr (r, refl)
-    go (Found why p) t = inl refl
+    go (Ok u) true = inl refl
+    go (Ok u) false = inr (r, refl)
+    go (Err r) t = inl refl
 
 scan_or_27 : (rows : ℕ → Row) (s n : ℕ) → Or27 (scan (formula_refusal false rows s) n) (scan (formula_refusal true rows s) n)
 unfolding scan
@@ -62,16 +60,16 @@ refusal_or_27 T =
 -- ---- the theorems
 
 -- the check gives what the older check gives, or 27 at a row, for every tableau, whatever its numbers
-pub older_or_27 : (T : Tableau) → (check T ≡ check_older T) ⊎ ((r : ℕ) × (check T ≡ Refused Repeated (At r)))
+pub older_or_27 : (T : Tableau) → (check T ≡ check_older T) ⊎ ((r : ℕ) × (check T ≡ refuse Repeated (Some r)))
 unfolding check check_older verdict_on verdict
 older_or_27 T =
     ⊎_elim
-    (λ e. inl (ap (λ (x : Finding). verdict x (Accepted T.node_rows (link_count T))) e))
-    (λ p. inr (p.0, ap (λ (x : Finding). verdict x (Accepted T.node_rows (link_count T))) p.1))
+    (λ e. inl (ap (λ (x : Finding). verdict x (accept T.node_rows (link_count T))) e))
+    (λ p. inr (p.0, ap (λ (x : Finding). verdict x (accept T.node_rows (link_count T))) p.1))
     (refusal_or_27 T)
 
 -- it accepts exactly what the older check accepts and repeats no proof row
-pub accepts_fresh : (T : Tableau) (n l : ℕ) → (check T ≡ Accepted n l) ↔ ((check_older T ≡ Accepted n l) × Fresh T)
+pub accepts_fresh : (T : Tableau) (n l : ℕ) → (check T ≡ accept n l) ↔ ((check_older T ≡ accept n l) × Fresh T)
 accepts_fresh T n l = (
   λ h. let k = (accepts_exactly T n l).0 h in ((older_accepts_exactly T n l).1 (k.0.older, k.1, k.2), k.0.fresh),
   λ p.

@@ -16,8 +16,8 @@ use Rattle.stab.specs.Check.{at_unless, verdict_on}
 use Rattle.stab.specs.Before.{step_by, node_by, check_by, target_above, loop_above, bound_above, tests_above, OpenOrExact, split_one, child_one, first_one, bound_one, fields_fit_one, split_fits_one, void_fits_one, bound_fits_one, tests_one}
 use Rattle.stab.specs.Keeps.{KeepsParent, Splits}
 use Rattle.stab.specs.declared.Refusal.TheVariants.{Bound as BoundWrong, Fields, Target}
-use Rattle.stab.specs.declared.Finding.{Finding}
-use Rattle.stab.specs.declared.Finding.TheVariants.{Nothing}
+use Rattle.std.specs.Prelude.{Ok}
+use Rattle.stab.specs.Finding.{Finding, no_refusal}
 use borrow.Author.Tests.{le-leb, eq-eqb}
 use Rattle.stab.proofs.Bools.{decide, if_true, if_false, and_first_true, and_left, and_both, same_test, otherwise_same, otherwise_first_same}
 use Rattle.stab.proofs.Whole.{num, ◌⊖◌, of_le, eq_z_true, eq_z_of}
@@ -131,7 +131,7 @@ module _ (T : Tableau) (parents : (k : ℕ) → k < T.node_rows → KeepsParent 
       ∙ sym (ap two_sided (inherit_first (first_one T.least) child_one T.nodes j b)))
       (decide (below j (node_at T.nodes j).up))
 
-  module _ (j : ℕ) (l : j < T.node_rows) (before : (k : ℕ) → k < j → node_by tests_above T k ≡ Nothing) where
+  module _ (j : ℕ) (l : j < T.node_rows) (before : (k : ℕ) → k < j → node_by tests_above T k ≡ no_refusal) where
     splits : (i : ℕ) → i < suc j → RightSplits T parents i
     splits i q = splits_above T parents i (λ k p. (above_clears T k (before k (omega arith))).bounds)
 

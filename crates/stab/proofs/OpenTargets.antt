@@ -15,8 +15,8 @@ use Rattle.stab.specs.Check.{at_unless, verdict_on}
 use Rattle.stab.specs.Before.{step_by, node_by, check_by, Ancestor, target_above, loop_above, bound_above, tests_above, target_open, bound_open, tests_open}
 use Rattle.stab.specs.Keeps.{KeepsParent, KeepsStep}
 use Rattle.stab.specs.declared.Refusal.TheVariants.{Bound as BoundWrong, Fields, Target}
-use Rattle.stab.specs.declared.Finding.{Finding}
-use Rattle.stab.specs.declared.Finding.TheVariants.{Nothing}
+use Rattle.std.specs.Prelude.{Ok}
+use Rattle.stab.specs.Finding.{Finding, no_refusal}
 use Rattle.stab.proofs.Bools.{decide, and_first_true, and_first_false, otherwise_same, otherwise_first_same}
 use Rattle.stab.proofs.Whole.{atom, num, ◌⊖◌, of_le, le_z_of, of_le_z}
 use Rattle.stab.proofs.Tests.{◌⇒◌, not_tests, at_clears, itself}
@@ -60,7 +60,7 @@ module _ (T : Tableau) (parents : (k : ℕ) → k < T.node_rows → KeepsParent 
       (λ x. x)
       (decide (is_exact (bound T i)))
 
-  module _ (j : ℕ) (l : j < T.node_rows) (before : (k : ℕ) → k < j → node_by tests_above T k ≡ Nothing) where
+  module _ (j : ℕ) (l : j < T.node_rows) (before : (k : ℕ) → k < j → node_by tests_above T k ≡ no_refusal) where
     splits : RightSplits T parents j
     splits = splits_above T parents j (λ k p. (above_clears T k (before k p)).bounds)
 

@@ -11,14 +11,10 @@ use Rattle.stab.specs.Check.{refusal, present_mode, older_mode, verdict_on, chec
 use Rattle.stab.specs.Model.{Model, model_refusal, check_model}
 use Rattle.stab.specs.Answer.{Numbers, refusal_number, place_number, refused_numbers, verdict_numbers, one_number, packed, answer_in, numbers_in, place_code, Packs}
 use Rattle.stab.specs.Refuted.{Refuted, SameSchema, Irrefutable}
-use Rattle.stab.specs.declared.Place.{Place}
-use Rattle.stab.specs.declared.Place.TheVariants.{Whole, At}
+use Rattle.std.specs.Prelude.{None, Some, Ok, Err}
+use Rattle.stab.specs.Finding.{Place, Verdict, accept, refuse, Finding, no_refusal}
 use Rattle.stab.specs.declared.Refusal.{Refusal}
 use Rattle.stab.specs.declared.Refusal.TheVariants.{TextTooLong, TableTooShort, Heading, Line, TooMany, Root, IllFormed, TooLarge, Set, Parent, Drawn, Fields, Target, Bound, Partner, Lowered, Children, Pair, Width, False, Number, Output, Repeated, Wires, Plain, Leasts, Joint, Room, NoRow, Waiting, NotListed}
-use Rattle.stab.specs.declared.Verdict.{Verdict}
-use Rattle.stab.specs.declared.Verdict.TheVariants.{Accepted, Refused}
-use Rattle.stab.specs.declared.Finding.{Finding}
-use Rattle.stab.specs.declared.Finding.TheVariants.{Nothing, Found}
 use Rattle.stab.proofs.Whole.{num, ◌⊖◌, eq_of}
 use Rattle.stab.proofs.Scans.{count_le}
 use Rattle.stab.proofs.Soundness.{sound, sound_older, no_model_lem}
@@ -62,16 +58,16 @@ number_range NotListed = (omega arith, omega arith)
 
 -- ---- the verdicts pack
 
-pub near_packs : (why : Refusal) (place : Place) → Near place → Packs (Refused why place)
-near_packs why Whole h = tt
-near_packs why (At k) h = omega arith
+pub near_packs : (why : Refusal) (place : Place) → Near place → Packs (refuse why place)
+near_packs why None h = tt
+near_packs why (Some k) h = omega arith
 
 -- whatever is found packs, and an acceptance where few nodes are kept
-packs_of : (T : Tableau) (x : Finding) → (x ≡ Nothing → T.node_rows ≤ 1024) → FindsNear x → Packs (verdict x (Accepted T.node_rows (link_count T)))
+packs_of : (T : Tableau) (x : Finding) → (x ≡ no_refusal → T.node_rows ≤ 1024) → FindsNear x → Packs (verdict x (accept T.node_rows (link_count T)))
 unfolding verdict link_count
-packs_of T Nothing few near =
+packs_of T (Ok u) few near =
     (omega (arith, few refl), omega (arith, few refl, count_le (Rattle.stab.specs.Check.is_link T.nodes) T.node_rows))
-packs_of T (Found why place) few near = near_packs why place (near why place refl)
+packs_of T (Err r) few near = near_packs r.why r.place (near r.why r.place refl)
 
 pub check_packs : (T : Tableau) → Packs (check T)
 unfolding check verdict_on
@@ -92,22 +88,22 @@ pub model_packs : (M : Model) → Packs (check_model M)
 unfolding check_model verdict
 model_packs M = go (model_refusal M) (of_model_refusal M)
   where
-    go : (x : Finding) → FindsNear x → Packs (verdict x (Accepted 0 0))
-    go Nothing near = (omega arith, omega arith)
-    go (Found why place) near = near_packs why place (near why place refl)
+    go : (x : Finding) → FindsNear x → Packs (verdict x (accept 0 0))
+    go (Ok u) near = (omega arith, omega arith)
+    go (Err r) near = near_packs r.why r.place (near r.why r.place refl)
 
 -- ---- the number in parts
 
 code_is : (p : Place) → nat (place_number p +ℤ pos 1) ≡ place_code p
 unfolding nat
-code_is Whole = refl
-code_is (At k) = refl
+code_is None = refl
+code_is (Some k) = refl
 
-pub packed_acceptance : (n l : ℕ) → packed (Accepted n l) ≡ (8192 + n) * 8192 + l
+pub packed_acceptance : (n l : ℕ) → packed (accept n l) ≡ (8192 + n) * 8192 + l
 unfolding packed one_number verdict_numbers nat
 packed_acceptance n l = refl
 
-pub packed_refusal : (why : Refusal) (p : Place) → packed (Refused why p) ≡ (refusal_number why * 8192 + place_code p) * 67108864
+pub packed_refusal : (why : Refusal) (p : Place) → packed (refuse why p) ≡ (refusal_number why * 8192 + place_code p) * 67108864
 unfolding packed one_number verdict_numbers refused_numbers
 packed_refusal why p = omega (arith, code_is p)
 
@@ -116,33 +112,33 @@ packed_refusal why p = omega (arith, code_is p)
 numbers_are : {a b : Numbers} → a.answer ≡ b.answer → a.place ≡ b.place → a.nodes ≡ b.nodes → a.links ≡ b.links → a ≡ b
 numbers_are p q r s i = record { answer = p i; place = q i; nodes = r i; links = s i }
 
-code_below : (why : Refusal) (p : Place) → Packs (Refused why p) → place_code p < 8192
-code_below why Whole h = omega arith
-code_below why (At k) h = h
+pub code_below : (why : Refusal) (p : Place) → Packs (refuse why p) → place_code p < 8192
+code_below why None h = omega arith
+code_below why (Some k) h = h
 
 place_back : (p : Place) → pos (place_code p) -ℤ pos 1 ≡ place_number p
-place_back Whole = refl
-place_back (At k) = eq_of (num (k + 1) ⊖ num 1) (num k) (omega arith)
+place_back None = refl
+place_back (Some k) = eq_of (num (k + 1) ⊖ num 1) (num k) (omega arith)
 
 pub read_back : (v : Verdict) → Packs v → numbers_in (packed v) ≡ verdict_numbers v
 unfolding numbers_in verdict_numbers refused_numbers
-read_back (Accepted n l) h =
-    let e = packed_acceptance n l in
-    let place : packed (Accepted n l) / 67108864 % 8192 ≡ 1 = omega (arith, h.0, h.1) in
+read_back (Ok c) h =
+    let e = packed_acceptance c.nodes c.links in
+    let place : packed (accept c.nodes c.links) / 67108864 % 8192 ≡ 1 = omega (arith, h.0, h.1) in
     numbers_are (omega (arith, h.0, h.1)) (ap (λ (c : ℕ). pos c -ℤ pos 1) place) (omega (arith, h.0, h.1)) (omega (arith, h.0, h.1))
-read_back (Refused why p) h =
-    let e = packed_refusal why p in
-    let below = code_below why p h in
-    let place : packed (Refused why p) / 67108864 % 8192 ≡ place_code p = omega arith in
-    numbers_are (omega arith) (ap (λ (c : ℕ). pos c -ℤ pos 1) place ∙ place_back p) (omega arith) (omega arith)
+read_back (Err r) h =
+    let e = packed_refusal r.why r.place in
+    let below = code_below r.why r.place h in
+    let place : packed (Err r) / 67108864 % 8192 ≡ place_code r.place = omega arith in
+    numbers_are (omega arith) (ap (λ (c : ℕ). pos c -ℤ pos 1) place ∙ place_back r.place) (omega arith) (omega arith)
 
 -- ---- its answer is 0 exactly for an acceptance
 
-pub packed_accepted : (v : Verdict) → Packs v → answer_in (packed v) ≡ 0 → (n : ℕ) × (l : ℕ) × (v ≡ Accepted n l)
-packed_accepted (Accepted n l) p h = (n, l, refl)
-packed_accepted (Refused why place) p h = absurd (omega (arith, packed_refusal why place, (number_range why).0))
+pub packed_accepted : (v : Verdict) → Packs v → answer_in (packed v) ≡ 0 → (n : ℕ) × (l : ℕ) × (v ≡ accept n l)
+packed_accepted (Ok c) p h = (c.nodes, c.links, refl)
+packed_accepted (Err r) p h = absurd (omega (arith, packed_refusal r.why r.place, (number_range r.why).0))
 
-pub accepted_packed : (n l : ℕ) → Packs (Accepted n l) → answer_in (packed (Accepted n l)) ≡ 0
+pub accepted_packed : (n l : ℕ) → Packs (accept n l) → answer_in (packed (accept n l)) ≡ 0
 accepted_packed n l p = omega (arith, packed_acceptance n l, p.0, p.1)
 
 -- ---- demand 3 in the one number

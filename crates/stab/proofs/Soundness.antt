@@ -17,7 +17,8 @@ use Rattle.stab.specs.Check.{check, check_older}
 use Rattle.stab.specs.Model.{Model, assignment, satisfied, check_model}
 use Rattle.stab.specs.Keeps.{KeepsOlder}
 use Rattle.stab.specs.Refuted.{Refuted, SameSchema, Irrefutable}
-use Rattle.stab.specs.declared.Verdict.TheVariants.{Accepted}
+use Rattle.stab.specs.Finding.{accept}
+use Rattle.std.specs.Prelude.{Ok}
 use Rattle.stab.proofs.Bools.{decide, if_true}
 use Rattle.stab.proofs.Whole.{atom, num, of_le, le_of, le_z_of, of_le_z, nat_pos, nonneg_minus, plus_nat}
 use Rattle.stab.proofs.Trees.{tree_agrees, below_nat}
@@ -77,18 +78,18 @@ refuted_by T K n σ h =
     (decide (truth σ n (tree (row_at T.schema) (nat T.root))))
 
 -- If the check accepts, the schema is false at every natural n from its least value up, under every assignment.
-pub sound : (T : Tableau) (nodes links : ℕ) → check T ≡ Accepted nodes links → Refuted (schema_of T)
+pub sound : (T : Tableau) (nodes links : ℕ) → check T ≡ accept nodes links → Refuted (schema_of T)
 sound T nodes links a = refuted_by T ((accepts_exactly T nodes links).0 a).0.older
 
 -- So it is if the older check accepts.
-pub sound_older : (T : Tableau) (nodes links : ℕ) → check_older T ≡ Accepted nodes links → Refuted (schema_of T)
+pub sound_older : (T : Tableau) (nodes links : ℕ) → check_older T ≡ accept nodes links → Refuted (schema_of T)
 sound_older T nodes links a = refuted_by T ((older_accepts_exactly T nodes links).0 a).0
 
-no_model_of : (M : Model) (n l : ℕ) → check_model M ≡ Accepted n l → (T : Tableau) → SameSchema T M.schema → KeepsOlder T → ⊥
+no_model_of : (M : Model) (n l : ℕ) → check_model M ≡ accept n l → (T : Tableau) → SameSchema T M.schema → KeepsOlder T → ⊥
 unfolding satisfied
 no_model_of M n l b T same K =
     let c = model_counts_zero M n l b in
-    let KM = (model_accepts_exactly M).0 (b ∙ ap₂ Accepted c.0 c.1) in
+    let KM = (model_accepts_exactly M).0 (b ∙ ap₂ accept c.0 c.1) in
     let least≥0 : le_z (pos 0) T.least ≡ true = le_z_of K.formulas.least_range.0 in
     let in_range_lem : le_z T.least M.n ≡ true = ap (λ (z : ℤ). le_z z M.n) same.same_least ∙ le_z_of KM.in_range.0 in
     let e : pos (nat M.n) ≡ M.n =
@@ -104,7 +105,7 @@ no_model_of M n l b T same K =
     ∙ f)
 
 -- If the check or the older check accepts a tableau, the model check accepts no model of the same schema rows, root and least value.
-pub no_model_lem : (M : Model) (n l : ℕ) → check_model M ≡ Accepted n l → Irrefutable M.schema
+pub no_model_lem : (M : Model) (n l : ℕ) → check_model M ≡ accept n l → Irrefutable M.schema
 no_model_lem M n l b T same nodes links = (
   λ a. no_model_of M n l b T same ((accepts_exactly T nodes links).0 a).0.older,
   λ a. no_model_of M n l b T same ((older_accepts_exactly T nodes links).0 a).0,

@@ -1,5 +1,5 @@
 -- Each test of the definitions passes exactly if the statement that it stands for holds.
-use Rattle.std.specs.Prelude.{if◌then◌else◌}
+use Rattle.std.specs.Prelude.{if◌then◌else◌, None, Some, Ok}
 use Prim.Native.Nat.{ℕ, ◌≤◌, ◌<◌}
 use mathlib.Core.Path.{◌≡◌, refl, ◌∙◌, ap, ap₂}
 use mathlib.Core.Logic.Iff
@@ -13,12 +13,9 @@ use borrow.Author.Tests.{le-leb, leb-true, lt-ltb, ltb-true, eq-eqb, eqb-true}
 use Rattle.stab.specs.Basic.{◌and◌, ◌or◌, ◌implies◌, eq_z, within, below, has, all_of, ascending, same_list, ◌otherwise◌, scan, unless}
 use Rattle.stab.specs.Formula.{Row}
 use Rattle.stab.specs.Check.{same_row, whole_unless, at_unless}
-use Rattle.stab.specs.declared.Place.{Place}
-use Rattle.stab.specs.declared.Place.TheVariants.{Whole, At}
+use Rattle.stab.specs.Finding.{Place, Finding, no_refusal}
 use Rattle.stab.specs.declared.Refusal.{Refusal}
 use Rattle.stab.specs.Keeps.{Within, Below, Ascending}
-use Rattle.stab.specs.declared.Finding.{Finding}
-use Rattle.stab.specs.declared.Finding.TheVariants.{Nothing}
 use Rattle.stab.proofs.Bools.{and_left, and_right, and_both, or_cases, or_left, or_right, implies_use, implies_make, false_of_not, not_of_false, unless_nothing, nothing_unless, otherwise_first, otherwise_second, otherwise_nothing}
 use Rattle.stab.proofs.Whole.{of_le_z, le_z_of, of_lt_z, lt_z_of, eq_z_true, eq_z_of}
 use Rattle.stab.proofs.Scans.{scan_nothing, nothing_scan, has_mem, mem_has, all_use, all_make}
@@ -116,18 +113,18 @@ same_row_tests v w =
 -- nothing is found exactly if the statement holds
 infix 3 ◌clears◌
 abbrev pub ◌clears◌ : Finding → Type 0 → Type 0
-x clears P = (x ≡ Nothing) ↔ P
+x clears P = (x ≡ no_refusal) ↔ P
 
 unless_clears : {t : Bool} {P : Type 0} (why : Refusal) (p : Place) → t tests P → unless t why p clears P
 unless_clears {t} why p e = (λ h. e.0 (unless_nothing t why p h), λ q. nothing_unless t why p (e.1 q))
 
 pub whole_clears : {t : Bool} {P : Type 0} (why : Refusal) → t tests P → whole_unless t why clears P
 unfolding whole_unless
-whole_clears why e = unless_clears why Whole e
+whole_clears why e = unless_clears why None e
 
 pub at_clears : {t : Bool} {P : Type 0} (why : Refusal) (k : ℕ) → t tests P → at_unless t why k clears P
 unfolding at_unless
-at_clears why k e = unless_clears why (At k) e
+at_clears why k e = unless_clears why (Some k) e
 
 -- the second finding is asked for only where the first statement holds
 pub once_clears : {x y : Finding} {P Q : Type 0} → x clears P → (P → y clears Q) → (x otherwise y) clears (P × Q)

@@ -22,7 +22,7 @@ use Rattle.stab.specs.Text.{lines, five_digits, padded}
 use Rattle.stab.specs.Read.{read, stopped, SchemaText, ProofText, ModelText, read_schema_lines, read_proof_lines, read_model_lines, read_schema, read_proof, read_model, schema_table, proof_table, node_table, member_table, pair_table}
 use Rattle.stab.specs.Check.{holds}
 use Rattle.stab.specs.Write.{Writing, wrote, refused, schema_text, proof_text, model_text, rows_writable, nodes_writable, sets_writable, write_schema, write_proof, write_model, output}
-use Rattle.stab.specs.declared.Place.{Place}
+use Rattle.stab.specs.Finding.{Place}
 use Rattle.stab.specs.declared.Refusal.{Refusal}
 use Rattle.stab.proofs.Bools.{and_left, and_right, and_both}
 use Rattle.stab.proofs.Whole.{eq_z_true, eq_z_of}

@@ -16,9 +16,9 @@ use Rattle.stab.specs.Write.{model_text, write_model, output}
 use Rattle.stab.specs.LineNumber.{line_of}
 use Rattle.stab.specs.Answer.{verdict_numbers, packed}
 use Rattle.stab.specs.Program.{printed, tableau_of, after_reading, check_program, model_program}
-use Rattle.stab.specs.declared.Place.TheVariants.{Whole, At}
+use Rattle.stab.specs.Finding.{accept, refuse}
+use Rattle.std.specs.Prelude.{None, Some, Ok, Err}
 use Rattle.stab.specs.declared.Refusal.TheVariants.{Bound, False}
-use Rattle.stab.specs.declared.Verdict.TheVariants.{Accepted, Refused}
 use Rattle.stab.proofs.Evaluate.{evaluated}
 use Rattle.stab.proofs.Cases.{answer}
 
@@ -274,7 +274,7 @@ computed =
     check_program false (bytes "root least\n0 0\nkind a b c\n1 0 0 0\n1 0 0 0\n") (nodes "-1 5 0 -1 -1 -1 0 0\n") ∷
     check_program false (bytes "root least\n0 0\nkind a b c\n2 0 2 0\n") (bytes "kind a b c\n2 0 2 0\nup rule on with other to by set\n") ∷
     -- the one number
-    (packed (Accepted 7 1) ∷ packed (Refused Bound (At 5)) ∷ packed (Refused False Whole) ∷ []) ∷
+    (packed (accept 7 1) ∷ packed (refuse Bound (Some 5)) ∷ packed (refuse False None) ∷ []) ∷
     -- line 2 of a text; line 3, which is unfinished; line 0
     line_of (bytes "ab\ncd\ne") 2 ∷
     line_of (bytes "ab\ncd\ne") 3 ∷

@@ -21,7 +21,8 @@ use Rattle.stab.specs.Meaning.{Assignment, truth}
 use Rattle.stab.specs.Model.{Model, listed, assignment, satisfied, check_model}
 use Rattle.stab.specs.Keeps.{Within, KeepsSchema, KeepsPair}
 use Rattle.stab.specs.Occurs.{Occurs, OccursIn, Wire, occurring, Ascends, KeepsList, HasList, HasListOfWires, table, listing, HasModel, HasModelOfWires}
-use Rattle.stab.specs.declared.Verdict.TheVariants.{Accepted}
+use Rattle.stab.specs.Finding.{accept}
+use Rattle.std.specs.Prelude.{Ok}
 use Rattle.stab.proofs.Bools.{same_test}
 use Rattle.stab.proofs.Whole.{le_z_of, of_le_z}
 use Rattle.stab.proofs.Trees.{below_nat}
@@ -133,7 +134,7 @@ occurs_in_range S K n h s z p =
 
 -- a list that makes the schema true is accepted at an n in range, if the schema is well formed
 list_accepted : (S : Schema) (n : ℤ) → 4 * S.rows ≤ length S.table → S.rows ≤ 1024 → KeepsSchema S → Within S.least (pos 9999) n
-    → (pairs : List ℤ) (pair_rows : ℕ) → KeepsList S (nat n) pairs pair_rows → check_model (listing S n pairs pair_rows) ≡ Accepted 0 0
+    → (pairs : List ℤ) (pair_rows : ℕ) → KeepsList S (nat n) pairs pair_rows → check_model (listing S n pairs pair_rows) ≡ accept 0 0
 unfolding satisfied assignment
 list_accepted S n held limit K range pairs pair_rows L =
     (model_accepts_exactly (listing S n pairs pair_rows)).1 (record {
@@ -150,7 +151,7 @@ list_accepted S n held limit K range pairs pair_rows L =
 -- wires that occur, ascending and few enough, are an accepted model if they make the schema true
 pub wires_accepted : (S : Schema) (n : ℤ) → 4 * S.rows ≤ length S.table → S.rows ≤ 1024 → KeepsSchema S → Within S.least (pos 9999) n
     → (ws : List Wire) → length ws ≤ 4096 → Ascends ws → ((w : Wire) → Memᴰ w ws → OccursIn S (nat n) w.symbol w.index)
-    → truth (listed (table ws) (length ws)) (nat n) (schema_formula S) ≡ true → check_model (listing S n (table ws) (length ws)) ≡ Accepted 0 0
+    → truth (listed (table ws) (length ws)) (nat n) (schema_formula S) ≡ true → check_model (listing S n (table ws) (length ws)) ≡ accept 0 0
 wires_accepted S n held limit K range ws few a occur t =
     list_accepted S n held limit K range (table ws) (length ws) (record {
       held = omega (arith, table_length ws);
@@ -160,7 +161,7 @@ wires_accepted S n held limit K range ws few a occur t =
     })
 
 -- where a model is accepted, so is one of the same schema at the same n that lists only pairs which occur
-pub only_wires : (M : Model) → check_model M ≡ Accepted 0 0 → HasModelOfWires M.schema M.n
+pub only_wires : (M : Model) → check_model M ≡ accept 0 0 → HasModelOfWires M.schema M.n
 unfolding satisfied assignment
 only_wires M h =
     let K = (model_accepts_exactly M).0 h in

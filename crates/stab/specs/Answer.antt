@@ -1,20 +1,13 @@
 -- The paper's numbers for every case of every answer, and the one number that provers get.
-use Rattle.std.specs.Prelude.{ℕ, ◌+◌, ◌*◌, ◌/◌, ◌%◌, ◌<◌, ℤ, pos, neg_ℤ, ◌+ℤ◌, ◌-ℤ◌}
+use Rattle.std.specs.Prelude.{ℕ, ◌+◌, ◌*◌, ◌/◌, ◌%◌, ◌<◌, ℤ, pos, neg_ℤ, ◌+ℤ◌, ◌-ℤ◌, None, Some, Ok, Err, Result}
 use Rattle.stab.specs.Basic.{nat}
-use Rattle.stab.specs.declared.Place.{Place}
-use Rattle.stab.specs.declared.Place.TheVariants.{Whole, At}
+use Rattle.stab.specs.declared.ModelHeader.{ModelHeader}
+use Rattle.stab.specs.declared.ProofCounts.{ProofCounts}
+use Rattle.stab.specs.declared.SchemaHeader.{SchemaHeader}
+use Rattle.stab.specs.declared.Refused.{Refused}
+use Rattle.stab.specs.Finding.{Place, Verdict, accept, refuse}
 use Rattle.stab.specs.declared.Refusal.{Refusal}
 use Rattle.stab.specs.declared.Refusal.TheVariants.{TextTooLong, TableTooShort, Heading, Line, TooMany, Root, IllFormed, TooLarge, Set, Parent, Drawn, Fields, Target, Bound, Partner, Lowered, Children, Pair, Width, False, Number, Output, Repeated, Wires, Plain, Leasts, Joint, Room, NoRow, Waiting, NotListed}
-use Rattle.stab.specs.declared.Verdict.{Verdict}
-use Rattle.stab.specs.declared.Verdict.TheVariants.{Accepted, Refused}
-use Rattle.stab.specs.declared.SchemaRead.{SchemaRead}
-use Rattle.stab.specs.declared.SchemaRead.TheVariants.{Schema, Refused as SchemaRefused}
-use Rattle.stab.specs.declared.ProofRead.{ProofRead}
-use Rattle.stab.specs.declared.ProofRead.TheVariants.{Proof, Refused as ProofRefused}
-use Rattle.stab.specs.declared.ModelRead.{ModelRead}
-use Rattle.stab.specs.declared.ModelRead.TheVariants.{Model, Refused as ModelRefused}
-use Rattle.stab.specs.declared.Written.{Written}
-use Rattle.stab.specs.declared.Written.TheVariants.{Text, Refused as WriteRefused}
 
 -- ---- numbers of refusals and places
 
@@ -52,8 +45,8 @@ refusal_number Wires = 30
 refusal_number NotListed = 31
 
 abbrev pub place_number : Place → ℤ
-place_number Whole = neg_ℤ (pos 1)
-place_number (At k) = pos k
+place_number None = neg_ℤ (pos 1)
+place_number (Some k) = pos k
 
 -- ---- an answer in numbers: "Every refusal gives its number, a place and zero counts." "Acceptance gives .., place 0. Other successes also have place 0"
 
@@ -68,8 +61,8 @@ unfoldable pub refused_numbers : Refusal → Place → Numbers
 refused_numbers why p = record { answer = refusal_number why; place = place_number p; nodes = 0; links = 0 }
 
 unfoldable pub verdict_numbers : Verdict → Numbers
-verdict_numbers (Accepted nodes links) = record { answer = 0; place = pos 0; nodes = nodes; links = links }
-verdict_numbers (Refused why p) = refused_numbers why p
+verdict_numbers (Ok c) = record { answer = 0; place = pos 0; nodes = c.nodes; links = c.links }
+verdict_numbers (Err r) = refused_numbers r.why r.place
 
 -- "reading gives root and least, or n, and the numbers of formula, pair or node rows and of members, all 0 on refusal"
 pub record SchemaNumbers : Type 0 where
@@ -79,9 +72,9 @@ pub record SchemaNumbers : Type 0 where
   pub least : ℤ
   pub rows : ℕ
 
-unfoldable pub schema_numbers : SchemaRead → SchemaNumbers
-schema_numbers (Schema root least rows) = record { answer = 0; place = pos 0; root = root; least = least; rows = rows }
-schema_numbers (SchemaRefused why p) = record { answer = refusal_number why; place = place_number p; root = pos 0; least = pos 0; rows = 0 }
+unfoldable pub schema_numbers : Result SchemaHeader Refused → SchemaNumbers
+schema_numbers (Ok c) = record { answer = 0; place = pos 0; root = c.root; least = c.least; rows = c.rows }
+schema_numbers (Err r) = record { answer = refusal_number r.why; place = place_number r.place; root = pos 0; least = pos 0; rows = 0 }
 
 pub record ProofNumbers : Type 0 where
   pub answer : ℕ
@@ -90,9 +83,9 @@ pub record ProofNumbers : Type 0 where
   pub nodes : ℕ
   pub members : ℕ
 
-unfoldable pub proof_numbers : ProofRead → ProofNumbers
-proof_numbers (Proof rows nodes members) = record { answer = 0; place = pos 0; rows = rows; nodes = nodes; members = members }
-proof_numbers (ProofRefused why p) = record { answer = refusal_number why; place = place_number p; rows = 0; nodes = 0; members = 0 }
+unfoldable pub proof_numbers : Result ProofCounts Refused → ProofNumbers
+proof_numbers (Ok c) = record { answer = 0; place = pos 0; rows = c.rows; nodes = c.nodes; members = c.members }
+proof_numbers (Err r) = record { answer = refusal_number r.why; place = place_number r.place; rows = 0; nodes = 0; members = 0 }
 
 pub record ModelNumbers : Type 0 where
   pub answer : ℕ
@@ -100,9 +93,9 @@ pub record ModelNumbers : Type 0 where
   pub n : ℤ
   pub pairs : ℕ
 
-unfoldable pub model_numbers : ModelRead → ModelNumbers
-model_numbers (Model n pairs) = record { answer = 0; place = pos 0; n = n; pairs = pairs }
-model_numbers (ModelRefused why p) = record { answer = refusal_number why; place = place_number p; n = pos 0; pairs = 0 }
+unfoldable pub model_numbers : Result ModelHeader Refused → ModelNumbers
+model_numbers (Ok c) = record { answer = 0; place = pos 0; n = c.n; pairs = c.pairs }
+model_numbers (Err r) = record { answer = refusal_number r.why; place = place_number r.place; n = pos 0; pairs = 0 }
 
 -- "writing gives the bytes"
 pub record WrittenNumbers : Type 0 where
@@ -110,9 +103,9 @@ pub record WrittenNumbers : Type 0 where
   pub place : ℤ
   pub bytes : ℕ
 
-unfoldable pub written_numbers : Written → WrittenNumbers
-written_numbers (Text n) = record { answer = 0; place = pos 0; bytes = n }
-written_numbers (WriteRefused why p) = record { answer = refusal_number why; place = place_number p; bytes = 0 }
+unfoldable pub written_numbers : Result ℕ Refused → WrittenNumbers
+written_numbers (Ok n) = record { answer = 0; place = pos 0; bytes = n }
+written_numbers (Err r) = record { answer = refusal_number r.why; place = place_number r.place; bytes = 0 }
 
 -- ---- the one number: "((answer × 8192 + place + 1) × 8192 + nodes) × 8192 + links"
 
@@ -140,11 +133,14 @@ numbers_in x = record { answer = answer_in x; place = place_in x; nodes = nodes_
 
 -- place + 1 as a natural number
 abbrev pub place_code : Place → ℕ
-place_code Whole = 0
-place_code (At k) = k + 1
+place_code None = 0
+place_code (Some k) = k + 1
 
 -- no part of the one number runs into another: each is below 8192
+abbrev pub PlacePacks : Place → Type 0
+PlacePacks None = Unit {0}
+PlacePacks (Some k) = k + 1 < 8192
+
 abbrev pub Packs : Verdict → Type 0
-Packs (Accepted nodes links) = (nodes < 8192) × (links < 8192)
-Packs (Refused why Whole) = Unit {0}
-Packs (Refused why (At k)) = k + 1 < 8192
+Packs (Ok c) = (c.nodes < 8192) × (c.links < 8192)
+Packs (Err r) = PlacePacks r.place

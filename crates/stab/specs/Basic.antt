@@ -1,11 +1,9 @@
 -- What the paper takes for granted: conjunction and choice, tests on whole numbers, counting and searching below a number.
-use Rattle.std.specs.Prelude.{ℕ, zero, suc, Bool, true, false, List, [], ◌∷◌, eqb, ℤ, pos, negsuc, if◌then◌else◌}
+use Rattle.std.specs.Prelude.{ℕ, zero, suc, Bool, true, false, List, [], ◌∷◌, eqb, ℤ, pos, negsuc, if◌then◌else◌, Ok, Err}
 use Rattle.std.proofs.Math.Option.{Option, none, or_else}
 use Rattle.std.specs.Int.Signed.{le_z, lt_z}
-use Rattle.stab.specs.declared.Place.{Place}
+use Rattle.stab.specs.Finding.{Place, Finding, no_refusal, refuse}
 use Rattle.stab.specs.declared.Refusal.{Refusal}
-use Rattle.stab.specs.declared.Finding.{Finding}
-use Rattle.stab.specs.declared.Finding.TheVariants.{Nothing, Found}
 
 infixr 35 ◌and◌
 unfoldable pub ◌and◌ : Bool → Bool → Bool
@@ -72,18 +70,18 @@ count p (suc n) = if p n then suc (count p n) else count p n
 -- the first finding, if there is one
 infixr 25 ◌otherwise◌
 unfoldable pub ◌otherwise◌ : Finding → Finding → Finding
-Nothing otherwise y = y
-Found why place otherwise y = Found why place
+Ok u otherwise y = y
+Err r otherwise y = Err r
 
 -- the first finding among f 0, f 1, .. f (n - 1)
 unfoldable pub scan : (ℕ → Finding) → ℕ → Finding
-scan f zero = Nothing
+scan f zero = no_refusal
 scan f (suc n) = scan f n otherwise f n
 
 -- a refusal where the test fails
 unfoldable pub unless : Bool → Refusal → Place → Finding
-unless true why place = Nothing
-unless false why place = Found why place
+unless true why place = no_refusal
+unless false why place = refuse why place
 
 -- the first that is there among f 0, f 1, .. f (n - 1)
 unfoldable pub first : {A : Type 0} → (ℕ → Option A) → ℕ → Option A

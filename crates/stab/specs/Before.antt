@@ -9,8 +9,7 @@ use Rattle.stab.specs.Node.{Tableau, Node, rows, row_count, row, formula, node_a
 use Rattle.stab.specs.Rule.{of_rule, drawn, fields_fit, target_fits, unfold_fits, clash_fits, bound_fits, shortened, partners_fit, lowered_fits, children_fit}
 use Rattle.stab.specs.Check.{whole_unless, at_unless, formulas_refusal, set_refusal, parent_refusal, tables_hold, within_limits, enough_nodes, verdict_on}
 use Rattle.stab.specs.declared.Refusal.TheVariants.{TableTooShort, TooMany, Parent, Drawn, Fields, Target, Bound, Partner, Lowered, Children}
-use Rattle.stab.specs.declared.Verdict.{Verdict}
-use Rattle.stab.specs.declared.Finding.{Finding}
+use Rattle.stab.specs.Finding.{Verdict, Finding}
 
 -- ---- a check by six tests
 

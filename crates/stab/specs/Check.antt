@@ -1,25 +1,21 @@
 -- 01, "Turning records away": checking tables; 02, Nos. 7 and 9. The order of refusals is the order of the lines below.
-use Rattle.std.specs.Prelude.{ℕ, zero, suc, ◌*◌, Bool, true, false, not, List, leb, eqb, ltb, ℤ, pos, length, if◌then◌else◌}
+use Rattle.std.specs.Prelude.{ℕ, zero, suc, ◌*◌, Bool, true, false, not, List, leb, eqb, ltb, ℤ, pos, length, if◌then◌else◌, None, Some, Ok, Err}
 use Rattle.stab.specs.Basic.{◌and◌, ◌or◌, ◌implies◌, eq_z, within, nat, below, count, ◌otherwise◌, scan, unless}
 use Rattle.stab.specs.Formula.{Row, row_at, Schema, tree, is_outer, well_formed, small_enough}
 use Rattle.stab.specs.Node.{Tableau, rows, row_count, set_end, set_fits, parent_fits, node_at}
 use Rattle.stab.specs.Rule.{of_rule, drawn, fields_fit, target_fits, bound_fits, partners_fit, lowered_fits, children_as}
 use Rattle.stab.specs.declared.Mode.{Mode}
-use Rattle.stab.specs.declared.Place.TheVariants.{Whole, At}
+use Rattle.stab.specs.Finding.{Finding, no_refusal, refuse, Verdict, accept}
 use Rattle.stab.specs.declared.Refusal.{Refusal}
 use Rattle.stab.specs.declared.Refusal.TheVariants.{TableTooShort, TooMany, Root, IllFormed, TooLarge, Set, Parent, Drawn, Fields, Target, Bound, Partner, Lowered, Children, Repeated}
-use Rattle.stab.specs.declared.Finding.{Finding}
-use Rattle.stab.specs.declared.Finding.TheVariants.{Nothing, Found}
-use Rattle.stab.specs.declared.Verdict.{Verdict}
-use Rattle.stab.specs.declared.Verdict.TheVariants.{Accepted, Refused}
 
 -- a refusal of the whole record, unless the test passes
 unfoldable pub whole_unless : Bool → Refusal → Finding
-whole_unless ok why = unless ok why Whole
+whole_unless ok why = unless ok why None
 
 -- a refusal at a row, node or line, unless the test passes
 unfoldable pub at_unless : Bool → Refusal → ℕ → Finding
-at_unless ok why k = unless ok why (At k)
+at_unless ok why k = unless ok why (Some k)
 
 -- a table holds the rows that its count says, each of w numbers
 unfoldable pub holds : List ℤ → ℕ → ℕ → Bool
@@ -140,12 +136,12 @@ link_count T = count (is_link T.nodes) T.node_rows
 
 -- the refusal found, or else the verdict given
 unfoldable pub verdict : Finding → Verdict → Verdict
-verdict Nothing v = v
-verdict (Found why place) v = Refused why place
+verdict (Ok u) v = v
+verdict (Err r) v = Err r
 
 -- "Acceptance gives the number of nodes and of rule 8 rows"
 unfoldable pub verdict_on : Finding → Tableau → Verdict
-verdict_on found T = verdict found (Accepted T.node_rows (link_count T))
+verdict_on found T = verdict found (accept T.node_rows (link_count T))
 
 -- the check
 unfoldable pub check : Tableau → Verdict

@@ -1,34 +1,29 @@
 -- What the text entries give: the one number, and the numbers that were read, in lent results; of two texts also where a refusal points.
-use Rattle.std.specs.Prelude.{ℕ, ◌+◌, ◌*◌, ◌/◌, ◌%◌, ◌≤◌, List, [], ◌∷◌, eqb, ℤ, pos, if◌then◌else◌}
+use Rattle.std.specs.Prelude.{ℕ, ◌+◌, ◌*◌, ◌/◌, ◌%◌, ◌≤◌, List, [], ◌∷◌, eqb, ℤ, pos, if◌then◌else◌, Err, Result, Ok}
 use Rattle.stab.specs.Answer.{WrittenNumbers, one_number, packed, answer_in, place_in, Packs, schema_numbers, proof_numbers, model_numbers, written_numbers}
-use Rattle.stab.specs.declared.Verdict.{Verdict}
-use Rattle.stab.specs.declared.Verdict.TheVariants.{Refused}
-use Rattle.stab.specs.declared.SchemaRead.{SchemaRead}
-use Rattle.stab.specs.declared.SchemaRead.TheVariants.{Schema, Refused as SchemaRefused}
-use Rattle.stab.specs.declared.ProofRead.{ProofRead}
-use Rattle.stab.specs.declared.ProofRead.TheVariants.{Proof, Refused as ProofRefused}
-use Rattle.stab.specs.declared.ModelRead.{ModelRead}
-use Rattle.stab.specs.declared.ModelRead.TheVariants.{Model, Refused as ModelRefused}
+use Rattle.stab.specs.declared.ModelHeader.{ModelHeader}
+use Rattle.stab.specs.declared.ProofCounts.{ProofCounts}
+use Rattle.stab.specs.declared.SchemaHeader.{SchemaHeader}
+use Rattle.stab.specs.declared.Refused.{Refused}
+use Rattle.stab.specs.Finding.{Verdict, refuse}
 use Rattle.stab.specs.declared.Fault.{Fault}
-use Rattle.stab.specs.declared.Written.{Written}
-use Rattle.stab.specs.declared.Written.TheVariants.{Text, Refused as WriteRefused}
 
 -- ---- the one number: answer and place as in a check's, both counts 0
 
 unfoldable pub without_counts : ℕ → ℤ → ℕ
 without_counts answer place = one_number (record { answer = answer; place = place; nodes = 0; links = 0 })
 
-unfoldable pub schema_packed : SchemaRead → ℕ
+unfoldable pub schema_packed : Result SchemaHeader Refused → ℕ
 schema_packed r = let a = schema_numbers r in without_counts a.answer a.place
 
-unfoldable pub proof_packed : ProofRead → ℕ
+unfoldable pub proof_packed : Result ProofCounts Refused → ℕ
 proof_packed r = let a = proof_numbers r in without_counts a.answer a.place
 
-unfoldable pub model_packed : ModelRead → ℕ
+unfoldable pub model_packed : Result ModelHeader Refused → ℕ
 model_packed r = let a = model_numbers r in without_counts a.answer a.place
 
 -- the bytes stand where a check's two counts do
-unfoldable pub written_packed : Written → ℕ
+unfoldable pub written_packed : Result ℕ Refused → ℕ
 written_packed w = let a = written_numbers w in without_counts a.answer a.place + a.bytes
 
 -- read back as zorambi_bytes of include/zorambi.h does
@@ -36,35 +31,35 @@ unfoldable pub written_in : ℕ → WrittenNumbers
 written_in x = record { answer = answer_in x; place = place_in x; bytes = x % 67108864 }
 
 -- what is read is within the limits, and a refusal's place fits
-abbrev pub SchemaFits : SchemaRead → Type 0
-SchemaFits (Schema root least rows) = rows ≤ 1024
-SchemaFits (SchemaRefused why p) = Packs (Refused why p)
+abbrev pub SchemaFits : Result SchemaHeader Refused → Type 0
+SchemaFits (Ok c) = c.rows ≤ 1024
+SchemaFits (Err r) = Packs (Err r)
 
-abbrev pub ProofFits : ProofRead → Type 0
-ProofFits (Proof rows nodes members) = (rows ≤ 1024) × (nodes ≤ 1024) × (members ≤ 8192)
-ProofFits (ProofRefused why p) = Packs (Refused why p)
+abbrev pub ProofFits : Result ProofCounts Refused → Type 0
+ProofFits (Ok c) = (c.rows ≤ 1024) × (c.nodes ≤ 1024) × (c.members ≤ 8192)
+ProofFits (Err r) = Packs (Err r)
 
-abbrev pub ModelFits : ModelRead → Type 0
-ModelFits (Model n pairs) = pairs ≤ 4096
-ModelFits (ModelRefused why p) = Packs (Refused why p)
+abbrev pub ModelFits : Result ModelHeader Refused → Type 0
+ModelFits (Ok c) = c.pairs ≤ 4096
+ModelFits (Err r) = Packs (Err r)
 
 -- the bytes stay below the place
-abbrev pub WrittenFits : Written → Type 0
-WrittenFits (Text n) = n ≤ 65536
-WrittenFits (WriteRefused why p) = Packs (Refused why p)
+abbrev pub WrittenFits : Result ℕ Refused → Type 0
+WrittenFits (Ok n) = n ≤ 65536
+WrittenFits (Err r) = Packs (Err r)
 
 -- ---- the lent results: "all 0 on refusal"
 
 -- root, least, rows
-unfoldable pub schema_results : SchemaRead → List ℤ
+unfoldable pub schema_results : Result SchemaHeader Refused → List ℤ
 schema_results r = let a = schema_numbers r in a.root ∷ a.least ∷ pos a.rows ∷ []
 
 -- rows, nodes, members
-unfoldable pub proof_results : ProofRead → List ℤ
+unfoldable pub proof_results : Result ProofCounts Refused → List ℤ
 proof_results r = let a = proof_numbers r in pos a.rows ∷ pos a.nodes ∷ pos a.members ∷ []
 
 -- n, pairs
-unfoldable pub model_results : ModelRead → List ℤ
+unfoldable pub model_results : Result ModelHeader Refused → List ℤ
 model_results r = let a = model_numbers r in a.n ∷ pos a.pairs ∷ []
 
 -- ---- where a refusal points, as a number: twice the line, and 1 more in the second text; line 0 is none

@@ -1,4 +1,5 @@
 -- Document 01 as definitions, in its own order.
+pub mod Finding
 pub mod Basic
 pub mod Formula
 pub mod Meaning

@@ -1,14 +1,12 @@
 -- 01, "Model, texts, lines", first paragraph, and "Turning records away": checking a model.
-use Rattle.std.specs.Prelude.{ℕ, zero, suc, ◌+◌, ◌*◌, Bool, true, false, List, leb, ℤ, pos, neg_ℤ, get_or}
+use Rattle.std.specs.Prelude.{ℕ, zero, suc, ◌+◌, ◌*◌, Bool, true, false, List, leb, ℤ, pos, neg_ℤ, get_or, Ok}
 use Rattle.std.specs.Int.Signed.{le_z, lt_z}
 use Rattle.stab.specs.Basic.{◌and◌, ◌or◌, eq_z, within, nat, ◌otherwise◌, scan}
 use Rattle.stab.specs.Formula.{Schema, schema_formula}
 use Rattle.stab.specs.Meaning.{Assignment, truth}
 use Rattle.stab.specs.Check.{whole_unless, at_unless, holds, schema_refusal, verdict}
 use Rattle.stab.specs.declared.Refusal.TheVariants.{TableTooShort, TooMany, Pair, Width, False}
-use Rattle.stab.specs.declared.Verdict.{Verdict}
-use Rattle.stab.specs.declared.Verdict.TheVariants.{Accepted}
-use Rattle.stab.specs.declared.Finding.{Finding}
+use Rattle.stab.specs.Finding.{Verdict, accept, Finding}
 
 -- What the model check is lent: a schema, n and a table of pairs, with how many pairs it is said to hold.
 pub record Model : Type 0 where
@@ -69,4 +67,4 @@ model_refusal M =
 
 -- "a model has both counts 0"
 unfoldable pub check_model : Model → Verdict
-check_model M = verdict (model_refusal M) (Accepted 0 0)
+check_model M = verdict (model_refusal M) (accept 0 0)

@@ -1,5 +1,5 @@
 -- 01, "A whole record, and its neighbours": what the programs print; "Model, texts, lines": where a refusal points.
-use Rattle.std.specs.Prelude.{ℕ, ◌/◌, Bool, true, false, List, [], ◌∷◌, ◌++◌, leb, ltb, pos, length, if◌then◌else◌}
+use Rattle.std.specs.Prelude.{ℕ, ◌/◌, Bool, true, false, List, [], ◌∷◌, ◌++◌, leb, ltb, pos, length, if◌then◌else◌, None, Some, Ok, Err}
 use Rattle.stab.specs.Basic.{◌and◌}
 use Rattle.stab.specs.Node.{Tableau}
 use Rattle.stab.specs.Check.{check_as}
@@ -8,10 +8,8 @@ use Rattle.stab.specs.Text.{bytes, heading_line, row_line, padded}
 use Rattle.stab.specs.Read.{Reading, read, stopped, SchemaText, ProofText, ModelText, read_schema, read_proof, read_model}
 use Rattle.stab.specs.LineNumber.{schema_row_line, proof_row_line, node_line, pair_line}
 use Rattle.stab.specs.Answer.{Numbers, refusal_number, verdict_numbers}
-use Rattle.stab.specs.declared.Place.TheVariants.{Whole, At}
+use Rattle.stab.specs.Finding.{Place, Verdict, accept, refuse}
 use Rattle.stab.specs.declared.Refusal.{Refusal}
-use Rattle.stab.specs.declared.Verdict.{Verdict}
-use Rattle.stab.specs.declared.Verdict.TheVariants.{Accepted, Refused}
 use Rattle.stab.specs.declared.Fault.{Fault}
 
 -- "prints `answer place nodes links`, then" the four numbers. "Each line ends with byte 10."
@@ -44,8 +42,8 @@ model_of s m = record {
 -- "A text refused in reading, the schema's first, is printed the same way with counts 0, and nothing is checked."
 unfoldable pub after_reading : {A B : Type 0} → (A → B → Verdict) → Reading A → Reading B → Verdict
 after_reading judge (read a) (read b) = judge a b
-after_reading judge (read a) (stopped why k) = Refused why (At k)
-after_reading judge (stopped why k) r = Refused why (At k)
+after_reading judge (read a) (stopped why k) = refuse why (Some k)
+after_reading judge (stopped why k) r = refuse why (Some k)
 
 -- the check's verdict on a schema text and a proof text; if `older` holds, that of the check for older records
 unfoldable pub check_texts : Bool → List ℕ → List ℕ → Verdict
@@ -94,10 +92,13 @@ check_points S P why k =
 unfoldable pub model_points : Refusal → ℕ → Fault
 model_points why k = if among 7 8 why then in_first (schema_row_line k) else if among 18 18 why then in_second (pair_line k) else no_fault
 
+unfoldable pub place_fault : (ℕ → Fault) → Place → Fault
+place_fault points None = no_fault
+place_fault points (Some k) = points k
+
 unfoldable pub verdict_fault : (Refusal → ℕ → Fault) → Verdict → Fault
-verdict_fault points (Accepted nodes links) = no_fault
-verdict_fault points (Refused why Whole) = no_fault
-verdict_fault points (Refused why (At k)) = points why k
+verdict_fault points (Ok c) = no_fault
+verdict_fault points (Err r) = place_fault (points r.why) r.place
 
 -- a text refused in reading, the schema's first: the place is the line, and 0, which is no line, for the whole text or a table
 unfoldable pub fault_after_reading : {A B : Type 0} → (A → B → Fault) → Reading A → Reading B → Fault

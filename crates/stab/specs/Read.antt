@@ -1,18 +1,16 @@
 -- 01, "Turning records away": reading a text. What is read, or the refusal and its line; and what the lent tables then hold.
-use Rattle.std.specs.Prelude.{ℕ, suc, ◌+◌, ◌-◌, ◌/◌, Bool, true, false, List, [], ◌∷◌, ◌++◌, leb, eqb, ℤ, pos, length, take, drop, get_or, if◌then◌else◌}
+use Rattle.std.specs.Prelude.{ℕ, suc, ◌+◌, ◌-◌, ◌/◌, Bool, true, false, List, [], ◌∷◌, ◌++◌, leb, eqb, ℤ, pos, length, take, drop, get_or, if◌then◌else◌, Some, Result, Ok, Err}
 use Rattle.std.proofs.Math.Option.{Option, none, some}
 use Rattle.stab.specs.Basic.{◌and◌}
 use Rattle.stab.specs.Text.{Line, lines, same_bytes, numbers, schema_heading, row_heading, node_heading, model_heading, pair_heading, text_limit, padded}
-use Rattle.stab.specs.declared.Place.TheVariants.{At}
+use Rattle.stab.specs.declared.ModelHeader.{ModelHeader}
+use Rattle.stab.specs.declared.ProofCounts.{ProofCounts}
+use Rattle.stab.specs.Finding.{refuse}
+use Rattle.stab.specs.declared.SchemaHeader.{SchemaHeader}
+use Rattle.stab.specs.declared.Refused.{Refused}
 use Rattle.stab.specs.declared.Refusal.{Refusal}
 use Rattle.stab.specs.declared.Refusal.TheVariants.{TextTooLong, TableTooShort, Heading, TooMany}
 use Rattle.stab.specs.declared.Refusal.TheVariants.{Line as BadLine}
-use Rattle.stab.specs.declared.SchemaRead.{SchemaRead}
-use Rattle.stab.specs.declared.SchemaRead.TheVariants.{Schema, Refused as SchemaRefused}
-use Rattle.stab.specs.declared.ProofRead.{ProofRead}
-use Rattle.stab.specs.declared.ProofRead.TheVariants.{Proof, Refused as ProofRefused}
-use Rattle.stab.specs.declared.ModelRead.{ModelRead}
-use Rattle.stab.specs.declared.ModelRead.TheVariants.{Model, Refused as ModelRefused}
 
 -- What reading comes to: what was read, or a refusal at a line.
 pub data Reading (A : Type 0) : Type 0 where
@@ -161,16 +159,16 @@ unfoldable pub table_of : {A : Type 0} → (A → List ℤ) → ℕ → Reading 
 table_of part n (read a) = padded (pos 0) n (part a)
 table_of part n (stopped why k) = padded (pos 0) n []
 
-unfoldable pub schema_answer : Reading SchemaText → SchemaRead
-schema_answer (read s) = Schema s.root s.least (length s.table / 4)
-schema_answer (stopped why k) = SchemaRefused why (At k)
+unfoldable pub schema_answer : Reading SchemaText → Result SchemaHeader Refused
+schema_answer (read s) = Ok (record { root = s.root; least = s.least; rows = length s.table / 4 })
+schema_answer (stopped why k) = refuse why (Some k)
 
 unfoldable pub schema_table : ℕ → Reading SchemaText → List ℤ
 schema_table n r = table_of (λ s. s.table) n r
 
-unfoldable pub proof_answer : Reading ProofText → ProofRead
-proof_answer (read p) = Proof (length p.table / 4) (length p.nodes / 9) (length p.members)
-proof_answer (stopped why k) = ProofRefused why (At k)
+unfoldable pub proof_answer : Reading ProofText → Result ProofCounts Refused
+proof_answer (read p) = Ok (record { rows = length p.table / 4; nodes = length p.nodes / 9; members = length p.members })
+proof_answer (stopped why k) = refuse why (Some k)
 
 unfoldable pub proof_table : ℕ → Reading ProofText → List ℤ
 proof_table n r = table_of (λ p. p.table) n r
@@ -181,9 +179,9 @@ node_table n r = table_of (λ p. p.nodes) n r
 unfoldable pub member_table : ℕ → Reading ProofText → List ℤ
 member_table n r = table_of (λ p. p.members) n r
 
-unfoldable pub model_answer : Reading ModelText → ModelRead
-model_answer (read m) = Model m.n (length m.table / 2)
-model_answer (stopped why k) = ModelRefused why (At k)
+unfoldable pub model_answer : Reading ModelText → Result ModelHeader Refused
+model_answer (read m) = Ok (record { n = m.n; pairs = length m.table / 2 })
+model_answer (stopped why k) = refuse why (Some k)
 
 unfoldable pub pair_table : ℕ → Reading ModelText → List ℤ
 pair_table n r = table_of (λ m. m.table) n r

@@ -1,10 +1,10 @@
 -- The buyer's demand 3: what an accepted tableau, and what an accepted model, says of its schema.
-use Rattle.std.specs.Prelude.{ℕ, ◌<◌, ◌≡◌, false, pos, ◌≤ℤ◌}
+use Rattle.std.specs.Prelude.{ℕ, ◌<◌, ◌≡◌, false, pos, ◌≤ℤ◌, Ok}
 use Rattle.stab.specs.Formula.{Schema, row_at, schema_formula}
 use Rattle.stab.specs.Meaning.{Assignment, truth}
 use Rattle.stab.specs.Node.{Tableau}
 use Rattle.stab.specs.Check.{check, check_older}
-use Rattle.stab.specs.declared.Verdict.TheVariants.{Accepted}
+use Rattle.stab.specs.Finding.{accept}
 
 -- "the schema is false at every natural number n from its least value upward, however large, whichever of true and false is chosen for
 -- each symbol at each whole-number index"
@@ -22,4 +22,4 @@ pub record SameSchema (T : Tableau) (S : Schema) : Type 0 where
 abbrev pub Irrefutable : Schema → Type 0
 Irrefutable S =
     (T : Tableau) → SameSchema T S → (nodes links : ℕ) →
-    (check T ≡ Accepted nodes links → ⊥) × (check_older T ≡ Accepted nodes links → ⊥)
+    (check T ≡ accept nodes links → ⊥) × (check_older T ≡ accept nodes links → ⊥)

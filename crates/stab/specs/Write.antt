@@ -1,16 +1,13 @@
 -- 01, "Turning records away": writing. The text of some rows, or the refusal; and what the lent output then holds.
-use Rattle.std.specs.Prelude.{ℕ, zero, suc, ◌*◌, Bool, true, List, [], ◌∷◌, ◌++◌, leb, ℤ, pos, length, take, drop}
+use Rattle.std.specs.Prelude.{ℕ, zero, suc, ◌*◌, Bool, true, List, [], ◌∷◌, ◌++◌, leb, ℤ, pos, length, take, drop, Result, Ok, Err}
 use Rattle.stab.specs.Basic.{◌and◌, eq_z, all_of, ◌otherwise◌}
 use Rattle.stab.specs.Node.{node_at, set_of, set_start, set_follows}
 use Rattle.stab.specs.Text.{five_digits, row_line, heading_line, schema_heading, row_heading, node_heading, model_heading, pair_heading, text_limit, padded}
 use Rattle.stab.specs.Check.{holds, whole_unless}
-use Rattle.stab.specs.declared.Place.{Place}
+use Rattle.stab.specs.declared.Refused.{Refused}
+use Rattle.stab.specs.Finding.{Place, refuse, Finding, no_refusal}
 use Rattle.stab.specs.declared.Refusal.{Refusal}
 use Rattle.stab.specs.declared.Refusal.TheVariants.{TableTooShort, TooMany, Number, Output}
-use Rattle.stab.specs.declared.Written.{Written}
-use Rattle.stab.specs.declared.Written.TheVariants.{Text, Refused}
-use Rattle.stab.specs.declared.Finding.{Finding}
-use Rattle.stab.specs.declared.Finding.TheVariants.{Nothing, Found}
 
 -- ---- the texts
 
@@ -70,8 +67,8 @@ pub data Writing : Type 0 where
   wrote : List ℕ → Writing
 
 unfoldable pub writing_of : Finding → List ℕ → Writing
-writing_of Nothing text = wrote text
-writing_of (Found why place) text = refused why place
+writing_of (Ok u) text = wrote text
+writing_of (Err r) text = refused r.why r.place
 
 unfoldable pub writing : Finding → ℕ → List ℕ → Writing
 writing why n text = writing_of (why otherwise output_refusal n text) text
@@ -100,9 +97,9 @@ write_model v t r n =
 
 -- ---- what a writer answers, and what the lent output of n bytes holds as it returns: 0 past the last byte, and all 0 after a refusal
 
-unfoldable pub written : Writing → Written
-written (refused why place) = Refused why place
-written (wrote text) = Text (length text)
+unfoldable pub written : Writing → Result ℕ Refused
+written (refused why place) = refuse why place
+written (wrote text) = Ok (length text)
 
 unfoldable pub output : ℕ → Writing → List ℕ
 output n (refused why place) = padded 0 n []

@@ -1,15 +1,10 @@
-// The answers of the paper as enums; the row of its rule table, and where a refusal points, as structs.
-// What each case means in the paper's numbers is in specs/Answer.antt.
+// What is answered: the refusals, and the numbers that an accepted text or record gives; the row of the rule table, and where a refusal points.
+// What each means in the paper's numbers is in specs/Answer.antt.
 #![tactic(auto)]
 
 pub mod heading;
 
-// Where a record is turned away: as a whole, or at a row, node or line.
-#[derive(Clone, Copy)]
-pub enum Place {
-    Whole,
-    At(usize),
-}
+ghost use Rattle.std.specs.Prelude.{◌≡◌, None, Some};
 
 // Why a record is turned away: refusals 1 to 22, and those of document 02.
 #[derive(Clone, Copy)]
@@ -47,19 +42,44 @@ pub enum Refusal {
     NotListed,
 }
 
-// The check's answer and the model check's. An accepted model has both counts 0.
+// Why and where a record is turned away: at a row, node or line, or, where `place` is none, as a whole.
 #[derive(Clone, Copy)]
-pub enum Verdict {
-    Accepted { nodes: usize, links: usize },
-    Refused { why: Refusal, place: Place },
+pub struct Refused {
+    pub why: Refusal,
+    pub place: Option<usize>,
 }
 
-// What a part of the check finds: nothing, or the refusal.
-#[derive(Clone, Copy)]
-pub enum Finding {
-    Nothing,
-    Found { why: Refusal, place: Place },
+impl Refusal {
+    // This refusal of the record as a whole.
+    pub fn whole(self) -> Refused
+        ensures { result ≡ record { why = self; place = None } }
+    {
+        Refused {
+            why: self,
+            place: None,
+        }
+    }
+
+    // This refusal at a row, node or line.
+    pub fn at(self, place: usize) -> Refused
+        ensures { result ≡ record { why = self; place = Some place } }
+    {
+        Refused {
+            why: self,
+            place: Some(place),
+        }
+    }
 }
+
+// The counts of an accepted record. An accepted model has both 0.
+#[derive(Clone, Copy)]
+pub struct Counts {
+    pub nodes: usize,
+    pub links: usize,
+}
+
+// The check's answer and the model check's.
+pub type Verdict = Result<Counts, Refused>;
 
 // The numbers that go with the lent table of a schema: how many rows it holds, the root and the least value of n.
 #[derive(Clone, Copy)]
@@ -87,39 +107,19 @@ pub struct Mode {
     pub whole: bool,
 }
 
-// What reading a schema text gives.
+// What is read of a proof text: how many rows, nodes and members it has.
 #[derive(Clone, Copy)]
-pub enum SchemaRead {
-    Schema { root: i32, least: i32, rows: usize },
-    Refused { why: Refusal, place: Place },
+pub struct ProofCounts {
+    pub rows: usize,
+    pub nodes: usize,
+    pub members: usize,
 }
 
-// What reading a proof text gives.
+// What is read of a model text: n, and how many pairs are true.
 #[derive(Clone, Copy)]
-pub enum ProofRead {
-    Proof {
-        rows: usize,
-        nodes: usize,
-        members: usize,
-    },
-    Refused {
-        why: Refusal,
-        place: Place,
-    },
-}
-
-// What reading a model text gives.
-#[derive(Clone, Copy)]
-pub enum ModelRead {
-    Model { n: i32, pairs: usize },
-    Refused { why: Refusal, place: Place },
-}
-
-// What writing a text gives.
-#[derive(Clone, Copy)]
-pub enum Written {
-    Text { bytes: usize },
-    Refused { why: Refusal, place: Place },
+pub struct ModelHeader {
+    pub n: i32,
+    pub pairs: usize,
 }
 
 // A row of the rule table: the kinds that `on` and `with` need (-1: the field is unused),

@@ -16,7 +16,7 @@ use alike::lowered;
 use branch::{node, worked};
 use fields::rules;
 use formula::kept;
-use stab::{Finding, Header, Place, Refusal};
+use stab::{Header, Refusal, Refused};
 
 // 11: the set of node j is drawn from its parent's. Node 0 has none.
 fn drawn_fits(
@@ -102,7 +102,7 @@ fn step(
     h: Header,
     j: usize,
     agreed: &mut [u32],
-) -> Finding
+) -> Result<(), Refused>
     requires j_bound { j < h.node_rows }
     requires ready { Ready (lent schema.now proof.now nodes.now members.now h) facts.now forms.now work.now }
     requires remembers { Remembers (formula_rows schema.now h.schema_rows proof.now) agreed.old × (h.schema_rows + h.proof_rows ≤ length agreed.old) }
@@ -110,42 +110,24 @@ fn step(
     ensures remembers_2 { Remembers (formula_rows schema.now h.schema_rows proof.now) agreed.new }
 {
     if !drawn_fits(schema, proof, nodes, members, work, h, j) {
-        return Finding::Found {
-            why: Refusal::Drawn,
-            place: Place::At(j),
-        };
+        return Err(Refusal::Drawn.at(j));
     }
     if !fields::fields_fit(schema, proof, nodes, members, h, j) {
-        return Finding::Found {
-            why: Refusal::Fields,
-            place: Place::At(j),
-        };
+        return Err(Refusal::Fields.at(j));
     }
     if !target_fits(nodes, j) {
-        return Finding::Found {
-            why: Refusal::Target,
-            place: Place::At(j),
-        };
+        return Err(Refusal::Target.at(j));
     }
     if !limits::bound_fits(schema, proof, nodes, work, h, j) {
-        return Finding::Found {
-            why: Refusal::Bound,
-            place: Place::At(j),
-        };
+        return Err(Refusal::Bound.at(j));
     }
     if !partners::partners_fit(schema, proof, nodes, facts, forms, h, j, agreed) {
-        return Finding::Found {
-            why: Refusal::Partner,
-            place: Place::At(j),
-        };
+        return Err(Refusal::Partner.at(j));
     }
     if !lowered_fits(schema, proof, nodes, members, forms, h, j, agreed) {
-        return Finding::Found {
-            why: Refusal::Lowered,
-            place: Place::At(j),
-        };
+        return Err(Refusal::Lowered.at(j));
     }
-    Finding::Nothing
+    Ok(())
 }
 
 // What is found of node j, in a whole record or among rows that are held.
@@ -161,26 +143,20 @@ fn judge(
     h: Header,
     j: usize,
     agreed: &mut [u32],
-) -> Finding
+) -> Result<(), Refused>
     requires j_bound { j < h.node_rows }
     requires ready { Ready (lent schema.now proof.now nodes.now members.now h) facts.now forms.now work.now }
     requires remembers { Remembers (formula_rows schema.now h.schema_rows proof.now) agreed.old × (h.schema_rows + h.proof_rows ≤ length agreed.old) }
     ensures value { result ≡ node_refusal whole (lent schema.now proof.now nodes.now members.now h) j }
     ensures remembers_2 { Remembers (formula_rows schema.now h.schema_rows proof.now) agreed.new }
 {
-    let found = step(
+    step(
         schema, proof, nodes, members, facts, forms, work, h, j, agreed,
-    );
-    let Finding::Nothing = found else {
-        return found;
-    };
+    )?;
     if !children_fit(whole, nodes, work, j) {
-        return Finding::Found {
-            why: Refusal::Children,
-            place: Place::At(j),
-        };
+        return Err(Refusal::Children.at(j));
     }
-    Finding::Nothing
+    Ok(())
 }
 
 // What is found of the nodes, ascending.
@@ -195,21 +171,16 @@ pub fn each_node(
     work: &[u32],
     h: Header,
     agreed: &mut [u32],
-) -> Finding
+) -> Result<(), Refused>
     requires ready { Ready (lent schema.now proof.now nodes.now members.now h) facts.now forms.now work.now }
     requires remembers { Remembers (formula_rows schema.now h.schema_rows proof.now) agreed.old × (h.schema_rows + h.proof_rows ≤ length agreed.old) }
     ensures value { result ≡ scan (node_refusal whole (lent schema.now proof.now nodes.now members.now h)) h.node_rows }
     ensures remembers_2 { Remembers (formula_rows schema.now h.schema_rows proof.now) agreed.new }
 {
-    let mut j: usize = 0;
-    while j < h.node_rows {
-        let found = judge(
+    for j in 0..h.node_rows {
+        judge(
             whole, schema, proof, nodes, members, facts, forms, work, h, j, agreed,
-        );
-        let Finding::Nothing = found else {
-            return found;
-        };
-        j += 1;
+        )?;
     }
-    Finding::Nothing
+    Ok(())
 }

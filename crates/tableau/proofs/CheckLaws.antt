@@ -9,12 +9,10 @@ use Rattle.stab.specs.Basic.{within, below, ◌otherwise◌, scan}
 use Rattle.stab.specs.Node.{Tableau, row_count, set_fits, parent_fits}
 use Rattle.stab.specs.Check.{whole_unless, at_unless, root_fits, formulas_refusal, set_refusal, parent_refusal, node_refusal, tables_hold, within_limits, enough_nodes, refusal}
 use Rattle.stab.specs.declared.Mode.{Mode}
-use Rattle.stab.specs.declared.Place.{Place}
-use Rattle.stab.specs.declared.Place.TheVariants.{Whole}
+use Rattle.std.specs.Prelude.{None, Ok, Err}
+use Rattle.stab.specs.Finding.{no_refusal, refuse, Place, Finding}
 use Rattle.stab.specs.declared.Refusal.{Refusal}
 use Rattle.stab.specs.declared.Refusal.TheVariants.{TableTooShort, TooMany, Parent}
-use Rattle.stab.specs.declared.Finding.{Finding}
-use Rattle.stab.specs.declared.Finding.TheVariants.{Nothing, Found}
 use Rattle.stab.proofs.Bools.{and_left, and_right, found_unless, nothing_unless, unless_nothing, otherwise_found, otherwise_first, otherwise_second, found≢nothing}
 use Rattle.stab.proofs.Scans.{nothing_scan}
 use Rattle.stab.proofs.Findings.{otherwise_assoc}
@@ -22,41 +20,41 @@ use Rattle.tableau.specs.Passes.{rows_refusal, nodes_refusal, passes_refusal, la
 
 -- ---- findings
 
-pub whole_found : (t : Bool) (why : Refusal) (rest : Finding) → t ≡ false → (Found why Whole) ≡ (whole_unless t why otherwise rest)
+pub whole_found : (t : Bool) (why : Refusal) (rest : Finding) → t ≡ false → (refuse why None) ≡ (whole_unless t why otherwise rest)
 unfolding whole_unless
 whole_found t why rest h = sym (otherwise_found (whole_unless t why) rest (found_unless t _ _ h))
 
-pub whole_passes : (t : Bool) (why : Refusal) → t ≡ true → whole_unless t why ≡ Nothing
+pub whole_passes : (t : Bool) (why : Refusal) → t ≡ true → whole_unless t why ≡ no_refusal
 unfolding whole_unless
 whole_passes t why h = nothing_unless t _ _ h
 
 -- what was found is not nothing
-pub found_some : {X : Type 0} (f : Finding) (why : Refusal) (p : Place) → f ≡ Found why p → f ≡ Nothing → X
+pub found_some : {X : Type 0} (f : Finding) (why : Refusal) (p : Place) → f ≡ refuse why p → f ≡ no_refusal → X
 found_some f why p e h = absurd (found≢nothing (sym e ∙ h))
 
 -- ---- what the passes leave where they find nothing
 
 module _ (T : Tableau) where
-  pub least_fits : (older : Bool) → rows_refusal older T ≡ Nothing → within (pos 0) (pos 9999) T.least ≡ true
+  pub least_fits : (older : Bool) → rows_refusal older T ≡ no_refusal → within (pos 0) (pos 9999) T.least ≡ true
   unfolding rows_refusal formulas_refusal root_fits whole_unless
   least_fits older h =
       and_right (below T.schema_rows T.root) _ (unless_nothing (root_fits T.schema_rows T.root T.least) _ _ (otherwise_first _ _ h))
 
   module _ (whole : Bool) where
-    pub nodes_sets : nodes_refusal whole T ≡ Nothing → scan (set_refusal T) T.node_rows ≡ Nothing
+    pub nodes_sets : nodes_refusal whole T ≡ no_refusal → scan (set_refusal T) T.node_rows ≡ no_refusal
     unfolding nodes_refusal
     nodes_sets h = otherwise_first _ _ h
 
-    pub nodes_parents : nodes_refusal whole T ≡ Nothing → scan (parent_refusal T) T.node_rows ≡ Nothing
+    pub nodes_parents : nodes_refusal whole T ≡ no_refusal → scan (parent_refusal T) T.node_rows ≡ no_refusal
     unfolding nodes_refusal
     nodes_parents h =
         otherwise_second (whole_unless (enough_nodes whole T) Parent) _ (otherwise_second (scan (set_refusal T) T.node_rows) _ h)
 
-    pub set_fits_lem : nodes_refusal whole T ≡ Nothing → (j : ℕ) → j < T.node_rows → set_fits T j ≡ true
+    pub set_fits_lem : nodes_refusal whole T ≡ no_refusal → (j : ℕ) → j < T.node_rows → set_fits T j ≡ true
     unfolding set_refusal at_unless
     set_fits_lem h j l = and_left _ _ (unless_nothing _ _ _ (nothing_scan (set_refusal T) T.node_rows (nodes_sets h) j l))
 
-    pub parent_fits_lem : nodes_refusal whole T ≡ Nothing → (j : ℕ) → j < T.node_rows → parent_fits T j ≡ true
+    pub parent_fits_lem : nodes_refusal whole T ≡ no_refusal → (j : ℕ) → j < T.node_rows → parent_fits T j ≡ true
     unfolding parent_refusal at_unless
     parent_fits_lem h j l = unless_nothing _ _ _ (nothing_scan (parent_refusal T) T.node_rows (nodes_parents h) j l)
 
@@ -75,8 +73,8 @@ module _ (T : Tableau) where
       ∙ ap (λ (x : Finding). R otherwise x) (otherwise_assoc A (B otherwise C) D ∙ ap (λ (x : Finding). A otherwise x) (otherwise_assoc B C D))))
 
   -- a record in which nothing is found has at most 1,024 nodes
-  pub few_nodes_lem : (m : Mode) → refusal m T ≡ Nothing → T.node_rows ≤ 1024
+  pub few_nodes_lem : (m : Mode) → refusal m T ≡ no_refusal → T.node_rows ≤ 1024
   unfolding whole_unless within_limits
   few_nodes_lem m h =
-      let limits = unless_nothing (within_limits T) TooMany Whole (otherwise_first _ _ (otherwise_second _ _ (sym (refusal_is m) ∙ h))) in
+      let limits = unless_nothing (within_limits T) TooMany None (otherwise_first _ _ (otherwise_second _ _ (sym (refusal_is m) ∙ h))) in
       leb-true T.node_rows 1024 (and_left _ _ (and_right (leb (row_count T) 1024) _ limits))

@@ -5,7 +5,7 @@ use Rattle.stab.specs.Node.{Tableau, rows, row_count}
 use Rattle.stab.specs.Check.{whole_unless, formulas_refusal, set_refusal, parent_refusal, node_refusal, enough_nodes}
 use Rattle.stab.specs.declared.Mode.{Mode}
 use Rattle.stab.specs.declared.Refusal.TheVariants.{Parent}
-use Rattle.stab.specs.declared.Finding.{Finding}
+use Rattle.stab.specs.Finding.{Finding}
 
 -- 6, each row, and 6 again
 unfoldable pub rows_refusal : Bool → Tableau → Finding

@@ -1,5 +1,5 @@
 // The check of a record, whole or held while it grows.
-ghost use Rattle.std.specs.Prelude.{◌≡◌, [], ℕ, ◌+◌, ◌*◌, ◌≤◌, ltb, length};
+ghost use Rattle.std.specs.Prelude.{◌≡◌, [], ℕ, ◌+◌, ◌*◌, ◌≤◌, ltb, length, Ok};
 ghost use Rattle.stab.specs.Basic.{◌implies◌, scan};
 ghost use Rattle.stab.specs.Formula.{formula_rows};
 ghost use Rattle.stab.specs.Node.{schema_of};
@@ -7,15 +7,14 @@ ghost use Rattle.stab.specs.Lent.{lent};
 ghost use Rattle.stab.specs.Check.{tables_hold, within_limits, node_refusal, refusal, held_mode, verdict_on, check_older, check_as};
 ghost use Rattle.stab.specs.Check.{check as checked};
 ghost use Rattle.stab.specs.Refuted.{Refuted};
-ghost use Rattle.stab.specs.declared.Verdict.TheVariants.{Accepted};
-ghost use Rattle.stab.specs.declared.Finding.TheVariants.{Nothing};
+ghost use Rattle.stab.specs.Finding.{accept, no_refusal};
 ghost use Rattle.formula.specs.Facts.{AllKnown, AllFormed};
 ghost use Rattle.classes.specs.Class.{AllWorked as AllClassed};
 ghost use Rattle.classes.specs.Agreed.{Remembers};
 ghost use Rattle.tableau.specs.Passes.{nodes_refusal, passes_refusal, later_refusal};
 
 use formula_pass::row_count;
-use stab::{Finding, Header, Mode, Place, Refusal, Verdict};
+use stab::{Counts, Header, Mode, Refusal, Refused, Verdict};
 
 // The tables hold what their counts say.
 fn hold(schema: &[i32], proof: &[i32], nodes: &[i32], members: &[i32], h: Header) -> bool
@@ -65,27 +64,21 @@ fn nodes_pass(
     members: &[i32],
     h: Header,
     facts: &[u32],
-) -> Finding
+) -> Result<(), Refused>
     requires proof_rows_bound { (h.schema_rows + h.proof_rows ≤ 1024) × (4 * (h.schema_rows + h.proof_rows) ≤ length facts.now) × (h.node_rows ≤ 1024) × (h.member_count ≤ length members.now) }
     requires all_known { AllKnown (formula_rows schema.now h.schema_rows proof.now) facts.now (h.schema_rows + h.proof_rows) }
     ensures { result ≡ nodes_refusal whole (lent schema.now proof.now nodes.now members.now h) }
 {
-    let found = sets::sets(
+    sets::sets(
         facts,
         row_count(h),
         nodes,
         h.node_rows,
         members,
         h.member_count,
-    );
-    let Finding::Nothing = found else {
-        return found;
-    };
+    )?;
     if !enough(whole, h.node_rows) {
-        return Finding::Found {
-            why: Refusal::Parent,
-            place: Place::Whole,
-        };
+        return Err(Refusal::Parent.whole());
     }
     sets::parents::parents(nodes, h.node_rows, members, h.root)
 }
@@ -117,16 +110,13 @@ fn passes(
     members: &[i32],
     h: Header,
     facts: &mut [u32],
-) -> Finding
+) -> Result<(), Refused>
     requires { (h.schema_rows + h.proof_rows ≤ 1024) × (4 * (h.schema_rows + h.proof_rows) ≤ length facts.old) × (h.node_rows ≤ 1024) × (h.member_count ≤ length members.now) }
     ensures value { result ≡ passes_refusal m (lent schema.now proof.now nodes.now members.now h) }
-    ensures all_known { result ≡ Nothing → AllKnown (formula_rows schema.now h.schema_rows proof.now) facts.new (h.schema_rows + h.proof_rows) }
-    ensures all_formed { result ≡ Nothing → AllFormed (formula_rows schema.now h.schema_rows proof.now) (h.schema_rows + h.proof_rows) }
+    ensures all_known { result ≡ no_refusal → AllKnown (formula_rows schema.now h.schema_rows proof.now) facts.new (h.schema_rows + h.proof_rows) }
+    ensures all_formed { result ≡ no_refusal → AllFormed (formula_rows schema.now h.schema_rows proof.now) (h.schema_rows + h.proof_rows) }
 {
-    let found = formula_pass::formulas(m.older, schema, proof, h, facts);
-    let Finding::Nothing = found else {
-        return found;
-    };
+    formula_pass::formulas(m.older, schema, proof, h, facts)?;
     nodes_pass(m.whole, schema, proof, nodes, members, h, facts)
 }
 
@@ -143,10 +133,10 @@ fn single_steps(
     sides: &mut [u32],
     work: &mut [u32],
     agreed: &mut [u32],
-) -> Finding
+) -> Result<(), Refused>
     requires proof_rows_bound { (h.schema_rows + h.proof_rows ≤ 1024) × (4 * (h.schema_rows + h.proof_rows) ≤ length forms.old) × (2 * (h.schema_rows + h.proof_rows) ≤ length sides.old) × (h.node_rows ≤ 1024) × (h.member_count ≤ 8192) × (9 * h.node_rows ≤ length nodes.now) × (h.member_count ≤ length members.now) × (4 * h.node_rows ≤ length work.old) }
     requires all_known { AllKnown (formula_rows schema.now h.schema_rows proof.now) facts.now (h.schema_rows + h.proof_rows) × AllFormed (formula_rows schema.now h.schema_rows proof.now) (h.schema_rows + h.proof_rows) }
-    requires h_value { passes_refusal m (lent schema.now proof.now nodes.now members.now h) ≡ Nothing }
+    requires h_value { passes_refusal m (lent schema.now proof.now nodes.now members.now h) ≡ no_refusal }
     requires remembers { Remembers (formula_rows schema.now h.schema_rows proof.now) agreed.old × (h.schema_rows + h.proof_rows ≤ length agreed.old) }
     ensures { result ≡ scan (node_refusal m.whole (lent schema.now proof.now nodes.now members.now h)) h.node_rows }
 {
@@ -165,15 +155,12 @@ fn small_record(
     nodes: &[i32],
     members: &[i32],
     h: Header,
-) -> Finding
+) -> Result<(), Refused>
     requires { (h.schema_rows + h.proof_rows ≤ 256) × (h.node_rows ≤ 256) × (h.member_count ≤ 8192) × (9 * h.node_rows ≤ length nodes.now) × (h.member_count ≤ length members.now) }
     ensures { result ≡ later_refusal m (lent schema.now proof.now nodes.now members.now h) }
 {
     let mut facts = [0u32; 1024];
-    let found = passes(m, schema, proof, nodes, members, h, &mut facts);
-    let Finding::Nothing = found else {
-        return found;
-    };
+    passes(m, schema, proof, nodes, members, h, &mut facts)?;
     let mut forms = [0u32; 1024];
     let mut sides = [0u32; 512];
     let mut work = [0u32; 1024];
@@ -201,15 +188,12 @@ fn large_record(
     nodes: &[i32],
     members: &[i32],
     h: Header,
-) -> Finding
+) -> Result<(), Refused>
     requires { (h.schema_rows + h.proof_rows ≤ 1024) × (h.node_rows ≤ 1024) × (h.member_count ≤ 8192) × (9 * h.node_rows ≤ length nodes.now) × (h.member_count ≤ length members.now) }
     ensures { result ≡ later_refusal m (lent schema.now proof.now nodes.now members.now h) }
 {
     let mut facts = [0u32; 4096];
-    let found = passes(m, schema, proof, nodes, members, h, &mut facts);
-    let Finding::Nothing = found else {
-        return found;
-    };
+    passes(m, schema, proof, nodes, members, h, &mut facts)?;
     let mut forms = [0u32; 4096];
     let mut sides = [0u32; 2048];
     let mut work = [0u32; 4096];
@@ -237,20 +221,14 @@ fn first_refusal(
     nodes: &[i32],
     members: &[i32],
     h: Header,
-) -> Finding
+) -> Result<(), Refused>
     ensures { result ≡ refusal m (lent schema.now proof.now nodes.now members.now h) }
 {
     if !hold(schema, proof, nodes, members, h) {
-        return Finding::Found {
-            why: Refusal::TableTooShort,
-            place: Place::Whole,
-        };
+        return Err(Refusal::TableTooShort.whole());
     }
     if !few(h) {
-        return Finding::Found {
-            why: Refusal::TooMany,
-            place: Place::Whole,
-        };
+        return Err(Refusal::TooMany.whole());
     }
     if row_count(h) <= 256 {
         if h.node_rows <= 256 {
@@ -261,7 +239,13 @@ fn first_refusal(
 }
 
 // What is found first of rows that are held: no node and missing children are no fault.
-pub fn held(schema: &[i32], proof: &[i32], nodes: &[i32], members: &[i32], h: Header) -> Finding
+pub fn held(
+    schema: &[i32],
+    proof: &[i32],
+    nodes: &[i32],
+    members: &[i32],
+    h: Header,
+) -> Result<(), Refused>
     ensures { result ≡ refusal held_mode (lent schema.now proof.now nodes.now members.now h) }
 {
     let m = Mode {
@@ -272,23 +256,21 @@ pub fn held(schema: &[i32], proof: &[i32], nodes: &[i32], members: &[i32], h: He
 }
 
 // The verdict on what was found in a record.
-fn verdict_on(found: Finding, nodes: &[i32], h: Header) -> Verdict
-    requires { found ≡ Nothing → h.node_rows ≤ 1024 }
+fn verdict_on(found: Result<(), Refused>, nodes: &[i32], h: Header) -> Verdict
+    requires { found ≡ no_refusal → h.node_rows ≤ 1024 }
     ensures { result ≡ verdict_on found (lent [] [] nodes.now [] h) }
 {
-    match found {
-        Finding::Found { why, place } => Verdict::Refused { why, place },
-        Finding::Nothing => Verdict::Accepted {
-            nodes: h.node_rows,
-            links: branch::links::links(nodes, h.node_rows),
-        },
-    }
+    found?;
+    Ok(Counts {
+        nodes: h.node_rows,
+        links: branch::links::links(nodes, h.node_rows),
+    })
 }
 
 // The check's answer. Where it accepts, the schema is false at every natural n from its least value up, under every assignment.
 pub fn check(schema: &[i32], proof: &[i32], nodes: &[i32], members: &[i32], h: Header) -> Verdict
     ensures value { result ≡ checked (lent schema.now proof.now nodes.now members.now h) }
-    ensures by_index { (n l : ℕ) → result ≡ Accepted n l → Refuted (schema_of (lent schema.now proof.now nodes.now members.now h)) }
+    ensures by_index { (n l : ℕ) → result ≡ accept n l → Refuted (schema_of (lent schema.now proof.now nodes.now members.now h)) }
 {
     let m = Mode {
         older: false,
@@ -307,7 +289,7 @@ pub fn check_older(
     h: Header,
 ) -> Verdict
     ensures value { result ≡ check_older (lent schema.now proof.now nodes.now members.now h) }
-    ensures by_index { (n l : ℕ) → result ≡ Accepted n l → Refuted (schema_of (lent schema.now proof.now nodes.now members.now h)) }
+    ensures by_index { (n l : ℕ) → result ≡ accept n l → Refuted (schema_of (lent schema.now proof.now nodes.now members.now h)) }
 {
     let m = Mode {
         older: true,

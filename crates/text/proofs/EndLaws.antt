@@ -2,11 +2,9 @@
 use Prim.Native.Nat.{ℕ, ◌*◌}
 use mathlib.Core.Path.{◌≡◌, refl, sym, ◌∙◌, ap, ap₂}
 use mathlib.Core.Bool.{true≢false}
-use mathlib.Core.List.{List, [], ◌∷◌}
+use mathlib.Core.List.{List, []}
 use lib.IntN.{ℤ, pos}
 use lib.ListN.{take, get_or}
-use types.Run.{OneOf, miss}
-use denote.Enum.Declared.{tag_of}
 use Rattle.stab.specs.Text.{Line, lines}
 use Rattle.stab.specs.Read.{Reading, read, stopped, ◌and_then◌, SchemaText, read_schema_lines, ModelText, read_model_lines, ProofText, read_proof_lines}
 use Rattle.stab.specs.declared.Refusal.{Refusal}
@@ -15,7 +13,6 @@ use Rattle.text.specs.Awaiting.{Whole, schema, model, proof, schema_with, model_
 use Rattle.text.specs.Texts.{Came}
 use Rattle.text.specs.declared.awaited.Awaited.{Awaited}
 use Rattle.text.specs.declared.awaited.Awaited.TheVariants.{Row, Pair, Formula, Node, SchemaHeading, SchemaValues, RowHeading, ModelHeading, ModelValue, PairHeading, ProofHeading, Schema, Model, Proof, NoHeading, BadLine, TooMany}
-use Rattle.text.specs.contracts.awaited.Awaited as P
 
 -- what was read of each kind of text; no text of that kind comes to anything else
 unfoldable schema_part : Reading Whole → Reading SchemaText
@@ -72,25 +69,26 @@ module _ (ls : List Line) (t u m : List ℤ) where
   unfolding schema_part
   schema_refused p why k c e = schema_came p c ∙ ap schema_part e
 
-  pub schema_other : (p : Awaited) → OneOf (0 ∷ 1 ∷ 2 ∷ 3 ∷ 4 ∷ 5 ∷ 6 ∷ 7 ∷ 8 ∷ 9 ∷ 10 ∷ 12 ∷ 13 ∷ []) (tag_of P.the_type p) → Came SchemaHeading ls p t u m → read_schema_lines ls ≡ stopped LineRefused 0
+  pub schema_other : (p : Awaited) → ((n : ℕ) → p ≡ Schema n → ⊥) → ((k : ℕ) → p ≡ NoHeading k → ⊥) → ((k : ℕ) → p ≡ BadLine k → ⊥) → ((k : ℕ) → p ≡ TooMany k → ⊥)
+      → Came SchemaHeading ls p t u m → read_schema_lines ls ≡ stopped LineRefused 0
   unfolding rest model_with schema_part ◌and_then◌
-  schema_other (Row n) e c = absurd (true≢false c.over)
-  schema_other (Pair k) e c = absurd (true≢false c.over)
-  schema_other (Formula n) e c = absurd (true≢false c.over)
-  schema_other (Node n j k) e c = absurd (true≢false c.over)
-  schema_other SchemaHeading e c = absurd (true≢false c.over)
-  schema_other SchemaValues e c = absurd (true≢false c.over)
-  schema_other RowHeading e c = absurd (true≢false c.over)
-  schema_other ModelHeading e c = absurd (true≢false c.over)
-  schema_other ModelValue e c = absurd (true≢false c.over)
-  schema_other PairHeading e c = absurd (true≢false c.over)
-  schema_other ProofHeading e c = absurd (true≢false c.over)
-  schema_other (Schema n) e c = absurd (miss (0 ∷ 1 ∷ 2 ∷ 3 ∷ 4 ∷ 5 ∷ 6 ∷ 7 ∷ 8 ∷ 9 ∷ 10 ∷ 12 ∷ 13 ∷ []) 11 tt e)
-  schema_other (Model k) e c = schema_came _ c
-  schema_other (Proof n j k) e c = schema_came _ c
-  schema_other (NoHeading k) e c = absurd (miss (0 ∷ 1 ∷ 2 ∷ 3 ∷ 4 ∷ 5 ∷ 6 ∷ 7 ∷ 8 ∷ 9 ∷ 10 ∷ 12 ∷ 13 ∷ []) 14 tt e)
-  schema_other (BadLine k) e c = absurd (miss (0 ∷ 1 ∷ 2 ∷ 3 ∷ 4 ∷ 5 ∷ 6 ∷ 7 ∷ 8 ∷ 9 ∷ 10 ∷ 12 ∷ 13 ∷ []) 15 tt e)
-  schema_other (TooMany k) e c = absurd (miss (0 ∷ 1 ∷ 2 ∷ 3 ∷ 4 ∷ 5 ∷ 6 ∷ 7 ∷ 8 ∷ 9 ∷ 10 ∷ 12 ∷ 13 ∷ []) 16 tt e)
+  schema_other (Row n) o h b m c = absurd (true≢false c.over)
+  schema_other (Pair k) o h b m c = absurd (true≢false c.over)
+  schema_other (Formula n) o h b m c = absurd (true≢false c.over)
+  schema_other (Node n j k) o h b m c = absurd (true≢false c.over)
+  schema_other SchemaHeading o h b m c = absurd (true≢false c.over)
+  schema_other SchemaValues o h b m c = absurd (true≢false c.over)
+  schema_other RowHeading o h b m c = absurd (true≢false c.over)
+  schema_other ModelHeading o h b m c = absurd (true≢false c.over)
+  schema_other ModelValue o h b m c = absurd (true≢false c.over)
+  schema_other PairHeading o h b m c = absurd (true≢false c.over)
+  schema_other ProofHeading o h b m c = absurd (true≢false c.over)
+  schema_other (Schema n) o h b m c = absurd (o n refl)
+  schema_other (Model k) o h b m c = schema_came _ c
+  schema_other (Proof n j k) o h b m c = schema_came _ c
+  schema_other (NoHeading k) o h b m c = absurd (h k refl)
+  schema_other (BadLine k) o h b m c = absurd (b k refl)
+  schema_other (TooMany k) o h b m c = absurd (m k refl)
 
   -- ---- model
 
@@ -106,25 +104,26 @@ module _ (ls : List Line) (t u m : List ℤ) where
   unfolding model_part
   model_refused p why k c e = model_came p c ∙ ap model_part e
 
-  pub model_other : (p : Awaited) → OneOf (0 ∷ 1 ∷ 2 ∷ 3 ∷ 4 ∷ 5 ∷ 6 ∷ 7 ∷ 8 ∷ 9 ∷ 10 ∷ 11 ∷ 13 ∷ []) (tag_of P.the_type p) → Came ModelHeading ls p t u m → read_model_lines ls ≡ stopped LineRefused 0
+  pub model_other : (p : Awaited) → ((k : ℕ) → p ≡ Model k → ⊥) → ((k : ℕ) → p ≡ NoHeading k → ⊥) → ((k : ℕ) → p ≡ BadLine k → ⊥) → ((k : ℕ) → p ≡ TooMany k → ⊥)
+      → Came ModelHeading ls p t u m → read_model_lines ls ≡ stopped LineRefused 0
   unfolding rest schema_with model_part ◌and_then◌
-  model_other (Row n) e c = absurd (true≢false c.over)
-  model_other (Pair k) e c = absurd (true≢false c.over)
-  model_other (Formula n) e c = absurd (true≢false c.over)
-  model_other (Node n j k) e c = absurd (true≢false c.over)
-  model_other SchemaHeading e c = absurd (true≢false c.over)
-  model_other SchemaValues e c = absurd (true≢false c.over)
-  model_other RowHeading e c = absurd (true≢false c.over)
-  model_other ModelHeading e c = absurd (true≢false c.over)
-  model_other ModelValue e c = absurd (true≢false c.over)
-  model_other PairHeading e c = absurd (true≢false c.over)
-  model_other ProofHeading e c = absurd (true≢false c.over)
-  model_other (Schema n) e c = model_came _ c
-  model_other (Model k) e c = absurd (miss (0 ∷ 1 ∷ 2 ∷ 3 ∷ 4 ∷ 5 ∷ 6 ∷ 7 ∷ 8 ∷ 9 ∷ 10 ∷ 11 ∷ 13 ∷ []) 12 tt e)
-  model_other (Proof n j k) e c = model_came _ c
-  model_other (NoHeading k) e c = absurd (miss (0 ∷ 1 ∷ 2 ∷ 3 ∷ 4 ∷ 5 ∷ 6 ∷ 7 ∷ 8 ∷ 9 ∷ 10 ∷ 11 ∷ 13 ∷ []) 14 tt e)
-  model_other (BadLine k) e c = absurd (miss (0 ∷ 1 ∷ 2 ∷ 3 ∷ 4 ∷ 5 ∷ 6 ∷ 7 ∷ 8 ∷ 9 ∷ 10 ∷ 11 ∷ 13 ∷ []) 15 tt e)
-  model_other (TooMany k) e c = absurd (miss (0 ∷ 1 ∷ 2 ∷ 3 ∷ 4 ∷ 5 ∷ 6 ∷ 7 ∷ 8 ∷ 9 ∷ 10 ∷ 11 ∷ 13 ∷ []) 16 tt e)
+  model_other (Row n) o h b m c = absurd (true≢false c.over)
+  model_other (Pair k) o h b m c = absurd (true≢false c.over)
+  model_other (Formula n) o h b m c = absurd (true≢false c.over)
+  model_other (Node n j k) o h b m c = absurd (true≢false c.over)
+  model_other SchemaHeading o h b m c = absurd (true≢false c.over)
+  model_other SchemaValues o h b m c = absurd (true≢false c.over)
+  model_other RowHeading o h b m c = absurd (true≢false c.over)
+  model_other ModelHeading o h b m c = absurd (true≢false c.over)
+  model_other ModelValue o h b m c = absurd (true≢false c.over)
+  model_other PairHeading o h b m c = absurd (true≢false c.over)
+  model_other ProofHeading o h b m c = absurd (true≢false c.over)
+  model_other (Schema n) o h b m c = model_came _ c
+  model_other (Model k) o h b m c = absurd (o k refl)
+  model_other (Proof n j k) o h b m c = model_came _ c
+  model_other (NoHeading k) o h b m c = absurd (h k refl)
+  model_other (BadLine k) o h b m c = absurd (b k refl)
+  model_other (TooMany k) o h b m c = absurd (m k refl)
 
   -- ---- proof
 
@@ -140,22 +139,23 @@ module _ (ls : List Line) (t u m : List ℤ) where
   unfolding proof_part
   proof_refused p why k c e = proof_came p c ∙ ap proof_part e
 
-  pub proof_other : (p : Awaited) → OneOf (0 ∷ 1 ∷ 2 ∷ 3 ∷ 4 ∷ 5 ∷ 6 ∷ 7 ∷ 8 ∷ 9 ∷ 10 ∷ 11 ∷ 12 ∷ []) (tag_of P.the_type p) → Came ProofHeading ls p t u m → read_proof_lines ls ≡ stopped LineRefused 0
+  pub proof_other : (p : Awaited) → ((n j k : ℕ) → p ≡ Proof n j k → ⊥) → ((k : ℕ) → p ≡ NoHeading k → ⊥) → ((k : ℕ) → p ≡ BadLine k → ⊥) → ((k : ℕ) → p ≡ TooMany k → ⊥)
+      → Came ProofHeading ls p t u m → read_proof_lines ls ≡ stopped LineRefused 0
   unfolding rest schema_with model_with proof_part ◌and_then◌
-  proof_other (Row n) e c = absurd (true≢false c.over)
-  proof_other (Pair k) e c = absurd (true≢false c.over)
-  proof_other (Formula n) e c = absurd (true≢false c.over)
-  proof_other (Node n j k) e c = absurd (true≢false c.over)
-  proof_other SchemaHeading e c = absurd (true≢false c.over)
-  proof_other SchemaValues e c = absurd (true≢false c.over)
-  proof_other RowHeading e c = absurd (true≢false c.over)
-  proof_other ModelHeading e c = absurd (true≢false c.over)
-  proof_other ModelValue e c = absurd (true≢false c.over)
-  proof_other PairHeading e c = absurd (true≢false c.over)
-  proof_other ProofHeading e c = absurd (true≢false c.over)
-  proof_other (Schema n) e c = proof_came _ c
-  proof_other (Model k) e c = proof_came _ c
-  proof_other (Proof n j k) e c = absurd (miss (0 ∷ 1 ∷ 2 ∷ 3 ∷ 4 ∷ 5 ∷ 6 ∷ 7 ∷ 8 ∷ 9 ∷ 10 ∷ 11 ∷ 12 ∷ []) 13 tt e)
-  proof_other (NoHeading k) e c = absurd (miss (0 ∷ 1 ∷ 2 ∷ 3 ∷ 4 ∷ 5 ∷ 6 ∷ 7 ∷ 8 ∷ 9 ∷ 10 ∷ 11 ∷ 12 ∷ []) 14 tt e)
-  proof_other (BadLine k) e c = absurd (miss (0 ∷ 1 ∷ 2 ∷ 3 ∷ 4 ∷ 5 ∷ 6 ∷ 7 ∷ 8 ∷ 9 ∷ 10 ∷ 11 ∷ 12 ∷ []) 15 tt e)
-  proof_other (TooMany k) e c = absurd (miss (0 ∷ 1 ∷ 2 ∷ 3 ∷ 4 ∷ 5 ∷ 6 ∷ 7 ∷ 8 ∷ 9 ∷ 10 ∷ 11 ∷ 12 ∷ []) 16 tt e)
+  proof_other (Row n) o h b m c = absurd (true≢false c.over)
+  proof_other (Pair k) o h b m c = absurd (true≢false c.over)
+  proof_other (Formula n) o h b m c = absurd (true≢false c.over)
+  proof_other (Node n j k) o h b m c = absurd (true≢false c.over)
+  proof_other SchemaHeading o h b m c = absurd (true≢false c.over)
+  proof_other SchemaValues o h b m c = absurd (true≢false c.over)
+  proof_other RowHeading o h b m c = absurd (true≢false c.over)
+  proof_other ModelHeading o h b m c = absurd (true≢false c.over)
+  proof_other ModelValue o h b m c = absurd (true≢false c.over)
+  proof_other PairHeading o h b m c = absurd (true≢false c.over)
+  proof_other ProofHeading o h b m c = absurd (true≢false c.over)
+  proof_other (Schema n) o h b m c = proof_came _ c
+  proof_other (Model k) o h b m c = proof_came _ c
+  proof_other (Proof n j k) o h b m c = absurd (o n j k refl)
+  proof_other (NoHeading k) o h b m c = absurd (h k refl)
+  proof_other (BadLine k) o h b m c = absurd (b k refl)
+  proof_other (TooMany k) o h b m c = absurd (m k refl)

@@ -15,13 +15,12 @@ use Rattle.stab.specs.Basic.{◌and◌}
 use Rattle.stab.specs.Text.{Line, lines, same_bytes, node_heading, text_limit}
 use Rattle.stab.specs.Read.{Reading, read, stopped, ◌and_then◌, require, heading_at, starts_with_u, nodes_from, ProofText, proof_rows_from, read_proof_lines, read_proof}
 use Rattle.stab.specs.Read.{proof_answer, proof_table, node_table, member_table, table_of}
-use Rattle.stab.specs.declared.Refusal.{Refusal}
 use Rattle.stab.specs.declared.Refusal.TheVariants.{TextTooLong, TableTooShort, TooMany, Heading}
 use Rattle.stab.specs.declared.Refusal.TheVariants.{Line as BadLine}
-use Rattle.stab.specs.declared.Place.{Place}
-use Rattle.stab.specs.declared.Place.TheVariants.{Whole, At}
-use Rattle.stab.specs.declared.ProofRead.{ProofRead}
-use Rattle.stab.specs.declared.ProofRead.TheVariants.{Proof, Refused}
+use Rattle.std.specs.Prelude.{Ok, Err, Result}
+use Rattle.stab.specs.Finding.{refuse}
+use Rattle.stab.specs.declared.Refused.{Refused}
+use Rattle.stab.specs.declared.ProofCounts.{ProofCounts}
 use Rattle.stab.proofs.Bools.{and_left, and_right, if_true, if_false, decide}
 use Rattle.stab.proofs.Texts.Rows.{then_is}
 use Rattle.numerals.specs.Here.{first_line, after_line, row}
@@ -30,7 +29,7 @@ use Rattle.signed.specs.Numbers.{cleared}
 use Rattle.text.specs.Texts.{ProofOf}
 use Rattle.numerals.proofs.Lines.{lines_first, lines_nil, line_end_lem, line_byte}
 use Rattle.text.proofs.RowLaws.{wanted_if, line_read, values_are, take_sets, then_stops}
-use Rattle.text.proofs.Openings.{text_long, text_short, text_on}
+use Rattle.text.proofs.Openings.{text_long, text_short, text_on, stop}
 use Rattle.signed.proofs.Tables.{cleared_padded}
 
 -- ---- rows in front of those that are read
@@ -222,34 +221,34 @@ module _ (n j k : ℕ) (text : List ℕ) where
 -- ---- what the reader answers
 
 module _ (r : Reading ProofText) (t u m : List ℤ) where
-  pub proof_answer_lem : (s : ProofRead) → ProofOf r t u m s → s ≡ proof_answer r
+  pub proof_answer_lem : (s : Result ProofCounts Refused) → ProofOf r t u m s → s ≡ proof_answer r
   unfolding proof_answer
-  proof_answer_lem (Proof n j k) p =
-      let a : n ≡ length (take (4 * n) t) / 4 = omega (arith, length-take-le (4 * n) t p.1) in
-      let b : j ≡ length (take (9 * j) u) / 9 = omega (arith, length-take-le (9 * j) u p.2) in
-      ap₂ (λ (x y : ℕ). Proof x y k) a b
-      ∙ ap (Proof (length (take (4 * n) t) / 4) (length (take (9 * j) u) / 9)) (sym (length-take-le k m p.3))
+  proof_answer_lem (Ok h) p =
+      let a : h.rows ≡ length (take (4 * h.rows) t) / 4 = omega (arith, length-take-le (4 * h.rows) t p.1) in
+      let b : h.nodes ≡ length (take (9 * h.nodes) u) / 9 = omega (arith, length-take-le (9 * h.nodes) u p.2) in
+      ap₂ (λ (x y : ℕ). Ok (record { rows = x; nodes = y; members = h.members })) a b
+      ∙ ap (λ (k : ℕ). Ok (record { rows = length (take (4 * h.rows) t) / 4; nodes = length (take (9 * h.nodes) u) / 9; members = k })) (sym (length-take-le h.members m p.3))
       ∙ sym (ap proof_answer p.0)
-  proof_answer_lem (Refused why Whole) p = absurd p
-  proof_answer_lem (Refused why (At k)) p = sym (ap proof_answer p)
+  proof_answer_lem (Err e) p = let s = stop r e.why e.place p in ap (refuse e.why) s.place_is ∙ sym (ap proof_answer s.stops)
 
-  -- the three tables: 0 past the last
-  pub proof_kept : (n j k a b c : ℕ) → length t ≡ a → length u ≡ b → length m ≡ c → ProofOf r t u m (Proof n j k)
-      → (cleared t (4 * n) ≡ proof_table a r) × (cleared u (9 * j) ≡ node_table b r) × (cleared m k ≡ member_table c r)
-  unfolding proof_table node_table member_table table_of
-  proof_kept n j k a b c x y z p = (
-    cleared_padded t (4 * n) a p.1 x ∙ sym (ap (proof_table a) p.0),
-    cleared_padded u (9 * j) b p.2 y ∙ sym (ap (node_table b) p.0),
-    cleared_padded m k c p.3 z ∙ sym (ap (member_table c) p.0),
-  )
+  module _ (a b c : ℕ) (x : length t ≡ a) (y : length u ≡ b) (z : length m ≡ c) where
+    -- the three tables: 0 past the last
+    pub proof_kept : (h : ProofCounts) → ProofOf r t u m (Ok h)
+        → (cleared t (4 * h.rows) ≡ proof_table a r) × (cleared u (9 * h.nodes) ≡ node_table b r) × (cleared m h.members ≡ member_table c r)
+    unfolding proof_table node_table member_table table_of
+    proof_kept h p = (
+      cleared_padded t (4 * h.rows) a p.1 x ∙ sym (ap (proof_table a) p.0),
+      cleared_padded u (9 * h.nodes) b p.2 y ∙ sym (ap (node_table b) p.0),
+      cleared_padded m h.members c p.3 z ∙ sym (ap (member_table c) p.0),
+    )
 
-  -- all 0
-  pub proof_none_kept : (why : Refusal) (place : Place) (a b c : ℕ) → length t ≡ a → length u ≡ b → length m ≡ c → ProofOf r t u m (Refused why place)
-      → (cleared t 0 ≡ proof_table a r) × (cleared u 0 ≡ node_table b r) × (cleared m 0 ≡ member_table c r)
-  unfolding proof_table node_table member_table table_of
-  proof_none_kept why Whole a b c x y z p = absurd p
-  proof_none_kept why (At k) a b c x y z p = (
-    cleared_padded t 0 a (omega arith) x ∙ sym (ap (proof_table a) p),
-    cleared_padded u 0 b (omega arith) y ∙ sym (ap (node_table b) p),
-    cleared_padded m 0 c (omega arith) z ∙ sym (ap (member_table c) p),
-  )
+    -- all 0
+    pub proof_none_kept : (e : Refused) → ProofOf r t u m (Err e)
+        → (cleared t 0 ≡ proof_table a r) × (cleared u 0 ≡ node_table b r) × (cleared m 0 ≡ member_table c r)
+    unfolding proof_table node_table member_table table_of
+    proof_none_kept e p =
+        let s = (stop r e.why e.place p).stops in (
+          cleared_padded t 0 a (omega arith) x ∙ sym (ap (proof_table a) s),
+          cleared_padded u 0 b (omega arith) y ∙ sym (ap (node_table b) s),
+          cleared_padded m 0 c (omega arith) z ∙ sym (ap (member_table c) s),
+        )

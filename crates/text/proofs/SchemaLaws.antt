@@ -10,58 +10,54 @@ use Rattle.stab.specs.Text.{lines, text_limit}
 use Rattle.stab.specs.Read.{Reading, stopped}
 use Rattle.stab.specs.Read.{SchemaText, read_schema_lines, read_schema, schema_answer, schema_table, ModelText, read_model_lines, read_model, model_answer, pair_table, table_of}
 use borrow.Author.Tests.{le-leb, lt-leb}
-use Rattle.stab.specs.declared.Refusal.{Refusal}
 use Rattle.stab.specs.declared.Refusal.TheVariants.{TextTooLong, TableTooShort}
-use Rattle.stab.specs.declared.Place.{Place}
-use Rattle.stab.specs.declared.Place.TheVariants.{Whole, At}
-use Rattle.stab.specs.declared.SchemaRead.{SchemaRead}
-use Rattle.stab.specs.declared.SchemaRead.TheVariants.{Schema, Refused as SchemaRefused}
-use Rattle.stab.specs.declared.ModelRead.{ModelRead}
-use Rattle.stab.specs.declared.ModelRead.TheVariants.{Model, Refused as ModelRefused}
+use Rattle.std.specs.Prelude.{Ok, Err, Result}
+use Rattle.stab.specs.Finding.{refuse}
+use Rattle.stab.specs.declared.Refused.{Refused}
+use Rattle.stab.specs.declared.ModelHeader.{ModelHeader}
+use Rattle.stab.specs.declared.SchemaHeader.{SchemaHeader}
 use Rattle.signed.specs.Numbers.{cleared}
 use Rattle.text.specs.Texts.{SchemaOf, ModelOf}
-use Rattle.text.proofs.Openings.{text_long, text_short, text_on}
+use Rattle.text.proofs.Openings.{text_long, text_short, text_on, stop}
 use Rattle.signed.proofs.Tables.{cleared_padded}
 
 -- ---- schema: what the reader answers
 
 module _ (r : Reading SchemaText) (t : List ℤ) where
-  pub schema_answer_lem : (s : SchemaRead) → SchemaOf r t s → s ≡ schema_answer r
+  pub schema_answer_lem : (s : Result SchemaHeader Refused) → SchemaOf r t s → s ≡ schema_answer r
   unfolding schema_answer
-  schema_answer_lem (Schema root least n) p =
-      let e : n ≡ length (take (4 * n) t) / 4 = omega (arith, length-take-le (4 * n) t p.1) in
-      ap (Schema root least) e ∙ sym (ap schema_answer p.0)
-  schema_answer_lem (SchemaRefused why Whole) p = absurd p
-  schema_answer_lem (SchemaRefused why (At k)) p = sym (ap schema_answer p)
+  schema_answer_lem (Ok h) p =
+      let e : h.rows ≡ length (take (4 * h.rows) t) / 4 = omega (arith, length-take-le (4 * h.rows) t p.1) in
+      ap (λ (n : ℕ). Ok (record { rows = n; root = h.root; least = h.least })) e ∙ sym (ap schema_answer p.0)
+  schema_answer_lem (Err e) p = let s = stop r e.why e.place p in ap (refuse e.why) s.place_is ∙ sym (ap schema_answer s.stops)
 
-  pub schema_rows_kept : (root least : ℤ) (n len : ℕ) → length t ≡ len → SchemaOf r t (Schema root least n) → cleared t (4 * n) ≡ schema_table len r
-  unfolding schema_table table_of
-  schema_rows_kept root least n len h p = cleared_padded t (4 * n) len p.1 h ∙ sym (ap (schema_table len) p.0)
+  module _ (len : ℕ) (l : length t ≡ len) where
+    pub schema_rows_kept : (h : SchemaHeader) → SchemaOf r t (Ok h) → cleared t (4 * h.rows) ≡ schema_table len r
+    unfolding schema_table table_of
+    schema_rows_kept h p = cleared_padded t (4 * h.rows) len p.1 l ∙ sym (ap (schema_table len) p.0)
 
-  pub schema_none_kept : (why : Refusal) (place : Place) (len : ℕ) → length t ≡ len → SchemaOf r t (SchemaRefused why place) → cleared t 0 ≡ schema_table len r
-  unfolding schema_table table_of
-  schema_none_kept why Whole len h p = absurd p
-  schema_none_kept why (At k) len h p = cleared_padded t 0 len (omega arith) h ∙ sym (ap (schema_table len) p)
+    pub schema_none_kept : (e : Refused) → SchemaOf r t (Err e) → cleared t 0 ≡ schema_table len r
+    unfolding schema_table table_of
+    schema_none_kept e p = cleared_padded t 0 len (omega arith) l ∙ sym (ap (schema_table len) (stop r e.why e.place p).stops)
 
 -- ---- model: what the reader answers
 
 module _ (r : Reading ModelText) (t : List ℤ) where
-  pub model_answer_lem : (s : ModelRead) → ModelOf r t s → s ≡ model_answer r
+  pub model_answer_lem : (s : Result ModelHeader Refused) → ModelOf r t s → s ≡ model_answer r
   unfolding model_answer
-  model_answer_lem (Model n k) p =
-      let e : k ≡ length (take (2 * k) t) / 2 = omega (arith, length-take-le (2 * k) t p.1) in
-      ap (Model n) e ∙ sym (ap model_answer p.0)
-  model_answer_lem (ModelRefused why Whole) p = absurd p
-  model_answer_lem (ModelRefused why (At k)) p = sym (ap model_answer p)
+  model_answer_lem (Ok h) p =
+      let e : h.pairs ≡ length (take (2 * h.pairs) t) / 2 = omega (arith, length-take-le (2 * h.pairs) t p.1) in
+      ap (λ (k : ℕ). Ok (record { n = h.n; pairs = k })) e ∙ sym (ap model_answer p.0)
+  model_answer_lem (Err e) p = let s = stop r e.why e.place p in ap (refuse e.why) s.place_is ∙ sym (ap model_answer s.stops)
 
-  pub model_rows_kept : (n : ℤ) (k len : ℕ) → length t ≡ len → ModelOf r t (Model n k) → cleared t (2 * k) ≡ pair_table len r
-  unfolding pair_table table_of
-  model_rows_kept n k len h p = cleared_padded t (2 * k) len p.1 h ∙ sym (ap (pair_table len) p.0)
+  module _ (len : ℕ) (l : length t ≡ len) where
+    pub model_rows_kept : (h : ModelHeader) → ModelOf r t (Ok h) → cleared t (2 * h.pairs) ≡ pair_table len r
+    unfolding pair_table table_of
+    model_rows_kept h p = cleared_padded t (2 * h.pairs) len p.1 l ∙ sym (ap (pair_table len) p.0)
 
-  pub model_none_kept : (why : Refusal) (place : Place) (len : ℕ) → length t ≡ len → ModelOf r t (ModelRefused why place) → cleared t 0 ≡ pair_table len r
-  unfolding pair_table table_of
-  model_none_kept why Whole len h p = absurd p
-  model_none_kept why (At k) len h p = cleared_padded t 0 len (omega arith) h ∙ sym (ap (pair_table len) p)
+    pub model_none_kept : (e : Refused) → ModelOf r t (Err e) → cleared t 0 ≡ pair_table len r
+    unfolding pair_table table_of
+    model_none_kept e p = cleared_padded t 0 len (omega arith) l ∙ sym (ap (pair_table len) (stop r e.why e.place p).stops)
 
 -- ---- what is judged before the first line
 

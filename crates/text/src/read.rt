@@ -6,52 +6,30 @@ ghost use Rattle.text.specs.Texts.{SchemaOf, SchemaFrom, ModelOf, ModelFrom, Pro
 
 use crate::awaited::Awaited;
 use crate::reader;
-use stab::{ModelRead, Place, ProofRead, Refusal, SchemaRead};
+use stab::{ModelHeader, ProofCounts, Refusal, Refused, SchemaHeader};
 
 // What the lines of a schema text came to, as an answer; no schema text comes to the last.
-fn schema_read(p: Awaited, root: i32, least: i32) -> SchemaRead
+fn schema_read(p: Awaited, root: i32, least: i32) -> Result<SchemaHeader, Refused>
     ensures { SchemaFrom p root least result }
 {
     match p {
-        Awaited::Schema { rows: n } => SchemaRead::Schema {
-            root,
-            least,
-            rows: n,
-        },
-        Awaited::NoHeading { line } => SchemaRead::Refused {
-            why: Refusal::Heading,
-            place: Place::At(line),
-        },
-        Awaited::BadLine { line } => SchemaRead::Refused {
-            why: Refusal::Line,
-            place: Place::At(line),
-        },
-        Awaited::TooMany { line } => SchemaRead::Refused {
-            why: Refusal::TooMany,
-            place: Place::At(line),
-        },
-        _ => SchemaRead::Refused {
-            why: Refusal::Line,
-            place: Place::At(0),
-        },
+        Awaited::Schema { rows } => Ok(SchemaHeader { rows, root, least }),
+        Awaited::NoHeading { line } => Err(Refusal::Heading.at(line)),
+        Awaited::BadLine { line } => Err(Refusal::Line.at(line)),
+        Awaited::TooMany { line } => Err(Refusal::TooMany.at(line)),
+        _ => Err(Refusal::Line.at(0)),
     }
 }
 
 // A schema text whose rows are stored in front; what stands past them is no matter.
-fn schema_text(text: &[u8], table: &mut [i32]) -> SchemaRead
+fn schema_text(text: &[u8], table: &mut [i32]) -> Result<SchemaHeader, Refused>
     ensures { SchemaOf (read_schema (length table.old) text.now) table.new result }
 {
     if 65536 < text.len() {
-        return SchemaRead::Refused {
-            why: Refusal::TextTooLong,
-            place: Place::At(0),
-        };
+        return Err(Refusal::TextTooLong.at(0));
     }
     if table.len() < 4096 {
-        return SchemaRead::Refused {
-            why: Refusal::TableTooShort,
-            place: Place::At(0),
-        };
+        return Err(Refusal::TableTooShort.at(0));
     }
     let mut values = [0i32; 2];
     let mut none = [0i32; 1];
@@ -60,67 +38,40 @@ fn schema_text(text: &[u8], table: &mut [i32]) -> SchemaRead
 }
 
 // A schema text is read into a lent table.
-pub fn read_schema(text: &[u8], table: &mut [i32]) -> SchemaRead
+pub fn read_schema(text: &[u8], table: &mut [i32]) -> Result<SchemaHeader, Refused>
     ensures answer { result ≡ schema_answer (read_schema (length table.old) text.now) }
     ensures rows { table.new ≡ schema_table (length table.old) (read_schema (length table.old) text.now) }
 {
-    let r = schema_text(text, table);
-    match r {
-        SchemaRead::Schema {
-            root: _,
-            least: _,
-            rows: n,
-        } => {
-            signed::clear(table, 4 * n);
-            r
-        }
-        SchemaRead::Refused { why: _, place: _ } => {
-            signed::clear(table, 0);
-            r
-        }
+    let read = schema_text(text, table);
+    match read {
+        Ok(h) => signed::clear(table, 4 * h.rows),
+        Err(_) => signed::clear(table, 0),
     }
+    read
 }
 
 // What the lines of a model text came to, as an answer; no model text comes to the last.
-fn model_read(p: Awaited, n: i32) -> ModelRead
+fn model_read(p: Awaited, n: i32) -> Result<ModelHeader, Refused>
     ensures { ModelFrom p n result }
 {
     match p {
-        Awaited::Model { pairs: k } => ModelRead::Model { n, pairs: k },
-        Awaited::NoHeading { line } => ModelRead::Refused {
-            why: Refusal::Heading,
-            place: Place::At(line),
-        },
-        Awaited::BadLine { line } => ModelRead::Refused {
-            why: Refusal::Line,
-            place: Place::At(line),
-        },
-        Awaited::TooMany { line } => ModelRead::Refused {
-            why: Refusal::TooMany,
-            place: Place::At(line),
-        },
-        _ => ModelRead::Refused {
-            why: Refusal::Line,
-            place: Place::At(0),
-        },
+        Awaited::Model { pairs } => Ok(ModelHeader { n, pairs }),
+        Awaited::NoHeading { line } => Err(Refusal::Heading.at(line)),
+        Awaited::BadLine { line } => Err(Refusal::Line.at(line)),
+        Awaited::TooMany { line } => Err(Refusal::TooMany.at(line)),
+        _ => Err(Refusal::Line.at(0)),
     }
 }
 
 // A model text whose pairs are stored in front; what stands past them is no matter.
-fn model_text(text: &[u8], table: &mut [i32]) -> ModelRead
+fn model_text(text: &[u8], table: &mut [i32]) -> Result<ModelHeader, Refused>
     ensures { ModelOf (read_model (length table.old) text.now) table.new result }
 {
     if 65536 < text.len() {
-        return ModelRead::Refused {
-            why: Refusal::TextTooLong,
-            place: Place::At(0),
-        };
+        return Err(Refusal::TextTooLong.at(0));
     }
     if table.len() < 8192 {
-        return ModelRead::Refused {
-            why: Refusal::TableTooShort,
-            place: Place::At(0),
-        };
+        return Err(Refusal::TableTooShort.at(0));
     }
     let mut values = [0i32; 1];
     let mut none = [0i32; 1];
@@ -129,21 +80,16 @@ fn model_text(text: &[u8], table: &mut [i32]) -> ModelRead
 }
 
 // A model text is read into a lent table.
-pub fn read_model(text: &[u8], table: &mut [i32]) -> ModelRead
+pub fn read_model(text: &[u8], table: &mut [i32]) -> Result<ModelHeader, Refused>
     ensures answer { result ≡ model_answer (read_model (length table.old) text.now) }
     ensures pairs { table.new ≡ pair_table (length table.old) (read_model (length table.old) text.now) }
 {
-    let r = model_text(text, table);
-    match r {
-        ModelRead::Model { n: _, pairs: k } => {
-            signed::clear(table, 2 * k);
-            r
-        }
-        ModelRead::Refused { why: _, place: _ } => {
-            signed::clear(table, 0);
-            r
-        }
+    let read = model_text(text, table);
+    match read {
+        Ok(h) => signed::clear(table, 2 * h.pairs),
+        Err(_) => signed::clear(table, 0),
     }
+    read
 }
 
 // All three lent tables have their full size.
@@ -160,53 +106,40 @@ pub fn full(table: &[i32], nodes: &[i32], members: &[i32]) -> bool
 }
 
 // What the lines of a proof text came to, as an answer; no proof text comes to the last.
-fn proof_read(p: Awaited) -> ProofRead
+fn proof_read(p: Awaited) -> Result<ProofCounts, Refused>
     ensures { ProofFrom p result }
 {
     match p {
         Awaited::Proof {
-            rows: n,
-            nodes: j,
-            members: k,
-        } => ProofRead::Proof {
-            rows: n,
-            nodes: j,
-            members: k,
-        },
-        Awaited::NoHeading { line } => ProofRead::Refused {
-            why: Refusal::Heading,
-            place: Place::At(line),
-        },
-        Awaited::BadLine { line } => ProofRead::Refused {
-            why: Refusal::Line,
-            place: Place::At(line),
-        },
-        Awaited::TooMany { line } => ProofRead::Refused {
-            why: Refusal::TooMany,
-            place: Place::At(line),
-        },
-        _ => ProofRead::Refused {
-            why: Refusal::Line,
-            place: Place::At(0),
-        },
+            rows,
+            nodes,
+            members,
+        } => Ok(ProofCounts {
+            rows,
+            nodes,
+            members,
+        }),
+        Awaited::NoHeading { line } => Err(Refusal::Heading.at(line)),
+        Awaited::BadLine { line } => Err(Refusal::Line.at(line)),
+        Awaited::TooMany { line } => Err(Refusal::TooMany.at(line)),
+        _ => Err(Refusal::Line.at(0)),
     }
 }
 
 // A proof text whose rows, nodes and members are stored in front; what stands past them is no matter.
-fn proof_text(text: &[u8], table: &mut [i32], nodes: &mut [i32], members: &mut [i32]) -> ProofRead
+fn proof_text(
+    text: &[u8],
+    table: &mut [i32],
+    nodes: &mut [i32],
+    members: &mut [i32],
+) -> Result<ProofCounts, Refused>
     ensures { ProofOf (read_proof (length table.old) (length nodes.old) (length members.old) text.now) table.new nodes.new members.new result }
 {
     if 65536 < text.len() {
-        return ProofRead::Refused {
-            why: Refusal::TextTooLong,
-            place: Place::At(0),
-        };
+        return Err(Refusal::TextTooLong.at(0));
     }
     if !full(table, nodes, members) {
-        return ProofRead::Refused {
-            why: Refusal::TableTooShort,
-            place: Place::At(0),
-        };
+        return Err(Refusal::TableTooShort.at(0));
     }
     proof_read(reader::read_lines(text, Awaited::ProofHeading, table, nodes, members))
 }
@@ -217,29 +150,24 @@ pub fn read_proof(
     table: &mut [i32],
     nodes: &mut [i32],
     members: &mut [i32],
-) -> ProofRead
+) -> Result<ProofCounts, Refused>
     ensures answer { result ≡ proof_answer (read_proof (length table.old) (length nodes.old) (length members.old) text.now) }
     ensures rows { table.new ≡ proof_table (length table.old) (read_proof (length table.old) (length nodes.old) (length members.old) text.now) }
     ensures nodes { nodes.new ≡ node_table (length nodes.old) (read_proof (length table.old) (length nodes.old) (length members.old) text.now) }
     ensures members { members.new ≡ member_table (length members.old) (read_proof (length table.old) (length nodes.old) (length members.old) text.now) }
 {
-    let r = proof_text(text, table, nodes, members);
-    match r {
-        ProofRead::Proof {
-            rows: n,
-            nodes: j,
-            members: k,
-        } => {
-            signed::clear(table, 4 * n);
-            signed::clear(nodes, 9 * j);
-            signed::clear(members, k);
-            r
+    let read = proof_text(text, table, nodes, members);
+    match read {
+        Ok(counts) => {
+            signed::clear(table, 4 * counts.rows);
+            signed::clear(nodes, 9 * counts.nodes);
+            signed::clear(members, counts.members);
         }
-        ProofRead::Refused { why: _, place: _ } => {
+        Err(_) => {
             signed::clear(table, 0);
             signed::clear(nodes, 0);
             signed::clear(members, 0);
-            r
         }
     }
+    read
 }

@@ -15,7 +15,8 @@ use Rattle.stab.specs.Node.{Tableau, Node, rows, row_count, node, set}
 use Rattle.stab.specs.Rule.{unused, rule}
 use Rattle.stab.specs.Check.{same_row, check_older}
 use Rattle.stab.specs.Keeps.{Below, KeepsKind, KeepsStep, Fresh}
-use Rattle.stab.specs.declared.Verdict.TheVariants.{Accepted}
+use Rattle.std.specs.Prelude.{Ok}
+use Rattle.stab.specs.Finding.{accept}
 use Rattle.stab.proofs.Bools.{decide, if_false}
 use Rattle.stab.proofs.Whole.{eq_z_true, not_eq_z}
 use Rattle.stab.proofs.Trees.{below_nat, below_pos}
@@ -212,6 +213,6 @@ module _ (T : Tableau) (K : KeepsRules T) where
       }
 
 -- "tidying again changes nothing"
-pub tidy_again : (T : Tableau) (n l : ℕ) → check_older T ≡ Accepted n l → tidied (tidied T) ≡ tidied T
+pub tidy_again : (T : Tableau) (n l : ℕ) → check_older T ≡ accept n l → tidied (tidied T) ≡ tidied T
 unfolding U
 tidy_again T n l h = again T (rules_of T ((older_accepts_exactly T n l).0 h).0)

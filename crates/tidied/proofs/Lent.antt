@@ -13,13 +13,10 @@ use Rattle.stab.specs.Check.{at_unless, check, check_older, verdict}
 use Rattle.stab.specs.Keeps.{Keeps}
 use Rattle.stab.specs.Text.{padded}
 use Rattle.stab.specs.Answer.{Packs}
-use Rattle.stab.specs.declared.Place.{Place}
-use Rattle.stab.specs.declared.Place.TheVariants.{At}
+use Rattle.std.specs.Prelude.{Some, Ok, Err}
+use Rattle.stab.specs.Finding.{accept, refuse, Verdict, Place}
 use Rattle.stab.specs.declared.Refusal.{Refusal}
 use Rattle.stab.specs.declared.Refusal.TheVariants.{TableTooShort}
-use Rattle.stab.specs.declared.Verdict.{Verdict}
-use Rattle.stab.specs.declared.Verdict.TheVariants.{Accepted, Refused}
-use Rattle.stab.specs.declared.ProofRead.TheVariants.{Proof, Refused as ProofRefused}
 use Rattle.stab.proofs.Bools.{nothing_unless, found_unless}
 use Rattle.stab.proofs.Packed.{older_packs}
 use Rattle.stab.specs.Entry.{ProofFits}
@@ -39,18 +36,18 @@ unfolding tidy_verdict at_unless verdict
 full_verdict R T h = ap (λ x. verdict x (check_older T)) (nothing_unless _ _ _ h)
 
 -- "A record refused by the older entry is refused with that number and place."
-pub older_refused : (R : Rooms) (T : Tableau) (why : Refusal) (p : Place) → Full R → check_older T ≡ Refused why p → tidy R T ≡ ProofRefused why p
+pub older_refused : (R : Rooms) (T : Tableau) (why : Refusal) (p : Place) → Full R → check_older T ≡ refuse why p → tidy R T ≡ refuse why p
 unfolding tidy tidy_answer
 older_refused R T why p h e = ap (λ v. tidy_answer v (tidied T)) (full_verdict R T h ∙ e)
 
 -- a record that it accepts is tidied, with the counts of what is left
-pub older_tidied : (R : Rooms) (T : Tableau) (n l : ℕ) → Full R → check_older T ≡ Accepted n l → tidy R T ≡ Proof (tidied T).proof_rows (tidied T).node_rows (tidied T).member_count
+pub older_tidied : (R : Rooms) (T : Tableau) (n l : ℕ) → Full R → check_older T ≡ accept n l → tidy R T ≡ Ok (record { rows = (tidied T).proof_rows; nodes = (tidied T).node_rows; members = (tidied T).member_count })
 unfolding tidy tidy_answer
 older_tidied R T n l h e = ap (λ v. tidy_answer v (tidied T)) (full_verdict R T h ∙ e)
 
 -- ---- what is left in lent memory, with those counts
 
-module _ (R : Rooms) (T : Tableau) (n l : ℕ) (full : Full R) (older : check_older T ≡ Accepted n l) where
+module _ (R : Rooms) (T : Tableau) (n l : ℕ) (full : Full R) (older : check_older T ≡ accept n l) where
   begins : {c : ℕ} (m : ℕ) (xs : List ℤ) → c ≤ length xs → take c (tidy_table_by (tidy_verdict R T) m xs) ≡ take c xs
   unfolding tidy_table_by
   begins {c} m xs held = ap (λ v. take c (tidy_table_by v m xs)) (full_verdict R T full ∙ older) ∙ padded_begins c m xs held
@@ -75,12 +72,12 @@ module _ (R : Rooms) (T : Tableau) (n l : ℕ) (full : Full R) (older : check_ol
   same_schema_lem = refl
 
   -- it is accepted by the check
-  pub tidied_lent : check (tidied_in R T) ≡ Accepted n l
+  pub tidied_lent : check (tidied_in R T) ≡ accept n l
   tidied_lent =
       longer_accepted (tidied T) T.schema (tidy_proof R T) (tidy_node_table R T) (tidy_member_table R T) same_schema_lem same_proof_lem same_nodes_lem same_members_lem
       n l (tidied_accepted T n l older)
 
-  lent_older : check_older (tidied_in R T) ≡ Accepted n l
+  lent_older : check_older (tidied_in R T) ≡ accept n l
   lent_older =
       let a = (accepts_exactly (tidied_in R T) n l).0 tidied_lent in
       (older_accepts_exactly (tidied_in R T) n l).1 (a.0.older, a.1, a.2)
@@ -106,12 +103,12 @@ module _ (R : Rooms) (T : Tableau) (n l : ℕ) (full : Full R) (older : check_ol
       )
 
 -- a result table that is too short comes first
-pub short_first : (R : Rooms) (T : Tableau) → (leb 4096 R.rows and leb 9216 R.nodes and leb 8192 R.members) ≡ false → tidy R T ≡ ProofRefused TableTooShort (At 0)
+pub short_first : (R : Rooms) (T : Tableau) → (leb 4096 R.rows and leb 9216 R.nodes and leb 8192 R.members) ≡ false → tidy R T ≡ refuse TableTooShort (Some 0)
 unfolding tidy tidy_answer tidy_verdict at_unless verdict
 short_first R T h = ap (λ x. tidy_answer (verdict x (check_older T)) (tidied T)) (found_unless _ _ _ h)
 
 -- after a refusal all that was lent is 0
-pub refused_zeros : (R : Rooms) (T : Tableau) (why : Refusal) (p : Place) → tidy_verdict R T ≡ Refused why p → (tidy_proof R T ≡ padded (pos 0) R.rows []) × (tidy_node_table R T ≡ padded (pos 0) R.nodes []) × (tidy_member_table R T ≡ padded (pos 0) R.members [])
+pub refused_zeros : (R : Rooms) (T : Tableau) (why : Refusal) (p : Place) → tidy_verdict R T ≡ refuse why p → (tidy_proof R T ≡ padded (pos 0) R.rows []) × (tidy_node_table R T ≡ padded (pos 0) R.nodes []) × (tidy_member_table R T ≡ padded (pos 0) R.members [])
 unfolding tidy_proof tidy_node_table tidy_member_table tidy_table_by
 refused_zeros R T why p e = (
   ap (λ v. tidy_table_by v R.rows (tidied T).proof) e,
@@ -126,16 +123,16 @@ tidy_packs : (R : Rooms) (T : Tableau) → Packs (tidy_verdict R T)
 unfolding tidy_verdict at_unless verdict unless
 tidy_packs R T = by (leb 4096 R.rows and leb 9216 R.nodes and leb 8192 R.members)
   where
-    by : (b : Bool) → Packs (verdict (unless b TableTooShort (At 0)) (check_older T))
+    by : (b : Bool) → Packs (verdict (unless b TableTooShort (Some 0)) (check_older T))
     by true = older_packs T
     by false = omega arith
 
 -- an acceptance is the older check's
-tidy_accepts : (R : Rooms) (T : Tableau) (n l : ℕ) → tidy_verdict R T ≡ Accepted n l → check_older T ≡ Accepted n l
+tidy_accepts : (R : Rooms) (T : Tableau) (n l : ℕ) → tidy_verdict R T ≡ accept n l → check_older T ≡ accept n l
 unfolding tidy_verdict at_unless verdict unless
 tidy_accepts R T n l e = by (leb 4096 R.rows and leb 9216 R.nodes and leb 8192 R.members) e
   where
-    by : (b : Bool) → verdict (unless b TableTooShort (At 0)) (check_older T) ≡ Accepted n l → check_older T ≡ Accepted n l
+    by : (b : Bool) → verdict (unless b TableTooShort (Some 0)) (check_older T) ≡ accept n l → check_older T ≡ accept n l
     by true d = d
     by false d = let z : ◌≡◌ {A = ℕ} 0 1 = cc in absurd (omega arith)
 
@@ -144,7 +141,7 @@ unfolding tidy tidy_answer row_count
 tidy_fits R T = by (tidy_verdict R T) refl (tidy_packs R T)
   where
     by : (v : Verdict) → tidy_verdict R T ≡ v → Packs v → ProofFits (tidy_answer v (tidied T))
-    by (Accepted n l) e p =
-        let k = (tidied_keeps T ((older_accepts_exactly T n l).0 (tidy_accepts R T n l e)).0).older.tables in
+    by (Ok c) e p =
+        let k = (tidied_keeps T ((older_accepts_exactly T c.nodes c.links).0 (tidy_accepts R T c.nodes c.links e)).0).older.tables in
         (omega (arith, k.row_limit), k.node_limit, k.member_limit)
-    by (Refused why q) e p = p
+    by (Err r) e p = p

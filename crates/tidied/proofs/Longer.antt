@@ -16,7 +16,8 @@ use Rattle.stab.specs.Rule.{of_rule}
 use Rattle.stab.specs.Check.{check, is_link, link_count}
 use Rattle.stab.specs.Keeps.{KeepsRow, KeepsFormulas, OuterRow, KeepsSet, KeepsParent, KeepsDrawn, KeepsNode, KeepsTables, Keeps}
 use Rattle.stab.specs.Text.{padded}
-use Rattle.stab.specs.declared.Verdict.TheVariants.{Accepted}
+use Rattle.std.specs.Prelude.{Ok}
+use Rattle.stab.specs.Finding.{accept}
 use Rattle.stab.proofs.Trees.{below_nat}
 use Rattle.stab.proofs.Tests.{below_tests}
 use Rattle.stab.proofs.Formed.{formed_tests}
@@ -259,7 +260,7 @@ module _ (T : Tableau) (schema proof nodes members : List ℤ)
         }
 
   -- a record that the check accepts is accepted, with the same nodes and links, in all tables that begin with the numbers counted
-  pub longer_accepted : (n l : ℕ) → check T ≡ Accepted n l → check (in_tables T schema proof nodes members) ≡ Accepted n l
+  pub longer_accepted : (n l : ℕ) → check T ≡ accept n l → check (in_tables T schema proof nodes members) ≡ accept n l
   unfolding in_tables
   longer_accepted n l h =
       let a = (accepts_exactly T n l).0 h in

@@ -14,7 +14,8 @@ use Rattle.stab.specs.Node.{Tableau, Node, rows, row_count, node_at, node, set_o
 use Rattle.stab.specs.Rule.{of_rule}
 use Rattle.stab.specs.Check.{check, check_older, is_link, link_count}
 use Rattle.stab.specs.Keeps.{Below, KeepsRow, KeepsFormulas, OuterRow, KeepsSet, KeepsParent, KeepsDrawn, DrawnFrom, KeepsNode, KeepsTables, KeepsOlder, Fresh, Keeps}
-use Rattle.stab.specs.declared.Verdict.TheVariants.{Accepted}
+use Rattle.std.specs.Prelude.{Ok}
+use Rattle.stab.specs.Finding.{accept}
 use Rattle.stab.proofs.Whole.{atom, num, ◌⊕◌, of_le, le_of, le_z_of, of_le_z, plus_nat, nonneg_minus}
 use Rattle.stab.proofs.Trees.{below_nat, below_pos}
 use Rattle.stab.proofs.Scans.{below_suc}
@@ -302,7 +303,7 @@ tidied_keeps T k =
     }
 
 -- "Every record that the older entry accepts is accepted by the present check after tidying, with the same nodes and links"
-pub tidied_accepted : (T : Tableau) (n l : ℕ) → check_older T ≡ Accepted n l → check (tidied T) ≡ Accepted n l
+pub tidied_accepted : (T : Tableau) (n l : ℕ) → check_older T ≡ accept n l → check (tidied T) ≡ accept n l
 unfolding tidied
 tidied_accepted T n l h =
     let a = (older_accepts_exactly T n l).0 h in

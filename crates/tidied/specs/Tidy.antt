@@ -1,14 +1,13 @@
 -- 02, No. 10: what the tool answers, and what it leaves in lent memory.
-use Rattle.std.specs.Prelude.{ℕ, List, [], leb, ℤ, pos}
+use Rattle.std.specs.Prelude.{ℕ, List, [], leb, ℤ, pos, Ok, Err, Result}
 use Rattle.stab.specs.Basic.{◌and◌}
 use Rattle.stab.specs.Node.{Tableau}
 use Rattle.stab.specs.Check.{at_unless, check_older, verdict}
 use Rattle.stab.specs.Text.{padded}
 use Rattle.stab.specs.declared.Refusal.TheVariants.{TableTooShort}
-use Rattle.stab.specs.declared.Verdict.{Verdict}
-use Rattle.stab.specs.declared.Verdict.TheVariants.{Accepted, Refused}
-use Rattle.stab.specs.declared.ProofRead.{ProofRead}
-use Rattle.stab.specs.declared.ProofRead.TheVariants.{Proof, Refused as ProofRefused}
+use Rattle.stab.specs.Finding.{accept, refuse, Verdict}
+use Rattle.stab.specs.declared.Refused.{Refused}
+use Rattle.stab.specs.declared.ProofCounts.{ProofCounts}
 use Rattle.tidied.specs.Tidied.{tidied}
 
 -- how many numbers the result tables have room for: formula rows, nodes, members
@@ -22,17 +21,17 @@ unfoldable pub tidy_verdict : Rooms → Tableau → Verdict
 tidy_verdict R T = verdict (at_unless (leb 4096 R.rows and leb 9216 R.nodes and leb 8192 R.members) TableTooShort 0) (check_older T)
 
 -- "the counts are given as there": as in reading a proof
-unfoldable pub tidy_answer : Verdict → Tableau → ProofRead
-tidy_answer (Accepted nodes links) T = Proof T.proof_rows T.node_rows T.member_count
-tidy_answer (Refused why p) T = ProofRefused why p
+unfoldable pub tidy_answer : Verdict → Tableau → Result ProofCounts Refused
+tidy_answer (Ok c) T = Ok (record { rows = T.proof_rows; nodes = T.node_rows; members = T.member_count })
+tidy_answer (Err r) T = Err r
 
-unfoldable pub tidy : Rooms → Tableau → ProofRead
+unfoldable pub tidy : Rooms → Tableau → Result ProofCounts Refused
 tidy R T = tidy_answer (tidy_verdict R T) (tidied T)
 
 -- lent memory of n numbers: 0 past the last, all 0 after a refusal
 unfoldable pub tidy_table_by : Verdict → ℕ → List ℤ → List ℤ
-tidy_table_by (Accepted nodes links) n xs = padded (pos 0) n xs
-tidy_table_by (Refused why p) n xs = padded (pos 0) n []
+tidy_table_by (Ok c) n xs = padded (pos 0) n xs
+tidy_table_by (Err r) n xs = padded (pos 0) n []
 
 unfoldable pub tidy_proof : Rooms → Tableau → List ℤ
 tidy_proof R T = tidy_table_by (tidy_verdict R T) R.rows (tidied T).proof

@@ -9,28 +9,25 @@ use Rattle.stab.specs.Basic.{◌and◌}
 use Rattle.stab.specs.Node.{Tableau}
 use Rattle.stab.specs.Text.{padded}
 use Rattle.stab.specs.Check.{at_unless, check_older, verdict}
-use Rattle.stab.specs.declared.Place.{Place}
-use Rattle.stab.specs.declared.Place.TheVariants.{At}
+use Rattle.std.specs.Prelude.{Some, Ok, Err, Result}
+use Rattle.stab.specs.Finding.{accept, refuse, Verdict, Place, Finding}
+use Rattle.stab.specs.declared.Refused.{Refused}
+use Rattle.stab.specs.declared.ProofCounts.{ProofCounts}
 use Rattle.stab.specs.declared.Refusal.{Refusal}
 use Rattle.stab.specs.declared.Refusal.TheVariants.{TableTooShort}
-use Rattle.stab.specs.declared.Verdict.{Verdict}
-use Rattle.stab.specs.declared.Verdict.TheVariants.{Accepted, Refused}
-use Rattle.stab.specs.declared.ProofRead.{ProofRead}
-use Rattle.stab.specs.declared.ProofRead.TheVariants.{Refused as ProofRefused}
-use Rattle.stab.specs.declared.Finding.{Finding}
 use Rattle.stab.proofs.Bools.{nothing_unless, found_unless}
 use Rattle.tidied.specs.Tidied.{tidied}
 use Rattle.tidied.specs.Tidy.{Rooms, tidy_verdict, tidy_answer, tidy, tidy_table_by, tidy_proof, tidy_node_table, tidy_member_table}
 
 module _ (R : Rooms) (T : Tableau) where
   -- an answer and three tables, in this order
-  abbrev pub Answers : ProofRead → List ℤ → List ℤ → List ℤ → Type 0
+  abbrev pub Answers : Result ProofCounts Refused → List ℤ → List ℤ → List ℤ → Type 0
   Answers r rows nodes members =
       (r ≡ tidy R T) × ((rows ≡ tidy_proof R T) × ((nodes ≡ tidy_node_table R T) × (members ≡ tidy_member_table R T)))
 
   -- ---- the verdict
 
-  verdict_short : (leb 4096 R.rows and leb 9216 R.nodes and leb 8192 R.members) ≡ false → tidy_verdict R T ≡ Refused TableTooShort (At 0)
+  verdict_short : (leb 4096 R.rows and leb 9216 R.nodes and leb 8192 R.members) ≡ false → tidy_verdict R T ≡ refuse TableTooShort (Some 0)
   unfolding tidy_verdict at_unless verdict
   verdict_short h = ap (λ (o : Finding). verdict o (check_older T)) (found_unless _ _ _ h)
 
@@ -40,8 +37,8 @@ module _ (R : Rooms) (T : Tableau) where
 
   -- ---- a refusal
 
-  module _ {why : Refusal} {p : Place} {r : ProofRead} {rows nodes members : List ℤ} (a : r ≡ ProofRefused why p) (b : rows ≡ padded (pos 0) R.rows []) (c : nodes ≡ padded (pos 0) R.nodes []) (d : members ≡ padded (pos 0) R.members []) where
-    answers_by : tidy_verdict R T ≡ Refused why p → Answers r rows nodes members
+  module _ {why : Refusal} {p : Place} {r : Result ProofCounts Refused} {rows nodes members : List ℤ} (a : r ≡ refuse why p) (b : rows ≡ padded (pos 0) R.rows []) (c : nodes ≡ padded (pos 0) R.nodes []) (d : members ≡ padded (pos 0) R.members []) where
+    answers_by : tidy_verdict R T ≡ refuse why p → Answers r rows nodes members
     unfolding tidy tidy_answer tidy_proof tidy_node_table tidy_member_table tidy_table_by
     answers_by v = (
       a ∙ sym (ap (λ (w : Verdict). tidy_answer w (tidied T)) v),
@@ -54,16 +51,16 @@ module _ (R : Rooms) (T : Tableau) where
       ),
     )
 
-    pub answers_refused : (leb 4096 R.rows and leb 9216 R.nodes and leb 8192 R.members) ≡ true → check_older T ≡ Refused why p → Answers r rows nodes members
+    pub answers_refused : (leb 4096 R.rows and leb 9216 R.nodes and leb 8192 R.members) ≡ true → check_older T ≡ refuse why p → Answers r rows nodes members
     answers_refused h e = answers_by (verdict_older h ∙ e)
 
-  pub answers_short : {r : ProofRead} {rows nodes members : List ℤ} → (leb 4096 R.rows and leb 9216 R.nodes and leb 8192 R.members) ≡ false → r ≡ ProofRefused TableTooShort (At 0) → rows ≡ padded (pos 0) R.rows [] → nodes ≡ padded (pos 0) R.nodes [] → members ≡ padded (pos 0) R.members [] → Answers r rows nodes members
+  pub answers_short : {r : Result ProofCounts Refused} {rows nodes members : List ℤ} → (leb 4096 R.rows and leb 9216 R.nodes and leb 8192 R.members) ≡ false → r ≡ refuse TableTooShort (Some 0) → rows ≡ padded (pos 0) R.rows [] → nodes ≡ padded (pos 0) R.nodes [] → members ≡ padded (pos 0) R.members [] → Answers r rows nodes members
   answers_short h a b c d = answers_by a b c d (verdict_short h)
 
   -- ---- the tidied record
 
-  pub answers_tidied : {n l : ℕ} {r : ProofRead} {rows nodes members : List ℤ} → (leb 4096 R.rows and leb 9216 R.nodes and leb 8192 R.members) ≡ true → check_older T ≡ Accepted n l
-      → r ≡ tidy_answer (Accepted 0 0) (tidied T)
+  pub answers_tidied : {n l : ℕ} {r : Result ProofCounts Refused} {rows nodes members : List ℤ} → (leb 4096 R.rows and leb 9216 R.nodes and leb 8192 R.members) ≡ true → check_older T ≡ accept n l
+      → r ≡ tidy_answer (accept 0 0) (tidied T)
       → rows ≡ padded (pos 0) R.rows (tidied T).proof
       → nodes ≡ padded (pos 0) R.nodes (tidied T).nodes
       → members ≡ padded (pos 0) R.members (tidied T).members

@@ -4,19 +4,18 @@
 pub mod node;
 pub mod set;
 
-ghost use Rattle.std.specs.Prelude.{◌≡◌, [], ◌+◌, ◌*◌, ◌<◌, ◌≤◌, pos, length};
+ghost use Rattle.std.specs.Prelude.{◌≡◌, [], ◌+◌, ◌*◌, ◌<◌, ◌≤◌, pos, length, Err, Ok};
 ghost use Rattle.stab.specs.Text.{padded};
-ghost use Rattle.stab.specs.declared.ProofRead.TheVariants.{Refused as ProofRefused};
+ghost use Rattle.stab.specs.Finding.{accept};
 ghost use Rattle.tidied.specs.Tidied.{new_number, new_of};
 ghost use Rattle.tidied.specs.Tidied.{tidied as tidiedOf};
 ghost use Rattle.stab.specs.Lent.{lent};
-ghost use Rattle.stab.specs.declared.Verdict.TheVariants.{Accepted};
 ghost use Rattle.tidied.specs.Tidy.{tidy as tidy_of, tidy_answer, tidy_proof, tidy_node_table, tidy_member_table};
 ghost use Rattle.folds.specs.Folds.{AllSmall};
 ghost use Rattle.tidy.specs.Kept.{rooms, SetFits, AllFit, Tidies};
 
 use branch::node::{SIZE, START, natural_of};
-use stab::{Header, Place, ProofRead, Refusal, Verdict};
+use stab::{Header, ProofCounts, Refusal, Refused};
 use tableau::check::check_older;
 use text::read::full;
 
@@ -76,10 +75,10 @@ fn tidied(
     out_proof: &mut [i32],
     out_nodes: &mut [i32],
     out_members: &mut [i32],
-) -> ProofRead
+) -> Result<ProofCounts, Refused>
     requires proof_rows_bound { (h.schema_rows + h.proof_rows ≤ 1024) × (h.node_rows ≤ 1024) × (4 * h.proof_rows ≤ length out_proof.old) × (9 * h.node_rows ≤ length out_nodes.old) × (8192 ≤ length out_members.old) }
     requires all_fit { AllFit nodes.now members.now (new_of (lent schema.now proof.now nodes.now members.now h)) h.node_rows }
-    ensures value { result ≡ tidy_answer (Accepted 0 0) (tidiedOf (lent schema.now proof.now nodes.now members.now h)) }
+    ensures value { result ≡ tidy_answer (accept 0 0) (tidiedOf (lent schema.now proof.now nodes.now members.now h)) }
     ensures out_proof_after { out_proof.new ≡ padded (pos 0) (length out_proof.old) (tidiedOf (lent schema.now proof.now nodes.now members.now h)).proof }
     ensures out_nodes_after { out_nodes.new ≡ padded (pos 0) (length out_nodes.old) (tidiedOf (lent schema.now proof.now nodes.now members.now h)).nodes }
     ensures out_members_after { out_members.new ≡ padded (pos 0) (length out_members.old) (tidiedOf (lent schema.now proof.now nodes.now members.now h)).members }
@@ -105,22 +104,21 @@ fn tidied(
     );
     signed::clear(out_nodes, 9 * k);
     signed::clear(out_members, m);
-    ProofRead::Proof {
+    Ok(ProofCounts {
         rows,
         nodes: k,
         members: m,
-    }
+    })
 }
 
 // A refusal, which leaves all 0.
 fn refuse(
-    why: Refusal,
-    place: Place,
+    refused: Refused,
     out_proof: &mut [i32],
     out_nodes: &mut [i32],
     out_members: &mut [i32],
-) -> ProofRead
-    ensures value { result ≡ ProofRefused why place }
+) -> Result<ProofCounts, Refused>
+    ensures value { result ≡ Err refused }
     ensures out_proof_after { out_proof.new ≡ padded (pos 0) (length out_proof.old) [] }
     ensures out_nodes_after { out_nodes.new ≡ padded (pos 0) (length out_nodes.old) [] }
     ensures out_members_after { out_members.new ≡ padded (pos 0) (length out_members.old) [] }
@@ -128,7 +126,7 @@ fn refuse(
     signed::clear(out_proof, 0);
     signed::clear(out_nodes, 0);
     signed::clear(out_members, 0);
-    ProofRead::Refused { why, place }
+    Err(refused)
 }
 
 // A record that the older check accepts is tidied into lent tables, and one that it refuses is refused with that number and place.
@@ -143,7 +141,7 @@ pub fn tidy(
     out_proof: &mut [i32],
     out_nodes: &mut [i32],
     out_members: &mut [i32],
-) -> ProofRead
+) -> Result<ProofCounts, Refused>
     ensures answer { result ≡ tidy_of (rooms out_proof.old out_nodes.old out_members.old) (lent schema.now proof.now nodes.now members.now h) }
     ensures rows { out_proof.new ≡ tidy_proof (rooms out_proof.old out_nodes.old out_members.old) (lent schema.now proof.now nodes.now members.now h) }
     ensures nodes { out_nodes.new ≡ tidy_node_table (rooms out_proof.old out_nodes.old out_members.old) (lent schema.now proof.now nodes.now members.now h) }
@@ -151,16 +149,15 @@ pub fn tidy(
 {
     if !full(out_proof, out_nodes, out_members) {
         return refuse(
-            Refusal::TableTooShort,
-            Place::At(0),
+            Refusal::TableTooShort.at(0),
             out_proof,
             out_nodes,
             out_members,
         );
     }
     match check_older(schema, proof, nodes, members, h) {
-        Verdict::Refused { why, place } => { refuse(why, place, out_proof, out_nodes, out_members) }
-        Verdict::Accepted { nodes: _, links: _ } => tidied(
+        Err(refused) => { refuse(refused, out_proof, out_nodes, out_members) }
+        Ok(_) => tidied(
             schema,
             proof,
             nodes,

@@ -13,8 +13,8 @@ use Rattle.stab.specs.Answer.{Numbers, verdict_numbers, packed, answer_in, nodes
 use Rattle.stab.specs.Read.{Reading, read, stopped, read_schema, read_proof, read_model}
 use Rattle.stab.specs.Program.{tableau_of, model_of, after_reading, check_texts, model_texts, check_fault, model_fault}
 use Rattle.stab.specs.Entry.{texts_packed, number_part, fault_part}
-use Rattle.stab.specs.declared.Verdict.{Verdict}
-use Rattle.stab.specs.declared.Verdict.TheVariants.{Accepted}
+use Rattle.std.specs.Prelude.{Ok}
+use Rattle.stab.specs.Finding.{accept, Verdict}
 use Rattle.stab.proofs.Exactness.{accepts_exactly, older_accepts_exactly, model_accepts_exactly, model_counts_zero}
 use Rattle.stab.proofs.Soundness.{no_model_lem}
 use Rattle.stab.proofs.Packed.{check_packs, older_packs, model_packs, read_back, packed_accepted, accepted_packed, packed_sound, packed_sound_older, packed_no_model}
@@ -22,12 +22,12 @@ use Rattle.stab.proofs.Entries.{check_texts_pack, model_texts_pack, number_part_
 use Rattle.told.specs.Demands.{SaysOf, CheckSays, OlderSays, ModelSays, KeepsAs, ReadAs, TextsSay, ReadAsModel, ModelTextsSay}
 
 -- of a verdict that accepts exactly where something is kept, and then with these counts
-module _ (v : Verdict) (kept : Type 0) (nodes links : ℕ) (packs : Packs v) (accepts : (n l : ℕ) → (v ≡ Accepted n l) ↔ (kept × (n ≡ nodes) × (l ≡ links))) where
-  accepted : answer_in (packed v) ≡ 0 → v ≡ Accepted nodes links
+module _ (v : Verdict) (kept : Type 0) (nodes links : ℕ) (packs : Packs v) (accepts : (n l : ℕ) → (v ≡ accept n l) ↔ (kept × (n ≡ nodes) × (l ≡ links))) where
+  accepted : answer_in (packed v) ≡ 0 → v ≡ accept nodes links
   accepted h =
       let a = packed_accepted v packs h in
       let k = (accepts a.0 a.1).0 a.2 in
-      a.2 ∙ ap₂ Accepted k.1 k.2
+      a.2 ∙ ap₂ accept k.1 k.2
 
   exactly : (answer_in (packed v) ≡ 0) ↔ kept
   exactly = (
@@ -69,10 +69,10 @@ older_says_lem T =
 pub older_told : {T : Tableau} {v : Verdict} {x : ℕ} → v ≡ check_older T → x ≡ packed v → (x ≡ packed (check_older T)) × OlderSays T x
 older_told {T} e f = let g = f ∙ ap packed e in (g, subst (OlderSays T) (sym g) (older_says_lem T))
 
-model_accepts : (M : Model) (n l : ℕ) → (check_model M ≡ Accepted n l) ↔ (KeepsModel M × (n ≡ 0) × (l ≡ 0))
+model_accepts : (M : Model) (n l : ℕ) → (check_model M ≡ accept n l) ↔ (KeepsModel M × (n ≡ 0) × (l ≡ 0))
 model_accepts M n l = (
-  λ h. let z = model_counts_zero M n l h in ((model_accepts_exactly M).0 (h ∙ ap₂ Accepted z.0 z.1), z.0, z.1),
-  λ p. (model_accepts_exactly M).1 p.0 ∙ ap₂ Accepted (sym p.1) (sym p.2),
+  λ h. let z = model_counts_zero M n l h in ((model_accepts_exactly M).0 (h ∙ ap₂ accept z.0 z.1), z.0, z.1),
+  λ p. (model_accepts_exactly M).1 p.0 ∙ ap₂ accept (sym p.1) (sym p.2),
 )
 
 pub model_says_lem : (M : Model) → ModelSays M (packed (check_model M))
@@ -91,7 +91,7 @@ model_told {M} e f = let g = f ∙ ap packed e in (g, subst (ModelSays M) (sym g
 
 -- an acceptance, after reading: both are read
 accepted_read : {A B : Type 0} (judge : A → B → Verdict) (r : Reading A) (s : Reading B) (n l : ℕ)
-    → after_reading judge r s ≡ Accepted n l → (a : A) × (b : B) × (r ≡ read a) × (s ≡ read b)
+    → after_reading judge r s ≡ accept n l → (a : A) × (b : B) × (r ≡ read a) × (s ≡ read b)
 unfolding after_reading
 accepted_read judge (read a) (read b) n l e = (a, b, refl, refl)
 accepted_read judge (read a) (stopped why k) n l e = let z : ◌≡◌ {A = ℕ} 0 1 = cc in absurd (omega arith)

@@ -1,5 +1,5 @@
 -- Demands 2 and 3, as the one number x says them that the check, the older check or the model check gives, of tables or of texts.
-use Rattle.std.specs.Prelude.{ℕ, ◌≡◌, ◌↔◌, ◌≢◌, Bool, true, false, List}
+use Rattle.std.specs.Prelude.{ℕ, ◌≡◌, ◌↔◌, ◌≢◌, Bool, true, false, List, Ok}
 use Rattle.stab.specs.Node.{Tableau, schema_of}
 use Rattle.stab.specs.Check.{link_count}
 use Rattle.stab.specs.Model.{Model, check_model}
@@ -9,11 +9,11 @@ use Rattle.stab.specs.Read.{read, SchemaText, ProofText, ModelText, read_schema,
 use Rattle.stab.specs.Program.{tableau_of, model_of, check_texts, model_texts, check_fault, model_fault}
 use Rattle.stab.specs.Entry.{number_part, fault_part}
 use Rattle.stab.specs.Refuted.{Refuted, SameSchema, Irrefutable}
-use Rattle.stab.specs.declared.Verdict.TheVariants.{Accepted}
+use Rattle.stab.specs.Finding.{accept}
 
 -- demand 3: "whatever model the model check is given with the same schema rows, root and least value, it does not accept that model"
 abbrev pub NoModel : Tableau → Type 0
-NoModel T = (M : Model) → SameSchema T M.schema → (nodes links : ℕ) → check_model M ≢ Accepted nodes links
+NoModel T = (M : Model) → SameSchema T M.schema → (nodes links : ℕ) → check_model M ≢ accept nodes links
 
 -- of a tableau that is to keep some rules
 pub record SaysOf (T : Tableau) (kept : Type 0) (x : ℕ) : Type 0 where

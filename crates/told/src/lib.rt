@@ -10,144 +10,135 @@ ghost use Rattle.joint.specs.Joint.{joined_packed, joined_results, JoinedFits};
 ghost use Rattle.growing.specs.Growing.{growth_packed, shown_number};
 ghost use Rattle.grow.specs.Packed.{as_verdict as growthVerdict};
 
-use found::ModelFound;
 use growing::Growth;
-use joint::Joined;
 use line::Span;
-use small::NextSmall;
-use stab::{Fault, ModelRead, ProofRead, SchemaRead, Verdict, Written};
+use small::Next;
+use stab::{Counts, Fault, Header, ModelHeader, ProofCounts, Refused, SchemaHeader, Verdict};
 
 // What was written: the bytes stand where a check's counts do.
-pub fn written(w: Written) -> u64
+pub fn written(w: Result<usize, Refused>) -> u64
     requires { WrittenFits w }
     ensures { result ≡ written_packed w }
 {
     match w {
-        Written::Text { bytes } => 67108864 + bytes as u64,
-        Written::Refused { why, place } => answer::pack(Verdict::Refused { why, place }),
+        Ok(bytes) => 67108864 + bytes as u64,
+        Err(refused) => answer::pack(Err(refused)),
     }
 }
 
 // A schema: its root, its least value and the number of its rows.
-pub fn schema(read: SchemaRead, results: &mut [i32; 3]) -> u64
+pub fn schema(read: Result<SchemaHeader, Refused>, results: &mut [i32; 3]) -> u64
     requires { SchemaFits read }
     ensures value { result ≡ schema_packed read }
     ensures results_after { results.new ≡ schema_results read }
 {
     match read {
-        SchemaRead::Schema { root, least, rows } => {
-            *results = [root, least, signed::of(rows)];
-            answer::pack(Verdict::Accepted { nodes: 0, links: 0 })
+        Ok(h) => {
+            *results = [h.root, h.least, signed::of(h.rows)];
+            answer::pack(Ok(Counts { nodes: 0, links: 0 }))
         }
-        SchemaRead::Refused { why, place } => {
+        Err(refused) => {
             *results = [0, 0, 0];
-            answer::pack(Verdict::Refused { why, place })
+            answer::pack(Err(refused))
         }
     }
 }
 
 // A proof: the numbers of its rows, nodes and members.
-pub fn proof(read: ProofRead, results: &mut [i32; 3]) -> u64
+pub fn proof(read: Result<ProofCounts, Refused>, results: &mut [i32; 3]) -> u64
     requires { ProofFits read }
     ensures value { result ≡ proof_packed read }
     ensures results_after { results.new ≡ proof_results read }
 {
     match read {
-        ProofRead::Proof {
-            rows,
-            nodes,
-            members,
-        } => {
-            *results = [signed::of(rows), signed::of(nodes), signed::of(members)];
-            answer::pack(Verdict::Accepted { nodes: 0, links: 0 })
+        Ok(counts) => {
+            *results = [
+                signed::of(counts.rows),
+                signed::of(counts.nodes),
+                signed::of(counts.members),
+            ];
+            answer::pack(Ok(Counts { nodes: 0, links: 0 }))
         }
-        ProofRead::Refused { why, place } => {
+        Err(refused) => {
             *results = [0, 0, 0];
-            answer::pack(Verdict::Refused { why, place })
+            answer::pack(Err(refused))
         }
     }
 }
 
 // A model: its n and the number of its pairs.
-pub fn model(read: ModelRead, results: &mut [i32; 2]) -> u64
+pub fn model(read: Result<ModelHeader, Refused>, results: &mut [i32; 2]) -> u64
     requires { ModelFits read }
     ensures value { result ≡ model_packed read }
     ensures results_after { results.new ≡ model_results read }
 {
     match read {
-        ModelRead::Model { n, pairs } => {
-            *results = [n, signed::of(pairs)];
-            answer::pack(Verdict::Accepted { nodes: 0, links: 0 })
+        Ok(h) => {
+            *results = [h.n, signed::of(h.pairs)];
+            answer::pack(Ok(Counts { nodes: 0, links: 0 }))
         }
-        ModelRead::Refused { why, place } => {
+        Err(refused) => {
             *results = [0, 0];
-            answer::pack(Verdict::Refused { why, place })
+            answer::pack(Err(refused))
         }
     }
 }
 
 // The first model, or none: the count of nodes is 1 where a model is given, and 0 for none.
-pub fn first_model(first: ModelFound, results: &mut [i32; 2]) -> u64
+pub fn first_model(first: Result<Option<ModelHeader>, Refused>, results: &mut [i32; 2]) -> u64
     requires { Packs (found_verdict first) × ((found_numbers first).pairs ≤ 16) }
     ensures value { result ≡ found_packed first }
     ensures results_after { results.new ≡ found_results first }
 {
     match first {
-        ModelFound::Model { n, pairs } => {
-            *results = [n, signed::of(pairs)];
-            answer::pack(Verdict::Accepted { nodes: 1, links: 0 })
+        Ok(Some(model)) => {
+            *results = [model.n, signed::of(model.pairs)];
+            answer::pack(Ok(Counts { nodes: 1, links: 0 }))
         }
-        ModelFound::None => {
+        Ok(None) => {
             *results = [0, 0];
-            answer::pack(Verdict::Accepted { nodes: 0, links: 0 })
+            answer::pack(Ok(Counts { nodes: 0, links: 0 }))
         }
-        ModelFound::Refused { why, place } => {
+        Err(refused) => {
             *results = [0, 0];
-            answer::pack(Verdict::Refused { why, place })
+            answer::pack(Err(refused))
         }
     }
 }
 
 // The next table, or the last: the count of nodes is 1 where a table is given, and 0 for last.
-pub fn next_table(next: NextSmall) -> u64
+pub fn next_table(next: Result<Next, Refused>) -> u64
     requires { Packs (next_verdict next) }
     ensures { result ≡ next_packed next }
 {
     match next {
-        NextSmall::Table => answer::pack(Verdict::Accepted { nodes: 1, links: 0 }),
-        NextSmall::Last => answer::pack(Verdict::Accepted { nodes: 0, links: 0 }),
-        NextSmall::Refused { why, place } => answer::pack(Verdict::Refused { why, place }),
+        Ok(Next::Table) => answer::pack(Ok(Counts { nodes: 1, links: 0 })),
+        Ok(Next::Last) => answer::pack(Ok(Counts { nodes: 0, links: 0 })),
+        Err(refused) => answer::pack(Err(refused)),
     }
 }
 
 // A joined record: its root, its least value and the numbers of its schema rows, proof rows, nodes and members.
-pub fn joined(j: Joined, results: &mut [i32; 6]) -> u64
+pub fn joined(j: Result<Header, Refused>, results: &mut [i32; 6]) -> u64
     requires { JoinedFits j }
     ensures value { result ≡ joined_packed j }
     ensures results_after { results.new ≡ joined_results j }
 {
     match j {
-        Joined::Record {
-            root,
-            least,
-            schema,
-            proof,
-            nodes,
-            members,
-        } => {
+        Ok(h) => {
             *results = [
-                root,
-                least,
-                signed::of(schema),
-                signed::of(proof),
-                signed::of(nodes),
-                signed::of(members),
+                h.root,
+                h.least,
+                signed::of(h.schema_rows),
+                signed::of(h.proof_rows),
+                signed::of(h.node_rows),
+                signed::of(h.member_count),
             ];
-            answer::pack(Verdict::Accepted { nodes: 0, links: 0 })
+            answer::pack(Ok(Counts { nodes: 0, links: 0 }))
         }
-        Joined::Refused { why, place } => {
+        Err(refused) => {
             *results = [0, 0, 0, 0, 0, 0];
-            answer::pack(Verdict::Refused { why, place })
+            answer::pack(Err(refused))
         }
     }
 }
@@ -165,20 +156,8 @@ pub fn growth(r: Growth, shown: &mut [i32; 1]) -> u64
     ensures value { result ≡ growth_packed r }
     ensures shown_after { shown.new ≡ pos (shown_number r) ∷ [] }
 {
-    match r {
-        Growth::Held {
-            nodes,
-            links,
-            closed,
-        } => {
-            *shown = [closed_number(closed)];
-            answer::pack(Verdict::Accepted { nodes, links })
-        }
-        Growth::Refused { why, place, closed } => {
-            *shown = [closed_number(closed)];
-            answer::pack(Verdict::Refused { why, place })
-        }
-    }
+    *shown = [closed_number(r.closed)];
+    answer::pack(r.verdict)
 }
 
 // Where a refusal points: twice the line, and 1 more in the second text.

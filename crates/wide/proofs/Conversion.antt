@@ -13,9 +13,8 @@ use Rattle.stab.specs.Formula.{Row, row_at, Schema, Formula, tree, is_outer, wel
 use Rattle.stab.specs.Meaning.{Assignment, value, signed, truth}
 use Rattle.stab.specs.Check.{whole_unless, at_unless, holds, row_refusal, root_fits, formula_refusal, formulas_refusal, schema_refusal}
 use Rattle.stab.specs.declared.Refusal.TheVariants.{TableTooShort, TooMany, Root, IllFormed, TooLarge, Plain}
-use Rattle.stab.specs.declared.Place.TheVariants.{Whole}
-use Rattle.stab.specs.declared.Finding.{Finding}
-use Rattle.stab.specs.declared.Finding.TheVariants.{Nothing, Found}
+use Rattle.std.specs.Prelude.{None, Ok, Err}
+use Rattle.stab.specs.Finding.{no_refusal, refuse, Finding}
 use Rattle.stab.proofs.Bools.{otherwise_nothing, otherwise_found}
 use Rattle.stab.proofs.Scans.{scan_same}
 use Rattle.stab.proofs.Trees.{below_nat, below_of}
@@ -87,10 +86,10 @@ convert_clears W =
 
 -- ---- the plain rows, in any table that has them
 
-nothing_after : (x : Finding) → (x otherwise Nothing) ≡ x
+nothing_after : (x : Finding) → (x otherwise no_refusal) ≡ x
 unfolding ◌otherwise◌
-nothing_after Nothing = refl
-nothing_after (Found why p) = refl
+nothing_after (Ok u) = refl
+nothing_after (Err r) = refl
 
 abbrev pub HasPlainRows : WideSchema → (ℕ → Row) → Type 0
 HasPlainRows W plains = (p : ℕ) → p < plain_count W → plains p ≡ row_at (plain_table W) p
@@ -159,8 +158,8 @@ module _ (W : WideSchema) (t : List ℤ) (has : HasPlainRows W (row_at t)) where
 
 -- in a table that starts with the plain rows, the check's pass over formula rows finds nothing exactly if 23 is not given, where the wide
 -- rows pass and the plain rows are few enough
-pub plain_judged : (W : WideSchema) (t : List ℤ) → HasPlainRows W (row_at t) → wide_refusal W.schema ≡ Nothing → plain_count W ≤ 1024
-    → (schema_refusal (plain_in W t) ≡ Nothing) ↔ (plain_refusal W ≡ Nothing)
+pub plain_judged : (W : WideSchema) (t : List ℤ) → HasPlainRows W (row_at t) → wide_refusal W.schema ≡ no_refusal → plain_count W ≤ 1024
+    → (schema_refusal (plain_in W t) ≡ no_refusal) ↔ (plain_refusal W ≡ no_refusal)
 plain_judged W t has h few =
     let j = judged W t has ((wide_clears W.schema).0 h) in (
       λ e. (plain_clears W).1 (record { limit = few; small = j.0 e }),
@@ -168,13 +167,13 @@ plain_judged W t has h few =
     )
 
 -- what it finds otherwise is 8
-pub plain_finds : (W : WideSchema) (t : List ℤ) → HasPlainRows W (row_at t) → wide_refusal W.schema ≡ Nothing
+pub plain_finds : (W : WideSchema) (t : List ℤ) → HasPlainRows W (row_at t) → wide_refusal W.schema ≡ no_refusal
     → schema_refusal (plain_in W t) ≡ scan (λ r. at_unless (small_enough (row_at t) r) TooLarge r) (plain_count W)
 plain_finds W t has h = finds_8 W t has ((wide_clears W.schema).0 h)
 
 -- nothing, or 23 of the whole
 abbrev Or23 : Finding → Type 0
-Or23 x = (x ≡ Nothing) ⊎ (x ≡ Found Plain Whole)
+Or23 x = (x ≡ no_refusal) ⊎ (x ≡ refuse Plain None)
 
 unless_23 : (t : Bool) → Or23 (whole_unless t Plain)
 unfolding whole_unless unless
@@ -191,6 +190,6 @@ scan_23 f zero h = inl refl
 scan_23 f (suc n) h = then_23 (scan f n) (f n) (scan_23 f n h) (h n)
 
 -- what the plain rows are refused with has place -1
-pub plain_refused : (W : WideSchema) → (plain_refusal W ≡ Nothing) ⊎ (plain_refusal W ≡ Found Plain Whole)
+pub plain_refused : (W : WideSchema) → (plain_refusal W ≡ no_refusal) ⊎ (plain_refusal W ≡ refuse Plain None)
 unfolding plain_refusal
 plain_refused W = then_23 _ _ (unless_23 _) (scan_23 _ (plain_count W) (λ r. unless_23 _))

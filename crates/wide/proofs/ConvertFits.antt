@@ -8,8 +8,8 @@ use Rattle.stab.proofs.Tests.{le_tests, whole_clears}
 use Rattle.stab.proofs.Exactness.Refusals.{FindsNear, of_whole, of_at, ◌or_else◌, once, of_scan}
 use Rattle.stab.proofs.Packed.{near_packs}
 use Rattle.stab.specs.Entry.{SchemaFits}
-use Rattle.stab.specs.declared.Finding.{Finding}
-use Rattle.stab.specs.declared.Finding.TheVariants.{Nothing, Found}
+use Rattle.std.specs.Prelude.{Ok, Err}
+use Rattle.stab.specs.Finding.{Finding}
 use Rattle.wide.specs.Convert.{WideSchema, plain_count, wide_row_refusal, wide_refusal, plain_refusal, convert_refusal, converted_by, converted}
 use Rattle.wide.proofs.Conversion.{convert_clears}
 
@@ -43,6 +43,6 @@ unfolding converted converted_by
 converted_fits W = go (convert_refusal W) refl
   where
     go : (x : Finding) → convert_refusal W ≡ x → SchemaFits (converted_by x W)
-    go Nothing e = ((convert_clears W).0 e).plain_rules.limit
-    go (Found why p) e =
-        near_packs why p (convert_finds W why p e)
+    go (Ok u) e = ((convert_clears W).0 e).plain_rules.limit
+    go (Err r) e =
+        near_packs r.why r.place (convert_finds W r.why r.place e)

@@ -14,11 +14,9 @@ use Rattle.stab.specs.Node.{Tableau, schema_of}
 use Rattle.stab.specs.Check.{schema_refusal, check, check_older}
 use Rattle.stab.specs.Text.{padded}
 use Rattle.stab.specs.Refuted.{Refuted}
-use Rattle.stab.specs.declared.Verdict.TheVariants.{Accepted}
-use Rattle.stab.specs.declared.Finding.{Finding}
-use Rattle.stab.specs.declared.Finding.TheVariants.{Nothing, Found}
+use Rattle.std.specs.Prelude.{Ok, Err}
+use Rattle.stab.specs.Finding.{accept, no_refusal, refuse, Place, Finding}
 use Rattle.stab.specs.declared.Refusal.{Refusal}
-use Rattle.stab.specs.declared.Place.{Place}
 use Rattle.stab.proofs.Trees.{tree_agrees}
 use Rattle.stab.proofs.Soundness.{sound, sound_older}
 use Rattle.stab.proofs.Texts.Outcomes.{padded_none}
@@ -43,7 +41,7 @@ unfolding plain_table plain_count
 count_length W = columns_length _
 
 -- "Lent result memory is then all 0": after a refusal
-pub refused_zeros : (W : WideSchema) (why : Refusal) (p : Place) → convert_refusal W ≡ Found why p → converted_table W ≡ replicate W.room (pos 0)
+pub refused_zeros : (W : WideSchema) (why : Refusal) (p : Place) → convert_refusal W ≡ refuse why p → converted_table W ≡ replicate W.room (pos 0)
 unfolding converted_table converted_table_by
 refused_zeros W why p h = ap (λ (x : Finding). converted_table_by x W) h ∙ padded_none (pos 0) W.room
 
@@ -53,10 +51,10 @@ unfolding converted_table converted_table_by
 converted_length W = go (convert_refusal W) refl
   where
     go : (x : Finding) → convert_refusal W ≡ x → length (converted_table_by x W) ≡ W.room
-    go Nothing e =
+    go (Ok u) e =
         let K = (convert_clears W).0 e in
         padded_length W.room (plain_table W) (omega (arith, count_length W, K.room, K.plain_rules.limit))
-    go (Found why p) e = padded_length W.room [] (omega arith)
+    go (Err r) e = padded_length W.room [] (omega arith)
 
 zeros : (m i : ℕ) → get_or (replicate m (pos 0)) i (pos 0) ≡ pos 0
 zeros zero i = refl
@@ -69,7 +67,7 @@ unfolding padded row_at constant_row row
 cleared_row n p =
     row_is (zeros (n - 0) (4 * p)) (zeros (n - 0) (4 * p + 1)) (zeros (n - 0) (4 * p + 2)) (zeros (n - 0) (4 * p + 3))
 
-cleared_true : (W : WideSchema) (why : Refusal) (p : Place) → convert_refusal W ≡ Found why p → (σ : Assignment) (n r : ℕ) → truth σ n (tree (row_at (converted_table W)) r) ≡ true
+cleared_true : (W : WideSchema) (why : Refusal) (p : Place) → convert_refusal W ≡ refuse why p → (σ : Assignment) (n r : ℕ) → truth σ n (tree (row_at (converted_table W)) r) ≡ true
 unfolding converted_table converted_table_by truth value
 cleared_true W why p e σ n r =
     ap (λ (f : Formula). value σ n f (pos 0))
@@ -77,7 +75,7 @@ cleared_true W why p e σ n r =
 
 -- ---- the theorems
 
-module _ (W : WideSchema) (converts : convert_refusal W ≡ Nothing) where
+module _ (W : WideSchema) (converts : convert_refusal W ≡ no_refusal) where
   kept : Converts W
   kept = (convert_clears W).0 converts
 
@@ -92,7 +90,7 @@ module _ (W : WideSchema) (converts : convert_refusal W ≡ Nothing) where
   plain_means σ n = root_means W (row_at (converted_table W)) has_plain_rows kept.wide_rules.formed kept.wide_rules.root_row σ n
 
   -- the table holds the plain rows, and the check's pass over formula rows finds nothing of them
-  pub plain_passes : (schema_refusal (plain_schema W) ≡ Nothing) × (plain_count W ≤ 1024) × (4 * plain_count W ≤ length (converted_table W))
+  pub plain_passes : (schema_refusal (plain_schema W) ≡ no_refusal) × (plain_count W ≤ 1024) × (4 * plain_count W ≤ length (converted_table W))
   plain_passes = (
     (judged W (converted_table W) has_plain_rows kept.wide_rules).1 kept.plain_rules.small,
     kept.plain_rules.limit,
@@ -104,8 +102,8 @@ unfolding nat
 refuted_wide W refuted n σ h = go (convert_refusal W) refl
   where
     go : (x : Finding) → convert_refusal W ≡ x → wide_truth σ n (wide_formula W.schema) ≡ false
-    go Nothing e = sym (plain_means W e σ n) ∙ refuted n σ h
-    go (Found why p) e = absurd (true≢false (sym (cleared_true W why p e σ n (plain_root W)) ∙ refuted n σ h))
+    go (Ok u) e = sym (plain_means W e σ n) ∙ refuted n σ h
+    go (Err r) e = absurd (true≢false (sym (cleared_true W r.why r.place e σ n (plain_root W)) ∙ refuted n σ h))
 
 -- "so a closed tableau for the plain schema refutes the wide one", whichever entry accepts it: a tableau with that root and least value,
 -- whose schema table is the one filled or agrees with it up to the root
@@ -118,8 +116,8 @@ module _ (W : WideSchema) (T : Tableau) (rows : (r : ℕ) → r ≤ plain_root W
       ∙ ap (λ (z : ℤ). truth σ n (tree (row_at T.schema) (nat z))) (sym root)
       ∙ r n σ (subst (λ (z : ℤ). z ≤ℤ pos n) (sym least) h))
 
-  pub wide_refuted : check T ≡ Accepted nodes links → WideRefuted W.schema
+  pub wide_refuted : check T ≡ accept nodes links → WideRefuted W.schema
   wide_refuted h = same_refuted (sound T nodes links h)
 
-  pub wide_refuted_older : check_older T ≡ Accepted nodes links → WideRefuted W.schema
+  pub wide_refuted_older : check_older T ≡ accept nodes links → WideRefuted W.schema
   wide_refuted_older h = same_refuted (sound_older T nodes links h)

@@ -15,12 +15,11 @@ use Rattle.stab.specs.Model.{Model, pair_refusal, model_refusal}
 use Rattle.stab.specs.Answer.{refusal_number}
 use Rattle.stab.specs.Refuted.{SameSchema}
 use Rattle.stab.specs.declared.Mode.{Mode}
-use Rattle.stab.specs.declared.Place.{Place}
-use Rattle.stab.specs.declared.Place.TheVariants.{Whole, At}
+use Rattle.std.specs.Prelude.{None, Some, Ok, Err}
+use Rattle.stab.specs.Finding.{no_refusal, refuse, Place, Finding}
 use Rattle.stab.specs.declared.Refusal.{Refusal}
+use Rattle.stab.specs.declared.Refused.{Refused}
 use Rattle.stab.specs.declared.Refusal.TheVariants.{IllFormed, TooLarge}
-use Rattle.stab.specs.declared.Finding.{Finding}
-use Rattle.stab.specs.declared.Finding.TheVariants.{Nothing, Found}
 use Rattle.stab.proofs.Bools.{decide, if_true, and_both, nothing_unless, nothing≢found}
 use Rattle.stab.proofs.Trees.{below_of}
 use Rattle.wide.specs.Converted.{Spares}
@@ -33,16 +32,19 @@ use Rattle.wide.proofs.Converted.{has_plain_rows}
 abbrev Other : Refusal → Type 0
 Other why = (refusal_number why ≢ 6) × (refusal_number why ≢ 7) × (refusal_number why ≢ 8)
 
-same_number : {why why' : Refusal} {p p' : Place} → Found why p ≡ Found why' p' → refusal_number why ≡ refusal_number why'
-same_number {why} {why'} e = let q : why ≡ why' = cc in ap refusal_number q
+same_refused : {r r' : Refused} → ◌≡◌ {A = Finding} (Err r) (Err r') → r ≡ r'
+same_refused e = cc
 
-same_row : {why why' : Refusal} {k r : ℕ} → Found why (At k) ≡ Found why' (At r) → k ≡ r
-same_row e = cc
+same_number : {why why' : Refusal} {p p' : Place} → refuse {A = Unit {0}} why p ≡ refuse why' p' → refusal_number why ≡ refusal_number why'
+same_number e = ap (λ (r : Refused). refusal_number r.why) (same_refused e)
 
-nothing_spares : {s : ℕ} {x : Finding} → x ≡ Nothing → Spares s x
+same_row : {why why' : Refusal} {k r : ℕ} → refuse {A = Unit {0}} why (Some k) ≡ refuse why' (Some r) → k ≡ r
+same_row {k = k} {r = r} e = let q : Some k ≡ Some r = ap (λ (r : Refused). r.place) (same_refused e) in cc
+
+nothing_spares : {s : ℕ} {x : Finding} → x ≡ no_refusal → Spares s x
 nothing_spares {x = x} e = record { root = never; formed = λ r l. never; small = λ r l. never }
   where
-    never : {why : Refusal} {p : Place} → x ≢ Found why p
+    never : {why : Refusal} {p : Place} → x ≢ refuse why p
     never h = nothing≢found (sym e ∙ h)
 
 other_unless : {s : ℕ} (t : Bool) (why : Refusal) (p : Place) → Other why → Spares s (unless t why p)
@@ -52,11 +54,11 @@ other_unless false why p o = record { root = λ e. o.0 (same_number e); formed =
 
 other_whole : {s : ℕ} (t : Bool) (why : Refusal) → Other why → Spares s (whole_unless t why)
 unfolding whole_unless
-other_whole t why o = other_unless t why Whole o
+other_whole t why o = other_unless t why None o
 
 other_at : {s : ℕ} (t : Bool) (why : Refusal) (k : ℕ) → Other why → Spares s (at_unless t why k)
 unfolding at_unless
-other_at t why k o = other_unless t why (At k) o
+other_at t why k o = other_unless t why (Some k) o
 
 -- a row that is none of the first s
 later_at : {s : ℕ} (t : Bool) (why : Refusal) (k : ℕ) → s ≤ k → refusal_number why ≢ 6 → Spares s (at_unless t why k)
@@ -68,8 +70,8 @@ later_at false why k l o =
 infixr 25 ◌and_then_lem◌
 ◌and_then_lem◌ : {s : ℕ} {x y : Finding} → Spares s x → Spares s y → Spares s (x otherwise y)
 unfolding ◌otherwise◌
-◌and_then_lem◌ {x = Nothing} f g = g
-◌and_then_lem◌ {x = Found why p} f g = f
+◌and_then_lem◌ {x = (Ok u)} f g = g
+◌and_then_lem◌ {x = (Err r)} f g = f
 
 scan_spares : {s : ℕ} (f : ℕ → Finding) (n : ℕ) → ((k : ℕ) → Spares s (f k)) → Spares s (scan f n)
 unfolding scan
@@ -78,7 +80,7 @@ scan_spares f (suc n) h = scan_spares f n h and_then_lem h n
 
 -- ---- the plain rows in any table that starts with them
 
-module _ (W : WideSchema) (converts : convert_refusal W ≡ Nothing) (plains : ℕ → Row) (has : HasPlainRows W plains) where
+module _ (W : WideSchema) (converts : convert_refusal W ≡ no_refusal) (plains : ℕ → Row) (has : HasPlainRows W plains) where
   rules : Converts W
   rules = (convert_clears W).0 converts
 
@@ -115,7 +117,7 @@ module _ (W : WideSchema) (converts : convert_refusal W ≡ Nothing) (plains : �
 
 -- ---- the theorems
 
-module _ (W : WideSchema) (converts : convert_refusal W ≡ Nothing) where
+module _ (W : WideSchema) (converts : convert_refusal W ≡ no_refusal) where
   -- no check gives 6, or 7 or 8 at a plain row, whatever the proof rows and nodes are
   pub plain_spared : (T : Tableau) → SameSchema T (plain_schema W) → (m : Mode) → Spares (plain_count W) (refusal m T)
   unfolding refusal rows formula_rows set_refusal parent_refusal node_refusal step_refusal

@@ -14,8 +14,9 @@ use Rattle.stab.specs.Read.{Reading, read, stopped, SchemaText, read_schema}
 use Rattle.stab.specs.Write.{schema_text}
 use Rattle.stab.specs.Answer.{refused_numbers}
 use Rattle.stab.specs.Program.{printed}
-use Rattle.stab.specs.declared.SchemaRead.{SchemaRead}
-use Rattle.stab.specs.declared.SchemaRead.TheVariants.{Schema, Refused}
+use Rattle.std.specs.Prelude.{Ok, Err, Result}
+use Rattle.stab.specs.declared.Refused.{Refused}
+use Rattle.stab.specs.declared.SchemaHeader.{SchemaHeader}
 use Rattle.stab.proofs.Evaluate.{evaluated}
 use Rattle.stab.proofs.Cases.{answer}
 use Rattle.wide.specs.WideFormula.{wide_kind_of, wide_part_if, wide_part, wide_decode, wide_tree_n, wide_tree, wide_size, wide_depth, wide_loose, wide_fixed, is_wide_body, is_wide_outer, wide_mixes, two_parts, wide_formed_as, wide_formed, wide_small}
@@ -35,9 +36,9 @@ pub wide_of : List ℤ → ℤ → ℤ → WideSchema
 wide_of t root least = record { schema = record { table = t; rows = length t / 4; root = root; least = least }; room = 4096 }
 
 -- the plain schema text, or the refusal as a check prints it
-shown : WideSchema → SchemaRead → List ℕ
-shown W (Schema root least rows) = schema_text (converted_table W) rows root least
-shown W (Refused why p) = printed (refused_numbers why p)
+shown : WideSchema → Result SchemaHeader Refused → List ℕ
+shown W (Ok c) = schema_text (converted_table W) c.rows c.root c.least
+shown W (Err r) = printed (refused_numbers r.why r.place)
 
 conversion : WideSchema → List ℕ
 conversion W = shown W (converted W)
@@ -79,9 +80,9 @@ pub equivalences : ℕ → List ℤ
 equivalences k = four 2 0 1 0 ++ four 2 1 1 0 ++ run (λ r. four 10 0 1 0) 0 k
 
 -- root and number of rows, or the refusal
-summary : SchemaRead → List ℕ
-summary (Schema root least rows) = nat root ∷ rows ∷ []
-summary (Refused why p) = printed (refused_numbers why p)
+summary : Result SchemaHeader Refused → List ℕ
+summary (Ok c) = nat c.root ∷ c.rows ∷ []
+summary (Err r) = printed (refused_numbers r.why r.place)
 
 pub summed : List ℤ → ℤ → List ℕ
 summed t root = summary (converted (wide_of t root (pos 0)))

@@ -1,5 +1,5 @@
 -- 02, No. 1: the converter.
-use Rattle.std.specs.Prelude.{ℕ, List, [], leb, ℤ, pos, length}
+use Rattle.std.specs.Prelude.{ℕ, List, [], leb, ℤ, pos, length, Ok, Err, Result}
 use Rattle.stab.specs.Basic.{nat, ◌otherwise◌, scan}
 use Rattle.stab.specs.Formula.{Row, row_at, Schema, small_enough}
 use Rattle.stab.specs.Check.{whole_unless, at_unless, holds, root_fits}
@@ -7,10 +7,8 @@ use Rattle.stab.specs.Lent.{lent_schema}
 use Rattle.stab.specs.Text.{padded}
 use Rattle.stab.specs.declared.SchemaHeader.{SchemaHeader}
 use Rattle.stab.specs.declared.Refusal.TheVariants.{TableTooShort, TooMany, Root, IllFormed, TooLarge, Plain}
-use Rattle.stab.specs.declared.SchemaRead.{SchemaRead}
-use Rattle.stab.specs.declared.SchemaRead.TheVariants.{Schema as Gave, Refused as ConvertRefused}
-use Rattle.stab.specs.declared.Finding.{Finding}
-use Rattle.stab.specs.declared.Finding.TheVariants.{Nothing, Found}
+use Rattle.stab.specs.Finding.{Finding}
+use Rattle.stab.specs.declared.Refused.{Refused}
 use Rattle.wide.specs.WideFormula.{wide_formula, is_wide_outer, wide_formed, wide_small}
 use Rattle.wide.specs.Plain.{image, plain_rows, columns}
 
@@ -62,17 +60,17 @@ convert_refusal W =
     plain_refusal W
 
 -- "root, least or n and the counts are given as there": as in reading a schema
-unfoldable pub converted_by : Finding → WideSchema → SchemaRead
-converted_by Nothing W = Gave (pos (plain_root W)) W.schema.least (plain_count W)
-converted_by (Found why p) W = ConvertRefused why p
+unfoldable pub converted_by : Finding → WideSchema → Result SchemaHeader Refused
+converted_by (Ok u) W = Ok (record { root = pos (plain_root W); least = W.schema.least; rows = plain_count W })
+converted_by (Err r) W = Err r
 
-unfoldable pub converted : WideSchema → SchemaRead
+unfoldable pub converted : WideSchema → Result SchemaHeader Refused
 converted W = converted_by (convert_refusal W) W
 
 -- the lent result table: 0 past the last row, all 0 after a refusal
 unfoldable pub converted_table_by : Finding → WideSchema → List ℤ
-converted_table_by Nothing W = padded (pos 0) W.room (plain_table W)
-converted_table_by (Found why p) W = padded (pos 0) W.room []
+converted_table_by (Ok u) W = padded (pos 0) W.room (plain_table W)
+converted_table_by (Err r) W = padded (pos 0) W.room []
 
 unfoldable pub converted_table : WideSchema → List ℤ
 converted_table W = converted_table_by (convert_refusal W) W

@@ -1,11 +1,9 @@
 -- 02, No. 1: what is asked of a schema that the converter gave.
-use Rattle.std.specs.Prelude.{ℕ, ◌<◌, ◌≡◌, ◌≢◌, false, pos, ◌≤ℤ◌}
+use Rattle.std.specs.Prelude.{ℕ, ◌<◌, ◌≡◌, ◌≢◌, false, pos, ◌≤ℤ◌, None, Some}
 use Rattle.stab.specs.Formula.{Schema}
 use Rattle.stab.specs.Meaning.{Assignment}
-use Rattle.stab.specs.declared.Place.TheVariants.{Whole, At}
+use Rattle.stab.specs.Finding.{refuse, Finding}
 use Rattle.stab.specs.declared.Refusal.TheVariants.{Root, IllFormed, TooLarge}
-use Rattle.stab.specs.declared.Finding.{Finding}
-use Rattle.stab.specs.declared.Finding.TheVariants.{Found}
 use Rattle.wide.specs.WideFormula.{wide_formula}
 use Rattle.wide.specs.WideMeaning.{wide_truth}
 
@@ -15,6 +13,6 @@ WideRefuted S = (n : ℕ) (σ : Assignment) → S.least ≤ℤ pos n → wide_tr
 
 -- what is found is not 6, and not 7 or 8 at one of the first s rows
 pub record Spares (s : ℕ) (found : Finding) : Type 0 where
-  pub root : found ≢ Found Root Whole
-  pub formed : (r : ℕ) → r < s → found ≢ Found IllFormed (At r)
-  pub small : (r : ℕ) → r < s → found ≢ Found TooLarge (At r)
+  pub root : found ≢ refuse Root None
+  pub formed : (r : ℕ) → r < s → found ≢ refuse IllFormed (Some r)
+  pub small : (r : ℕ) → r < s → found ≢ refuse TooLarge (Some r)

@@ -1,5 +1,5 @@
 -- Laws of wide rows: their kinds by number, and what is kept of them.
-use Rattle.std.specs.Prelude.{if◌then◌else◌}
+use Rattle.std.specs.Prelude.{if◌then◌else◌, None, Some}
 use Prim.Native.Nat.{ℕ, zero, suc, ◌+◌, ◌*◌, ◌<◌, ◌≤◌}
 use native.Mathlib.Omega.{arith}
 use mathlib.Core.Path.{◌≡◌, refl, sym, ◌∙◌, ap, ap₂, subst}
@@ -14,8 +14,7 @@ use Rattle.stab.specs.Basic.{◌and◌, eq_z, nat, below, unless}
 use Rattle.stab.specs.Formula as F
 use Rattle.stab.specs.Formula.{Row, Op, Kind, constant, literal, junction, iteration, unknown, kind_of, decode, tree, offset, well_formed_as}
 use Rattle.stab.specs.Check.{at_unless}
-use Rattle.stab.specs.declared.Finding.{Finding}
-use Rattle.stab.specs.declared.Finding.TheVariants.{Nothing}
+use Rattle.stab.specs.Finding.{no_refusal, Finding}
 use Rattle.stab.proofs.Bools.{and_left, and_right, if_false, otherwise_first, otherwise_second, unless_nothing}
 use Rattle.stab.proofs.Whole.{num, of_eq, eq_z_not, nat_pos, at_least_0}
 use Rattle.stab.proofs.Trees.{below_nat}
@@ -28,7 +27,6 @@ use Rattle.wide.proofs.WideTrees.{wide_part_of, wide_decoded}
 use Rattle.formula.specs.Facts.{bit}
 use Rattle.formula.specs.Rows.{facts_of, facts_at, both_facts, over_facts, kept_if, judged, pair_judged, body_judged, judged_refusal, kept_judged, Summable}
 use Rattle.formula.specs.declared.rows.Facts.{Facts}
-use Rattle.formula.specs.declared.rows.Judged.TheVariants.{Ill, Formed}
 use Rattle.formula.proofs.KeptLaws.{kept_length}
 use Rattle.formula.proofs.RowLaws.{unknown_kind, facts_same, bit_or_lem, formed_as, pair_same, body_same, judged_refusal_lem, judged_kept, facts_other, facts_here, each_more}
 use Rattle.widerows.specs.WideRows.{wide_facts_of, not_facts, not_judged, wide_judged, WidePassed}
@@ -128,7 +126,7 @@ module _ (rows : ℕ → Row) (r : ℕ) where
   unfolding judged wide_judged
   leaf_same k e p q =
       let e' = kind_of_plain (rows r).kind k e in
-      ap₂ (λ (t : Bool) (f : Facts). if t then Formed f else Ill)
+      ap₂ (λ (t : Bool) (f : Facts). if t then Some f else None)
       (formed_as rows r k e' ∙ p ∙ sym (wide_formed_lem rows r (plain k) e))
       (ap facts_of (decoded rows r k e') ∙ q ∙ ap wide_facts_of (sym (wide_decoded rows r (plain k) e)))
 
@@ -140,23 +138,23 @@ module _ (rows : ℕ → Row) (r : ℕ) where
   unfolding well_formed_as wide_formed_as decode wide_decode facts_of wide_facts_of F.size F.depth F.loose F.fixed wide_size wide_depth wide_loose wide_fixed
   literal_same v e = leaf_same (literal v) e refl refl
 
-  pub no_kind_ill : wide_kind_of (rows r).kind ≡ plain unknown → Ill ≡ wide_judged rows r
+  pub no_kind_ill : wide_kind_of (rows r).kind ≡ plain unknown → None ≡ wide_judged rows r
   unfolding wide_judged wide_formed_as
   no_kind_ill e = sym (if_false (wide_formed rows r) _ _ (wide_formed_lem rows r (plain unknown) e))
 
 -- the same three tests, and numbers that agree where they pass
-three_same : (x y z : Bool) (f : Facts) {g : Facts} → (x ≡ true → g ≡ f) → (if x and y and z then Formed g else Ill) ≡ (if x and y and z then Formed f else Ill)
+three_same : (x y z : Bool) (f : Facts) {g : Facts} → (x ≡ true → g ≡ f) → (if x and y and z then Some g else None) ≡ (if x and y and z then Some f else None)
 unfolding ◌and◌
-three_same true y z f h = ap (λ (i : Facts). if y and z then Formed i else Ill) (h refl)
+three_same true y z f h = ap (λ (i : Facts). if y and z then Some i else None) (h refl)
 three_same false y z f h = refl
 
 module _ (rows : ℕ → Row) (facts : List ℕ) (r : ℕ) (passed : WidePassed rows facts r) where
   known_part : (z : ℤ) → below r z ≡ true → facts_at facts (nat z) ≡ wide_facts_of (wide_tree rows (nat z))
   known_part z h = passed.known (nat z) (below_nat r z h)
 
-  judged_as : (t : Bool) → t ≡ wide_formed rows r → (if t then Formed (wide_facts_of (wide_tree rows r)) else Ill) ≡ wide_judged rows r
+  judged_as : (t : Bool) → t ≡ wide_formed rows r → (if t then Some (wide_facts_of (wide_tree rows r)) else None) ≡ wide_judged rows r
   unfolding wide_judged
-  judged_as t e = ap (λ (u : Bool). if u then Formed (wide_facts_of (wide_tree rows r)) else Ill) e
+  judged_as t e = ap (λ (u : Bool). if u then Some (wide_facts_of (wide_tree rows r)) else None) e
 
   -- what the numbers kept say of a row with two parts is what is to be said
   pub pair_judged_lem : {k : WideKind} → TwoKind k → wide_kind_of (rows r).kind ≡ k → pair_judged r (rows r) facts ≡ wide_judged rows r
@@ -212,7 +210,7 @@ module _ (rows : ℕ → Row) (r : ℕ) where
       judged_kept (wide_formed rows r) (wide_facts_of (wide_tree rows r)) r facts
       ∙ ap (λ (o : Finding). kept_if o facts r (wide_facts_of (wide_tree rows r))) row_found_lem
 
-  module _ (h : wide_row_refusal rows r ≡ Nothing) where
+  module _ (h : wide_row_refusal rows r ≡ no_refusal) where
     row_formed : wide_formed rows r ≡ true
     unfolding wide_row_refusal at_unless
     row_formed = unless_nothing _ _ _ (otherwise_first _ _ h)
@@ -230,7 +228,7 @@ passed_none rows facts =
       small = λ a l. absurd (omega arith);
     }
 
-pub passed_more : (rows : ℕ → Row) (facts : List ℕ) (r : ℕ) → WidePassed rows facts r → 4 * r + 3 < length facts → wide_row_refusal rows r ≡ Nothing
+pub passed_more : (rows : ℕ → Row) (facts : List ℕ) (r : ℕ) → WidePassed rows facts r → 4 * r + 3 < length facts → wide_row_refusal rows r ≡ no_refusal
     → WidePassed rows (kept_if (wide_row_refusal rows r) facts r (wide_facts_of (wide_tree rows r))) (r + 1)
 unfolding kept_if
 passed_more rows facts r passed room h =

@@ -1,5 +1,5 @@
 -- What the pass over wide rows works out for a row, and what holds of rows that passed.
-use Rattle.std.specs.Prelude.{ℕ, ◌+◌, ◌*◌, ◌<◌, ◌≤◌, ◌≡◌, true, List, pos, length, if◌then◌else◌}
+use Rattle.std.specs.Prelude.{ℕ, ◌+◌, ◌*◌, ◌<◌, ◌≤◌, ◌≡◌, true, List, pos, length, if◌then◌else◌, None, Some, Option}
 use Rattle.stab.specs.Basic.{◌and◌, eq_z, nat, below}
 use Rattle.stab.specs.Check.{root_fits}
 use Rattle.stab.specs.Formula.{Row, row_at, Schema}
@@ -8,8 +8,6 @@ use Rattle.wide.specs.Convert.{wide_row_refusal}
 use Rattle.formula.specs.Facts.{bit}
 use Rattle.formula.specs.Rows.{facts_at, facts_table_by}
 use Rattle.formula.specs.declared.rows.Facts.{Facts}
-use Rattle.formula.specs.declared.rows.Judged.{Judged}
-use Rattle.formula.specs.declared.rows.Judged.TheVariants.{Ill, Formed}
 
 -- the four numbers of a wide formula
 unfoldable pub wide_facts_of : Wide → Facts
@@ -20,15 +18,15 @@ unfoldable pub not_facts : Facts → Facts
 not_facts f = record { size = 1 + f.size; depth = 1 + f.depth; loose = f.loose; fixed = f.fixed }
 
 -- row r, whose columns are w, is a not: a is a smaller row, b and c are 0
-unfoldable pub not_judged : ℕ → Row → List ℕ → Judged
+unfoldable pub not_judged : ℕ → Row → List ℕ → Option Facts
 not_judged r w facts =
     if below r w.a and eq_z w.b (pos 0) and eq_z w.c (pos 0)
-    then Formed (not_facts (facts_at facts (nat w.a)))
-    else Ill
+    then Some (not_facts (facts_at facts (nat w.a)))
+    else None
 
 -- row r is ill-formed, or has these four numbers
-unfoldable pub wide_judged : (ℕ → Row) → ℕ → Judged
-wide_judged rows r = if wide_formed rows r then Formed (wide_facts_of (wide_tree rows r)) else Ill
+unfoldable pub wide_judged : (ℕ → Row) → ℕ → Option Facts
+wide_judged rows r = if wide_formed rows r then Some (wide_facts_of (wide_tree rows r)) else None
 
 -- the table after the pass over n rows: the numbers of each row, up to the first that is refused
 unfoldable pub wide_table : (ℕ → Row) → List ℕ → ℕ → List ℕ

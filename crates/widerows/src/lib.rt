@@ -6,7 +6,7 @@ ghost use Rattle.std.specs.Prelude.{◌≡◌, ◌+◌, ◌*◌, ◌<◌, ◌≤
 ghost use Rattle.stab.specs.Basic.{scan};
 ghost use Rattle.stab.specs.Formula.{formula_rows};
 ghost use Rattle.stab.specs.Lent.{lent_schema};
-ghost use Rattle.stab.specs.declared.Finding.TheVariants.{Nothing};
+ghost use Rattle.stab.specs.Finding.{no_refusal};
 ghost use Rattle.wide.specs.WideFormula.{wide_kind_of, wide_tree};
 ghost use Rattle.wide.specs.Convert.{wide_row_refusal, wide_refusal};
 ghost use Rattle.formula.specs.Cells.{row_of};
@@ -16,9 +16,9 @@ ghost use Rattle.widerows.specs.WideRows.{wide_facts_of, not_judged, wide_judged
 use formula::cells;
 use formula::cells::Cells;
 use formula::rows::{
-    Facts, Judged, below, constant, iteration, junction, known, literal, part, root_fits, sized,
+    Facts, below, constant, iteration, junction, known, literal, part, root_fits, sized,
 };
-use stab::{Finding, Place, Refusal, SchemaHeader};
+use stab::{Refusal, Refused, SchemaHeader};
 
 // ---- one row
 
@@ -33,21 +33,21 @@ fn kind_of(z: i32) -> usize
 }
 
 // A not: a is a smaller row, b and c are 0.
-fn negation(w: Cells, r: usize, facts: &[u32]) -> Judged
+fn negation(w: Cells, r: usize, facts: &[u32]) -> Option<Facts>
     requires { (r < 1024) × Summable facts.now r }
     ensures { result ≡ not_judged r (row_of w) facts.now }
 {
     if !below(r, w.a) {
-        return Judged::Ill;
+        return None;
     }
     if !signed::equal(w.b, 0) {
-        return Judged::Ill;
+        return None;
     }
     if !signed::equal(w.c, 0) {
-        return Judged::Ill;
+        return None;
     }
     let f = part(r, w.a, facts);
-    Judged::Formed(Facts {
+    Some(Facts {
         size: 1 + f.size,
         depth: 1 + f.depth,
         loose: f.loose,
@@ -56,7 +56,7 @@ fn negation(w: Cells, r: usize, facts: &[u32]) -> Judged
 }
 
 // Row r, judged by its kind: 9, 10 and 11 have two parts, as 4 and 5 have.
-fn row(schema: &[i32], s: usize, proof: &[i32], r: usize, facts: &[u32]) -> Judged
+fn row(schema: &[i32], s: usize, proof: &[i32], r: usize, facts: &[u32]) -> Option<Facts>
     requires { (r < 1024) × WidePassed (formula_rows schema.now s proof.now) facts.now r }
     ensures { result ≡ wide_judged (formula_rows schema.now s proof.now) r }
 {
@@ -80,13 +80,13 @@ fn row(schema: &[i32], s: usize, proof: &[i32], r: usize, facts: &[u32]) -> Judg
     if k < 12 {
         return junction(w, r, facts);
     }
-    Judged::Ill
+    None
 }
 
 // ---- every row
 
 // What is found at row r; its numbers are kept where that is nothing.
-fn step(schema: &[i32], s: usize, proof: &[i32], r: usize, facts: &mut [u32]) -> Finding
+fn step(schema: &[i32], s: usize, proof: &[i32], r: usize, facts: &mut [u32]) -> Result<(), Refused>
     requires { (r < 1024) × (4 * r + 3 < length facts.old) × WidePassed (formula_rows schema.now s proof.now) facts.old r }
     ensures value { result ≡ wide_row_refusal (formula_rows schema.now s proof.now) r }
     ensures facts_after { facts.new ≡ kept_if (wide_row_refusal (formula_rows schema.now s proof.now) r) facts.old r (wide_facts_of (wide_tree (formula_rows schema.now s proof.now) r)) }
@@ -96,48 +96,34 @@ fn step(schema: &[i32], s: usize, proof: &[i32], r: usize, facts: &mut [u32]) ->
 }
 
 // What is found first among n rows. The table holds the numbers of each before it.
-fn each(schema: &[i32], s: usize, proof: &[i32], n: usize, facts: &mut [u32]) -> Finding
+fn each(schema: &[i32], s: usize, proof: &[i32], n: usize, facts: &mut [u32]) -> Result<(), Refused>
     requires { (n ≤ 1024) × (4 * n ≤ length facts.old) }
     ensures value { result ≡ scan (wide_row_refusal (formula_rows schema.now s proof.now)) n }
-    ensures wide_passed { scan (wide_row_refusal (formula_rows schema.now s proof.now)) n ≡ Nothing → WidePassed (formula_rows schema.now s proof.now) facts.new n }
+    ensures wide_passed { scan (wide_row_refusal (formula_rows schema.now s proof.now)) n ≡ no_refusal → WidePassed (formula_rows schema.now s proof.now) facts.new n }
     ensures facts_after { facts.new ≡ wide_table (formula_rows schema.now s proof.now) facts.old n }
 {
-    let mut r = 0;
-    while r < n {
-        let found = step(schema, s, proof, r, facts);
-        let Finding::Nothing = found else {
-            return found;
-        };
-        r += 1;
+    for r in 0..n {
+        step(schema, s, proof, r, facts)?;
     }
-    Finding::Nothing
+    Ok(())
 }
 
 // What is found of wide rows: the root and the least value, then every row, then that the root is outer. The rest of the table
 // stands where a proof's rows would.
-pub fn wide_rows(wide: &[i32], h: SchemaHeader, facts: &mut [u32]) -> Finding
+pub fn wide_rows(wide: &[i32], h: SchemaHeader, facts: &mut [u32]) -> Result<(), Refused>
     requires { (h.rows ≤ 1024) × (4 * h.rows ≤ length wide.now) × (4 * h.rows ≤ length facts.old) }
     ensures value { result ≡ wide_refusal (lent_schema wide.now h) }
     ensures facts_after { facts.new ≡ wide_rows_table (lent_schema wide.now h) facts.old }
 {
     if !root_fits(h.rows, h.root, h.least) {
-        return Finding::Found {
-            why: Refusal::Root,
-            place: Place::Whole,
-        };
+        return Err(Refusal::Root.whole());
     }
     let n = h.rows;
     let end = 4 * n;
-    let found = each(wide, n, &wide[end..], n, facts);
-    let Finding::Nothing = found else {
-        return found;
-    };
+    each(wide, n, &wide[end..], n, facts)?;
     let f = known(facts, signed::natural(h.root));
     if f.loose == 0 {
-        return Finding::Nothing;
+        return Ok(());
     }
-    Finding::Found {
-        why: Refusal::Root,
-        place: Place::Whole,
-    }
+    Err(Refusal::Root.whole())
 }

@@ -12,11 +12,9 @@ use Rattle.stab.specs.Text.{text_limit, padded}
 use Rattle.stab.specs.Write.{write_refusal, output_refusal, Writing, refused, wrote, writing_of, writing, written, output}
 use Rattle.stab.specs.declared.Refusal.{Refusal}
 use Rattle.stab.specs.declared.Refusal.TheVariants.{TableTooShort, TooMany, Number, Output}
-use Rattle.stab.specs.declared.Written.{Written}
-use Rattle.stab.specs.declared.Written.TheVariants.{Text}
-use Rattle.stab.specs.declared.Finding.TheVariants.{Nothing, Found}
-use Rattle.stab.specs.declared.Finding.{Finding}
-use Rattle.stab.specs.declared.Place.TheVariants.{Whole}
+use Rattle.std.specs.Prelude.{Ok, None, Result}
+use Rattle.stab.specs.Finding.{no_refusal, refuse, Finding}
+use Rattle.stab.specs.declared.Refused.{Refused}
 use Rattle.stab.proofs.Bools.{and_both, and_first_false, and_second_false, otherwise_nothing, otherwise_found, nothing_unless, found_unless}
 use Rattle.digits.specs.Over.{over}
 use Rattle.digits.proofs.Overs.{padded_over}
@@ -35,32 +33,32 @@ and_grouped r false b d = refl
 
 -- 22
 module _ (n : ℕ) (text : List ℕ) where
-  unfit : (leb (length text) n and leb (length text) text_limit) ≡ false → writing Nothing n text ≡ refused Output Whole
+  unfit : (leb (length text) n and leb (length text) text_limit) ≡ false → writing no_refusal n text ≡ refused Output None
   unfolding writing writing_of output_refusal whole_unless ◌otherwise◌
   unfit e = ap (λ (x : Finding). writing_of x text) (found_unless _ _ _ e)
 
-  pub no_room : n < length text → writing Nothing n text ≡ refused Output Whole
+  pub no_room : n < length text → writing no_refusal n text ≡ refused Output None
   no_room m = unfit (and_first_false _ _ (lt-leb (length text) n m))
 
-  pub too_long : 65536 < length text → writing Nothing n text ≡ refused Output Whole
+  pub too_long : 65536 < length text → writing no_refusal n text ≡ refused Output None
   too_long m = unfit (and_second_false (leb (length text) n) _ (unfold text_limit in lt-leb (length text) 65536 m))
 
-  pub fitting : length text ≤ n → length text ≤ 65536 → writing Nothing n text ≡ wrote text
+  pub fitting : length text ≤ n → length text ≤ 65536 → writing no_refusal n text ≡ wrote text
   unfolding writing writing_of output_refusal whole_unless ◌otherwise◌ text_limit
   fitting a b =
       ap (λ (x : Finding). writing_of x text) (nothing_unless _ _ _ (and_both _ _ (le-leb (length text) n a) (le-leb (length text) 65536 b)))
 
 -- 2, 5, 21, and what is left
 module _ (held few ok : Bool) (n : ℕ) (text : List ℕ) where
-  refusal_is : (why : Refusal) → write_refusal held few ok ≡ Found why Whole → writing (write_refusal held few ok) n text ≡ refused why Whole
+  refusal_is : (why : Refusal) → write_refusal held few ok ≡ refuse why None → writing (write_refusal held few ok) n text ≡ refused why None
   unfolding writing writing_of
   refusal_is why e = ap (λ (x : Finding). writing_of x text) (otherwise_found _ _ e)
 
-  pub too_short : held ≡ false → writing (write_refusal held few ok) n text ≡ refused TableTooShort Whole
+  pub too_short : held ≡ false → writing (write_refusal held few ok) n text ≡ refused TableTooShort None
   too_short h = refusal_is TableTooShort (unfold write_refusal whole_unless in otherwise_found _ _ (found_unless held _ _ h))
 
   module _ (h : held ≡ true) where
-    pub too_many : few ≡ false → writing (write_refusal held few ok) n text ≡ refused TooMany Whole
+    pub too_many : few ≡ false → writing (write_refusal held few ok) n text ≡ refused TooMany None
     too_many f =
         refusal_is TooMany
         (unfold write_refusal whole_unless in
@@ -71,25 +69,25 @@ module _ (held few ok : Bool) (n : ℕ) (text : List ℕ) where
       unfolding write_refusal whole_unless
       unrefused = otherwise_nothing _ _ (nothing_unless held _ _ h) ∙ otherwise_nothing _ _ (nothing_unless few _ _ f)
 
-      pub no_number : ok ≡ false → writing (write_refusal held few ok) n text ≡ refused Number Whole
+      pub no_number : ok ≡ false → writing (write_refusal held few ok) n text ≡ refused Number None
       unfolding whole_unless
       no_number o = refusal_is Number (unrefused ∙ found_unless ok _ _ o)
 
-      pub left : ok ≡ true → writing (write_refusal held few ok) n text ≡ writing Nothing n text
+      pub left : ok ≡ true → writing (write_refusal held few ok) n text ≡ writing no_refusal n text
       unfolding whole_unless
       left o = ap (λ (x : Finding). writing x n text) (unrefused ∙ nothing_unless ok _ _ o)
 
 -- the answer and the output of n bytes, by what writing comes to
-pub answered : {U W : Writing} (n : ℕ) {r : Written} {out : List ℕ} → W ≡ U
+pub answered : {U W : Writing} (n : ℕ) {r : Result ℕ Refused} {out : List ℕ} → W ≡ U
     → (r ≡ written U) × (out ≡ output n U) → (r ≡ written W) × (out ≡ output n W)
 answered n {r} {out} e a = subst (λ (X : Writing). (r ≡ written X) × (out ≡ output n X)) (sym e) a
 
 -- a text in front of an output, and 0 past it
-pub finished : (x l : List ℕ) {bytes : ℕ} {mid out : List ℕ} {r : Written}
-    → length x ≤ length l → bytes ≡ length x → mid ≡ over x l → (r ≡ Text bytes) × (out ≡ padded 0 (length mid) (take bytes mid))
+pub finished : (x l : List ℕ) {bytes : ℕ} {mid out : List ℕ} {r : Result ℕ Refused}
+    → length x ≤ length l → bytes ≡ length x → mid ≡ over x l → (r ≡ Ok bytes) × (out ≡ padded 0 (length mid) (take bytes mid))
     → (r ≡ written (wrote x)) × (out ≡ output (length l) (wrote x))
 unfolding written output
 finished x l {bytes} {mid} h n e a = (
-  a.0 ∙ ap (λ (k : ℕ). Text k) n,
+  a.0 ∙ ap (λ (k : ℕ). Ok k) n,
   a.1 ∙ ap₂ (λ (o : List ℕ) (k : ℕ). padded 0 (length o) (take k o)) e n ∙ padded_over x l h,
 )

@@ -1,22 +1,20 @@
 // Rows written as texts into a lent output.
 #![tactic(auto)]
 
-ghost use Rattle.std.specs.Prelude.{◌≡◌, ◌+◌, ◌*◌, ◌≤◌, length, take, leb, pos};
+ghost use Rattle.std.specs.Prelude.{◌≡◌, ◌+◌, ◌*◌, ◌≤◌, length, take, leb, pos, None, Ok};
 ghost use Rattle.stab.specs.Basic.{all_of, ◌and◌, eq_z, nat};
 ghost use Rattle.stab.specs.Node.{set_start, set_follows};
 ghost use Rattle.stab.specs.Text.{five_digits, padded};
 ghost use Rattle.stab.specs.Check.{holds};
 ghost use Rattle.stab.specs.Write.{node_writable, nodes_writable, sets_writable, rows_writable, proof_text, write_schema, write_proof, write_model, refused, writing, written, output};
-ghost use Rattle.stab.specs.declared.Place.TheVariants.{Whole};
-ghost use Rattle.stab.specs.declared.Written.TheVariants.{Text};
-ghost use Rattle.stab.specs.declared.Finding.TheVariants.{Nothing};
+ghost use Rattle.stab.specs.Finding.{no_refusal};
 ghost use Rattle.digits.specs.Over.{spread};
 ghost use Rattle.output.specs.NodeTexts.{columns_width, NodesWritable};
 ghost use Rattle.output.specs.Headed.{headed_text, write_headed, Writable, Front, Short};
 
 use digits::{fits, width};
 use output::{clear, put_headed, put_proof};
-use stab::{Place, Refusal, Written, heading};
+use stab::{Refusal, Refused, heading};
 
 // Every number can be written.
 fn writable(t: &[i32]) -> bool
@@ -98,23 +96,20 @@ fn nodes_follow(nodes: &[i32], count: usize, m: usize) -> bool
 }
 
 // The answer to a refusal, with the output all 0.
-fn refuse(out: &mut [u8], why: Refusal) -> Written
-    ensures { (result ≡ written (refused why Whole)) × (out.new ≡ output (length out.old) (refused why Whole)) }
+fn refuse(out: &mut [u8], why: Refusal) -> Result<usize, Refused>
+    ensures { (result ≡ written (refused why None)) × (out.new ≡ output (length out.old) (refused why None)) }
 {
     clear(out);
-    Written::Refused {
-        why,
-        place: Place::Whole,
-    }
+    Err(why.whole())
 }
 
 // The answer after a text of so many bytes, with the output 0 past them.
-fn finish(out: &mut [u8], bytes: usize) -> Written
+fn finish(out: &mut [u8], bytes: usize) -> Result<usize, Refused>
     requires { bytes ≤ length out.old }
-    ensures { (result ≡ Text bytes) × (out.new ≡ padded 0 (length out.old) (take bytes out.old)) }
+    ensures { (result ≡ Ok bytes) × (out.new ≡ padded 0 (length out.old) (take bytes out.old)) }
 {
     clear(&mut out[bytes..]);
-    Written::Text { bytes }
+    Ok(bytes)
 }
 
 // Such a text, or refusal 22.
@@ -126,10 +121,10 @@ fn fill_headed(
     t: &[i32],
     rows: usize,
     out: &mut [u8],
-) -> Written
+) -> Result<usize, Refused>
     requires { Short first.now line.now second.now × Front line.now × Writable w t.now rows }
-    ensures value { result ≡ written (writing Nothing (length out.old) (headed_text first.now line.now second.now w t.now rows)) }
-    ensures out_after { out.new ≡ output (length out.old) (writing Nothing (length out.old) (headed_text first.now line.now second.now w t.now rows)) }
+    ensures value { result ≡ written (writing no_refusal (length out.old) (headed_text first.now line.now second.now w t.now rows)) }
+    ensures out_after { out.new ≡ output (length out.old) (writing no_refusal (length out.old) (headed_text first.now line.now second.now w t.now rows)) }
 {
     let count = w * rows;
     let bytes = first.len() + second.len() + 2 + spread_width(line) + spread_width(&t[..count]);
@@ -153,7 +148,7 @@ fn write_headed(
     t: &[i32],
     rows: usize,
     out: &mut [u8],
-) -> Written
+) -> Result<usize, Refused>
     requires { Short first.now line.now second.now × (1 ≤ w) }
     ensures value { result ≡ written (write_headed first.now line.now second.now w most t.now rows (length out.old)) }
     ensures out_after { out.new ≡ output (length out.old) (write_headed first.now line.now second.now w most t.now rows (length out.old)) }
@@ -238,11 +233,11 @@ fn fill_proof(
     members: &[i32],
     m: usize,
     out: &mut [u8],
-) -> Written
+) -> Result<usize, Refused>
     requires writable { Writable 4 t.now rows × NodesWritable nodes.now count members.now × (nat (set_start nodes.now count) ≡ m) }
     requires rows_bound { (rows ≤ 1024) × (count ≤ 1024) × (m ≤ 8192) }
-    ensures value { result ≡ written (writing Nothing (length out.old) (proof_text t.now rows nodes.now count members.now)) }
-    ensures out_after { out.new ≡ output (length out.old) (writing Nothing (length out.old) (proof_text t.now rows nodes.now count members.now)) }
+    ensures value { result ≡ written (writing no_refusal (length out.old) (proof_text t.now rows nodes.now count members.now)) }
+    ensures out_after { out.new ≡ output (length out.old) (writing no_refusal (length out.old) (proof_text t.now rows nodes.now count members.now)) }
 {
     let numbers = 4 * rows;
     let bytes = 43
@@ -260,7 +255,13 @@ fn fill_proof(
 }
 
 // A schema's text.
-pub fn write_schema(table: &[i32], rows: usize, root: i32, least: i32, out: &mut [u8]) -> Written
+pub fn write_schema(
+    table: &[i32],
+    rows: usize,
+    root: i32,
+    least: i32,
+    out: &mut [u8],
+) -> Result<usize, Refused>
     ensures value { result ≡ written (write_schema table.now rows root least (length out.old)) }
     ensures out_after { out.new ≡ output (length out.old) (write_schema table.now rows root least (length out.old)) }
 {
@@ -286,7 +287,7 @@ pub fn write_proof(
     members: &[i32],
     member_count: usize,
     out: &mut [u8],
-) -> Written
+) -> Result<usize, Refused>
     ensures value { result ≡ written (write_proof table.now rows nodes.now node_rows members.now member_count (length out.old)) }
     ensures out_after { out.new ≡ output (length out.old) (write_proof table.now rows nodes.now node_rows members.now member_count (length out.old)) }
 {
@@ -303,7 +304,12 @@ pub fn write_proof(
 }
 
 // A model's text.
-pub fn write_model(n: i32, pairs: &[i32], pair_rows: usize, out: &mut [u8]) -> Written
+pub fn write_model(
+    n: i32,
+    pairs: &[i32],
+    pair_rows: usize,
+    out: &mut [u8],
+) -> Result<usize, Refused>
     ensures value { result ≡ written (write_model n pairs.now pair_rows (length out.old)) }
     ensures out_after { out.new ≡ output (length out.old) (write_model n pairs.now pair_rows (length out.old)) }
 {

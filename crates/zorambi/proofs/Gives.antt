@@ -5,13 +5,15 @@ use mathlib.Core.List.{List}
 use lib.IntN.{ℤ}
 use Rattle.stab.specs.Node.{Tableau}
 use Rattle.stab.specs.Entry.{proof_packed, proof_results}
-use Rattle.stab.specs.declared.ProofRead.{ProofRead}
+use Rattle.std.specs.Prelude.{Result}
+use Rattle.stab.specs.declared.Refused.{Refused}
+use Rattle.stab.specs.declared.ProofCounts.{ProofCounts}
+use Rattle.stab.specs.declared.Header.{Header}
 use Rattle.tidied.specs.Tidy as T
 use Rattle.joint.specs.Joint as J
-use Rattle.joint.specs.declared.Joined.{Joined}
 use Rattle.zorambi.specs.Given.{TidyGives, JoinGives}
 
-pub tidy_gives : {R : T.Rooms} {A A' : Tableau} {r : ProofRead} {x : ℕ} {results proof nodes members : List ℤ}
+pub tidy_gives : {R : T.Rooms} {A A' : Tableau} {r : Result ProofCounts Refused} {x : ℕ} {results proof nodes members : List ℤ}
     → A ≡ A'
     → (r ≡ T.tidy R A) × ((proof ≡ T.tidy_proof R A) × ((nodes ≡ T.tidy_node_table R A) × (members ≡ T.tidy_member_table R A)))
     → (x ≡ proof_packed r) × (results ≡ proof_results r)
@@ -26,7 +28,7 @@ tidy_gives {R} {x = x} {results = results} {proof = proof} {nodes = nodes} {memb
       member_table = said.1.1.1;
     })
 
-pub join_gives : {R : J.Rooms} {A A' B B' : Tableau} {r : Joined} {x : ℕ} {results schema proof nodes members : List ℤ}
+pub join_gives : {R : J.Rooms} {A A' B B' : Tableau} {r : Result Header Refused} {x : ℕ} {results schema proof nodes members : List ℤ}
     → A ≡ A' → B ≡ B'
     → (r ≡ J.join R A B) × ((schema ≡ J.joined_schema R A B) × ((proof ≡ J.joined_proof R A B) × ((nodes ≡ J.joined_nodes R A B) × (members ≡ J.joined_members R A B))))
     → (x ≡ J.joined_packed r) × (results ≡ J.joined_results r)

@@ -3,7 +3,7 @@ use lib.ListN.{length}
 use Rattle.stab.specs.Text.{padded}
 use Rattle.stab.specs.Answer.{verdict_numbers, Packs}
 use Rattle.stab.specs.Program.{printed, model_program}
-use Rattle.stab.specs.declared.Verdict.{Verdict}
+use Rattle.stab.specs.Finding.{Verdict}
 use Rattle.stab.proofs.Entries.{model_texts_pack}
 use Rattle.printing.proofs.Prints.{counted}
 use Rattle.program.proofs.model_texts.Goals as goal

@@ -11,8 +11,8 @@ use Rattle.stab.specs.Check.{holds, formulas_refusal, set_refusal, parent_refusa
 use Rattle.stab.specs.Before.{Tests, node_by, refusal_by}
 use Rattle.stab.specs.Keeps.{KeepsParent, KeepsTables, KeepsNode, KeepsOlder, Keeps}
 use Rattle.stab.specs.declared.Refusal.TheVariants.{TableTooShort, TooMany, Parent}
-use Rattle.stab.specs.declared.Finding.{Finding}
-use Rattle.stab.specs.declared.Finding.TheVariants.{Nothing}
+use Rattle.std.specs.Prelude.{Ok}
+use Rattle.stab.specs.Finding.{Finding, no_refusal}
 use Rattle.stab.proofs.Bools.{otherwise_same, otherwise_first, otherwise_second, otherwise_nothing}
 use Rattle.stab.proofs.Scans.{scan_same, scan_nothing, nothing_scan}
 use Rattle.stab.proofs.Tests.{◌&◌, le_tests, lt_tests, ◌clears◌, whole_clears, ◌then◌, scan_clears}
@@ -104,7 +104,7 @@ tableau_clears T =
 -- ---- the check by other tests of a node
 
 -- two such checks find the same in a tableau if they find the same at each node before which nothing is found
-pub refusal_by_same : (t u : Tests) (T : Tableau) → (((k : ℕ) → k < T.node_rows → KeepsParent T k) → (j : ℕ) → j < T.node_rows → ((k : ℕ) → k < j → node_by u T k ≡ Nothing) → node_by t T j ≡ node_by u T j) → refusal_by t T ≡ refusal_by u T
+pub refusal_by_same : (t u : Tests) (T : Tableau) → (((k : ℕ) → k < T.node_rows → KeepsParent T k) → (j : ℕ) → j < T.node_rows → ((k : ℕ) → k < j → node_by u T k ≡ no_refusal) → node_by t T j ≡ node_by u T j) → refusal_by t T ≡ refusal_by u T
 unfolding refusal_by
 refusal_by_same t u T same =
     otherwise_same _ _ _ (λ a.
@@ -117,11 +117,11 @@ refusal_by_same t u T same =
     same ((scan_clears (parent_refusal T) T.node_rows (λ i m. parent_clears T i)).0 p) j l (nothing_scan (node_by u T) j h))))))))
 
 -- nothing is found at last, where nothing is found first
-at_last : {x y z : Finding} → (x otherwise y) ≡ Nothing → (x ≡ Nothing → y ≡ Nothing → z ≡ Nothing) → (x otherwise z) ≡ Nothing
+at_last : {x y z : Finding} → (x otherwise y) ≡ no_refusal → (x ≡ no_refusal → y ≡ no_refusal → z ≡ no_refusal) → (x otherwise z) ≡ no_refusal
 at_last {x} {y} {z} h f = otherwise_nothing x z (otherwise_first x y h) ∙ f (otherwise_first x y h) (otherwise_second x y h)
 
 -- where one finds nothing in a tableau, neither does the older check if it finds nothing at any node then
-pub refusal_by_kept : (t : Tests) (T : Tableau) → (((k : ℕ) → k < T.node_rows → KeepsParent T k) → ((k : ℕ) → k < T.node_rows → node_by t T k ≡ Nothing) → (j : ℕ) → j < T.node_rows → node_refusal true T j ≡ Nothing) → refusal_by t T ≡ Nothing → refusal older_mode T ≡ Nothing
+pub refusal_by_kept : (t : Tests) (T : Tableau) → (((k : ℕ) → k < T.node_rows → KeepsParent T k) → ((k : ℕ) → k < T.node_rows → node_by t T k ≡ no_refusal) → (j : ℕ) → j < T.node_rows → node_refusal true T j ≡ no_refusal) → refusal_by t T ≡ no_refusal → refusal older_mode T ≡ no_refusal
 unfolding refusal_by refusal older_mode
 refusal_by_kept t T kept h =
     at_last h (λ a h₁.

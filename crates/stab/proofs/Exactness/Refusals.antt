@@ -1,6 +1,6 @@
 -- The place of what the check and the model check find is within the limits; and what is accepted.
 use Prim.Native.Nat.{ℕ, zero, suc, ◌≤◌, ◌<◌}
-use mathlib.Core.Path.{◌≡◌, refl, ap, subst}
+use mathlib.Core.Path.{◌≡◌, refl, sym, ap, subst}
 use native.Mathlib.Omega.{arith}
 use mathlib.Core.Bool.{Bool, true, false}
 use lib.IntN.{ℤ}
@@ -10,49 +10,48 @@ use Rattle.stab.specs.Node.{Tableau, rows, row_count}
 use Rattle.stab.specs.Check.{whole_unless, at_unless, row_refusal, repeat_refusal, formula_refusal, formulas_refusal, schema_refusal, set_refusal, parent_refusal, step_refusal, node_refusal, within_limits, refusal, present_mode, verdict, verdict_on, check, link_count}
 use Rattle.stab.specs.Model.{Model, pair_refusal, model_refusal}
 use Rattle.stab.specs.declared.Mode.{Mode}
-use Rattle.stab.specs.declared.Place.{Place}
-use Rattle.stab.specs.declared.Place.TheVariants.{Whole, At}
+use Rattle.std.specs.Prelude.{None, Some, Ok, Err}
+use Rattle.stab.specs.declared.Counts.{Counts}
+use Rattle.stab.specs.declared.Refused.{Refused}
+use Rattle.stab.specs.Finding.{Place, accept, refuse, Finding, no_refusal}
 use Rattle.stab.specs.declared.Refusal.{Refusal}
 use Rattle.stab.specs.declared.Refusal.TheVariants.{TooMany, Drawn, Fields, Target, Bound, Partner, Lowered, Children}
-use Rattle.stab.specs.declared.Verdict.TheVariants.{Accepted, Refused}
-use Rattle.stab.specs.declared.Finding.{Finding}
-use Rattle.stab.specs.declared.Finding.TheVariants.{Nothing, Found}
 use Rattle.stab.proofs.Bools.{nothing≢found}
 use Rattle.stab.proofs.Tests.{◌&◌, le_tests, whole_clears}
 
 -- a place below 4,096, or the whole record
 abbrev pub Near : Place → Type 0
-Near Whole = Unit {0}
-Near (At k) = k < 4096
+Near None = Unit {0}
+Near (Some k) = k < 4096
 
 -- what is found, if anything, is at such a place
 abbrev pub FindsNear : Finding → Type 0
-FindsNear x = (why : Refusal) (place : Place) → x ≡ Found why place → Near place
+FindsNear x = (why : Refusal) (place : Place) → x ≡ refuse why place → Near place
 
 of_unless : (t : Bool) (why : Refusal) (place : Place) → Near place → FindsNear (unless t why place)
 unfolding unless
 of_unless true why place near w q h = absurd (nothing≢found h)
-of_unless false why place near w q h = let e : place ≡ q = cc in subst Near e near
+of_unless false why place near w q h = subst Near (ap (λ (r : Refused). r.place) (let e : ◌≡◌ {A = Refused} (record { why = why; place = place }) (record { why = w; place = q }) = cc in e)) near
 
 pub of_whole : (t : Bool) (why : Refusal) → FindsNear (whole_unless t why)
 unfolding whole_unless
-of_whole t why = of_unless t why Whole tt
+of_whole t why = of_unless t why None tt
 
 pub of_at : (t : Bool) (why : Refusal) (k : ℕ) → k < 4096 → FindsNear (at_unless t why k)
 unfolding at_unless
-of_at t why k near = of_unless t why (At k) near
+of_at t why k near = of_unless t why (Some k) near
 
 infixr 25 ◌or_else◌
 pub ◌or_else◌ : {x y : Finding} → FindsNear x → FindsNear y → FindsNear (x otherwise y)
 unfolding ◌otherwise◌
-◌or_else◌ {x = Nothing} f g = g
-◌or_else◌ {x = Found why place} f g = f
+◌or_else◌ {x = (Ok u)} f g = g
+◌or_else◌ {x = (Err r)} f g = f
 
 -- the second finding may use that the first test passed
-pub once : {x y : Finding} → FindsNear x → (x ≡ Nothing → FindsNear y) → FindsNear (x otherwise y)
+pub once : {x y : Finding} → FindsNear x → (x ≡ no_refusal → FindsNear y) → FindsNear (x otherwise y)
 unfolding ◌otherwise◌
-once {x = Nothing} f g = g refl
-once {x = Found why place} f g = f
+once {x = (Ok u)} f g = g refl
+once {x = (Err r)} f g = f
 
 pub of_scan : (f : ℕ → Finding) (n : ℕ) → n ≤ 4096 → ((k : ℕ) → k < 4096 → FindsNear (f k)) → FindsNear (scan f n)
 unfolding scan
@@ -105,29 +104,31 @@ of_model_refusal M =
     of_whole _ _)
 
 -- an acceptance is the verdict where nothing is found
-pub accepted : (x : Finding) (m k n l : ℕ) → verdict x (Accepted m k) ≡ Accepted n l → (x ≡ Nothing) × (n ≡ m) × (l ≡ k)
+pub accepted : (x : Finding) (m k n l : ℕ) → verdict x (accept m k) ≡ accept n l → (x ≡ no_refusal) × (n ≡ m) × (l ≡ k)
 unfolding verdict
-accepted Nothing m k n l h = (refl, cc, cc)
-accepted (Found why place) m k n l h =
+accepted (Ok u) m k n l h =
+    let e : ◌≡◌ {A = Counts} (record { nodes = m; links = k }) (record { nodes = n; links = l }) = cc in
+    (refl, sym (ap (λ (c : Counts). c.nodes) e), sym (ap (λ (c : Counts). c.links) e))
+accepted (Err r) m k n l h =
     let z : ◌≡◌ {A = ℕ} 0 1 = cc in
     absurd (omega arith)
 
 -- and a refusal is what is found
-pub refused : (x : Finding) (m k : ℕ) (why : Refusal) (p : Place) → verdict x (Accepted m k) ≡ Refused why p → x ≡ Found why p
+pub refused : (x : Finding) (m k : ℕ) (why : Refusal) (p : Place) → verdict x (accept m k) ≡ refuse why p → x ≡ refuse why p
 unfolding verdict
-refused Nothing m k why p h =
+refused (Ok u) m k why p h =
     let z : ◌≡◌ {A = ℕ} 0 1 = cc in
     absurd (omega arith)
-refused (Found w q) m k why p h = cc
+refused (Err r) m k why p h = cc
 
-pub accepted_finds : (T : Tableau) (n l : ℕ) → check T ≡ Accepted n l → refusal present_mode T ≡ Nothing
+pub accepted_finds : (T : Tableau) (n l : ℕ) → check T ≡ accept n l → refusal present_mode T ≡ no_refusal
 unfolding check verdict_on
 accepted_finds T n l h = (accepted (refusal present_mode T) T.node_rows (link_count T) n l h).0
 
-pub refused_finds : (T : Tableau) (why : Refusal) (p : Place) → check T ≡ Refused why p → refusal present_mode T ≡ Found why p
+pub refused_finds : (T : Tableau) (why : Refusal) (p : Place) → check T ≡ refuse why p → refusal present_mode T ≡ refuse why p
 unfolding check verdict_on
 refused_finds T why p h = refused (refusal present_mode T) T.node_rows (link_count T) why p h
 
-pub finds_accepted : (T : Tableau) → refusal present_mode T ≡ Nothing → check T ≡ Accepted T.node_rows (link_count T)
+pub finds_accepted : (T : Tableau) → refusal present_mode T ≡ no_refusal → check T ≡ accept T.node_rows (link_count T)
 unfolding check verdict_on verdict
-finds_accepted T h = ap (λ (x : Finding). verdict x (Accepted T.node_rows (link_count T))) h
+finds_accepted T h = ap (λ (x : Finding). verdict x (accept T.node_rows (link_count T))) h

@@ -14,8 +14,8 @@ use Rattle.stab.specs.Text.{Line, lines, five_digits, text_limit, padded}
 use Rattle.stab.specs.Read.{Reading, read, stopped, require, read_text, table_of}
 use Rattle.stab.specs.Check.{holds, whole_unless}
 use Rattle.stab.specs.Write.{wrote, writing, writing_of, write_refusal, output_refusal, rows_writable}
-use Rattle.stab.specs.declared.Finding.{Finding}
-use Rattle.stab.specs.declared.Finding.TheVariants.{Nothing, Found}
+use Rattle.std.specs.Prelude.{Ok, Err}
+use Rattle.stab.specs.Finding.{Finding, no_refusal, refuse}
 use Rattle.stab.specs.declared.Refusal.{Refusal}
 use Rattle.stab.specs.declared.Refusal.TheVariants.{TextTooLong, TableTooShort}
 use Rattle.stab.proofs.Bools.{and_left, and_right, and_both, unless_nothing, nothing_unless, otherwise_first, otherwise_second, otherwise_nothing}
@@ -52,10 +52,10 @@ pub record Written (held few writable : Bool) (n : ℕ) (text out : List ℕ) : 
   pub fits : length text ≤ n
   pub short : length text ≤ 65536
 
-written_nothing : (x : Finding) (text out : List ℕ) → writing_of x text ≡ wrote out → (x ≡ Nothing) × (text ≡ out)
+written_nothing : (x : Finding) (text out : List ℕ) → writing_of x text ≡ wrote out → (x ≡ no_refusal) × (text ≡ out)
 unfolding writing_of
-written_nothing Nothing text out h = (refl, cc)
-written_nothing (Found why place) text out h = (cc, cc)
+written_nothing (Ok u) text out h = (refl, cc)
+written_nothing (Err r) text out h = (cc, cc)
 
 pub written : (held few writable : Bool) (n : ℕ) (text out : List ℕ)
     → writing (write_refusal held few writable) n text ≡ wrote out → Written held few writable n text out

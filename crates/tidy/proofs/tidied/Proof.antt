@@ -6,7 +6,7 @@ use mathlib.Core.List.{List}
 use lib.IntN.{pos}
 use lib.ListN.{length}
 use Rattle.stab.specs.Text.{padded}
-use Rattle.stab.specs.declared.ProofRead.TheVariants.{Proof}
+use Rattle.std.specs.Prelude.{Ok}
 use Rattle.signed.proofs.Tables.{cleared_padded}
 use Rattle.stab.specs.Node.{Tableau}
 use Rattle.stab.specs.Lent.{lent}
@@ -88,7 +88,7 @@ returns c =
     let same = c.each_node-m.auto in
     let i = kept c.before.before.before.before.before.before.before.before in
     let members = bare_members (Lent b) (new_of (Lent b)) k in (
-      ap₂ (λ (n m : ℕ). Proof n k m) f.fold-rows.ensures.0 (i.counted ∙ ap length members),
+      ap₂ (λ (n m : ℕ). Ok (record { rows = n; nodes = k; members = m })) f.fold-rows.ensures.0 (i.counted ∙ ap length members),
       (
         f.fold-rows.ensures.1.0,
         (

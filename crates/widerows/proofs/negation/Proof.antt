@@ -5,7 +5,7 @@ use Rattle.stab.proofs.Bools.{and_both, and_first_false, and_second_false, if_tr
 use Rattle.signed.proofs.Signs.{read_back}
 use Rattle.formula.specs.Cells.{row_of}
 use Rattle.formula.specs.declared.rows.Facts.{Facts}
-use Rattle.formula.specs.declared.rows.Judged.TheVariants.{Formed}
+use Rattle.std.specs.Prelude.{Some}
 use Rattle.formula.proofs.RowLaws.{fails, passes}
 use Rattle.widerows.specs.WideRows.{not_facts, not_judged}
 use Rattle.widerows.proofs.negation.Statement.{statement}
@@ -52,7 +52,7 @@ overflow_add-result-2 c = search rules
 returns : tie.Need-returns
 unfolding not_judged not_facts row_of
 returns c =
-    ap (λ (f' : Facts). Formed (not_facts f')) (rw (read_back c.args.w.a c.struct_told-1.given.1.0.1) at c.part-f.ensures.0)
+    ap (λ (f' : Facts). Some (not_facts f')) (rw (read_back c.args.w.a c.struct_told-1.given.1.0.1) at c.part-f.ensures.0)
     ∙ sym
     (if_true _ _ _
     (and_both _ _

@@ -2,7 +2,8 @@ use mathlib.Core.Path.{◌∙◌, ap}
 use borrow.Author.Rules.{rules}
 use Rattle.stab.specs.Formula.{formula_rows}
 use Rattle.formula.specs.Rows.{judged_refusal, kept_judged}
-use Rattle.formula.specs.declared.rows.Judged.{Judged}
+use Rattle.std.specs.Prelude.{Option}
+use Rattle.formula.specs.declared.rows.Facts.{Facts}
 use Rattle.widerows.proofs.WideLaws.{row_found_lem, row_kept}
 use Rattle.widerows.proofs.step.Statement.{statement}
 use Rattle.widerows.proofs.step.Tie as tie
@@ -20,8 +21,8 @@ returns : tie.Need-returns
 returns c =
     let a = c.args in
     let rows = formula_rows a.schema.now a.s a.proof.now in (
-      c.sized.ensures.0 ∙ ap (λ (j : Judged). judged_refusal j a.r) c.row-found.ensures ∙ row_found_lem rows a.r,
-      c.sized.ensures.1 ∙ ap (λ (j : Judged). kept_judged j a.facts.now a.r) c.row-found.ensures ∙ row_kept rows a.r a.facts.now,
+      c.sized.ensures.0 ∙ ap (λ (j : Option Facts). judged_refusal j a.r) c.row-found.ensures ∙ row_found_lem rows a.r,
+      c.sized.ensures.1 ∙ ap (λ (j : Option Facts). kept_judged j a.facts.now a.r) c.row-found.ensures ∙ row_kept rows a.r a.facts.now,
     )
 
 pub step_spec : {M : Type 1} → statement M

@@ -8,7 +8,7 @@ use Rattle.signed.proofs.Signs.{read_back}
 use Rattle.formula.specs.Cells.{row_of}
 use Rattle.formula.specs.Rows.{over_facts, body_judged}
 use Rattle.formula.specs.declared.rows.Facts.{Facts}
-use Rattle.formula.specs.declared.rows.Judged.TheVariants.{Formed}
+use Rattle.std.specs.Prelude.{Some}
 use Rattle.formula.proofs.RowLaws.{fails, passes}
 use Rattle.formula.proofs.rows.iteration.Statement.{statement}
 use Rattle.formula.proofs.rows.iteration.Tie as tie
@@ -53,7 +53,7 @@ returns-then-f-eq0 : tie.Need-returns-then-f-eq0
 unfolding body_judged row_of
 returns-then-f-eq0 c =
     let known = rw (read_back c.args.w.a c.struct_told-1.given.1.0.1) at c.part-f.ensures.0 in
-    ap Formed (c.over.ensures ∙ ap over_facts known)
+    ap Some (c.over.ensures ∙ ap over_facts known)
     ∙ sym
     (if_true _ _ _
     (and_both _ _

@@ -9,7 +9,9 @@ use Rattle.stab.proofs.Bools.{and_both, and_first_false, and_second_false, or_le
 use Rattle.signed.proofs.Signs.{read_back}
 use Rattle.formula.specs.Cells.{row_of}
 use Rattle.formula.specs.Rows.{facts_at, both_facts, unmixed, pair_judged}
-use Rattle.formula.specs.declared.rows.Judged.{Judged}
+use Rattle.std.specs.Prelude.{Result, Option}
+use Rattle.stab.specs.declared.Refused.{Refused}
+use Rattle.formula.specs.declared.rows.Facts.{Facts}
 use Rattle.formula.proofs.RowLaws.{fails, passes}
 use Rattle.formula.proofs.rows.junction.Statement.{statement}
 use Rattle.formula.proofs.rows.junction.Tie as tie
@@ -76,7 +78,7 @@ tested c =
     (rw (read_back c.args.w.c c.struct_told-1.given.1.1.1.0.1) at (passes _ c.equal.ensures (ap not c.if-not-equal.false))))
 
 -- so the row is what its numbers say
-judged_is : (c : tie.After-both-f) {j : Judged} → j ≡ unmixed c.both-f.result →
+judged_is : (c : tie.After-both-f) {j : (Option Facts)} → j ≡ unmixed c.both-f.result →
     j ≡ pair_judged (start c).args.r (row_of (start c).args.w) (start c).args.facts.now
 unfolding pair_judged row_of
 judged_is c e = e ∙ ap unmixed (known c) ∙ sym (if_true _ _ _ (tested c))

@@ -6,7 +6,7 @@ use Rattle.stab.proofs.Bools.{and_both, and_first_false, and_second_false, if_tr
 use Rattle.signed.proofs.Signs.{read_back}
 use Rattle.formula.specs.Cells.{row_of}
 use Rattle.formula.specs.Rows.{literal_judged}
-use Rattle.formula.specs.declared.rows.Judged.TheVariants.{Formed}
+use Rattle.std.specs.Prelude.{Some}
 use Rattle.formula.proofs.RowLaws.{fails, passes, bit_small}
 use Rattle.formula.proofs.rows.literal.Statement.{statement}
 use Rattle.formula.proofs.rows.literal.Tie as tie
@@ -48,7 +48,7 @@ overflow_sub-result c = rw c.on_index-loose.ensures (bit_small _)
 returns : tie.Need-returns
 unfolding literal_judged row_of
 returns c =
-    ap (λ (n : ℕ). Formed (record { size = 1; depth = 1; loose = n; fixed = 1 - n })) (rw (read_back c.args.w.b c.struct_told-1.given.1.1.0.1) at c.on_index-loose.ensures)
+    ap (λ (n : ℕ). Some (record { size = 1; depth = 1; loose = n; fixed = 1 - n })) (rw (read_back c.args.w.b c.struct_told-1.given.1.1.0.1) at c.on_index-loose.ensures)
     ∙ sym
     (if_true _ _ _
     (and_both _ _

@@ -10,7 +10,8 @@ use Rattle.stab.specs.Formula.{schema_formula}
 use Rattle.stab.specs.Lent.{lent_schema}
 use Rattle.stab.specs.Check.{schema_refusal}
 use Rattle.stab.specs.declared.SchemaHeader.{SchemaHeader}
-use Rattle.stab.specs.declared.Finding.TheVariants.{Nothing}
+use Rattle.std.specs.Prelude.{Ok}
+use Rattle.stab.specs.Finding.{no_refusal}
 use Rattle.stab.proofs.Bools.{and_first_false, and_first_true}
 use Rattle.jointrefusal.specs.Before.{or_small, sizes_fit}
 use Rattle.jointrefusal.proofs.measure.both_fit.Statement.{statement}
@@ -63,8 +64,8 @@ or_fits-requires c κs =
       (
         subst (λ (h : SchemaHeader). (h.rows ≤ 1024) × (4 * h.rows ≤ length b.args.second_schema.now)) s (p.1.0.0, p.1.0.2),
         (
-          subst (λ (h : SchemaHeader). schema_refusal (lent_schema b.args.first_schema.now h) ≡ Nothing) f p.1.1.0,
-          subst (λ (h : SchemaHeader). schema_refusal (lent_schema b.args.second_schema.now h) ≡ Nothing) s p.1.1.1,
+          subst (λ (h : SchemaHeader). schema_refusal (lent_schema b.args.first_schema.now h) ≡ no_refusal) f p.1.1.0,
+          subst (λ (h : SchemaHeader). schema_refusal (lent_schema b.args.second_schema.now h) ≡ no_refusal) s p.1.1.1,
         ),
       ),
     )

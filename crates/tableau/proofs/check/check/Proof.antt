@@ -4,7 +4,7 @@ use Rattle.stab.specs.Node.{Tableau}
 use Rattle.stab.specs.Lent.{lent}
 use Rattle.stab.specs.Check.{link_count, present_mode, verdict_on}
 use Rattle.stab.specs.Check.{check as checked}
-use Rattle.stab.specs.declared.Finding.{Finding}
+use Rattle.stab.specs.Finding.{Finding}
 use Rattle.stab.proofs.Soundness.{sound}
 use Rattle.tableau.proofs.CheckLaws.{few_nodes_lem}
 use Rattle.tableau.proofs.check.check.Statement.{statement}

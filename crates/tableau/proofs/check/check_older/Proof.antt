@@ -3,7 +3,7 @@ use borrow.Author.Rules.{rules}
 use Rattle.stab.specs.Node.{Tableau}
 use Rattle.stab.specs.Lent.{lent}
 use Rattle.stab.specs.Check.{link_count, older_mode, verdict_on, check_older}
-use Rattle.stab.specs.declared.Finding.{Finding}
+use Rattle.stab.specs.Finding.{Finding}
 use Rattle.stab.proofs.Soundness.{sound_older}
 use Rattle.tableau.proofs.CheckLaws.{few_nodes_lem}
 use Rattle.tableau.proofs.check.check_older.Statement.{statement}

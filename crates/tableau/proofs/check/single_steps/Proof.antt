@@ -6,7 +6,8 @@ use borrow.Author.Rules.{rules}
 use Rattle.stab.specs.Basic.{within}
 use Rattle.stab.specs.Node.{Tableau, rows, row_count}
 use Rattle.stab.specs.Lent.{lent}
-use Rattle.stab.specs.declared.Finding.TheVariants.{Nothing}
+use Rattle.std.specs.Prelude.{Ok}
+use Rattle.stab.specs.Finding.{no_refusal}
 use Rattle.stab.proofs.Bools.{otherwise_first, otherwise_second}
 use Rattle.signed.proofs.Signs.{read_back}
 use Rattle.branch.specs.Work.{AllWorked}
@@ -19,11 +20,11 @@ use Rattle.tableau.proofs.check.single_steps.Tie as tie
 abbrev Lent : tie.Start → Tableau
 Lent s = lent s.args.schema.now s.args.proof.now s.args.nodes.now s.args.members.now s.args.h
 
-rows_passed : (s : tie.Start) → rows_refusal s.args.m.older (Lent s) ≡ Nothing
+rows_passed : (s : tie.Start) → rows_refusal s.args.m.older (Lent s) ≡ no_refusal
 unfolding passes_refusal
 rows_passed s = otherwise_first _ _ s.requires.1.1.0
 
-nodes_passed : (s : tie.Start) → nodes_refusal s.args.m.whole (Lent s) ≡ Nothing
+nodes_passed : (s : tie.Start) → nodes_refusal s.args.m.whole (Lent s) ≡ no_refusal
 unfolding passes_refusal
 nodes_passed s = otherwise_second (rows_refusal s.args.m.older (Lent s)) _ s.requires.1.1.0
 

@@ -1,37 +1,31 @@
-use mathlib.Core.Path.{◌∙◌, subst}
+use mathlib.Core.Path.{◌∙◌}
 use lib.ListN.{length}
 use Rattle.stab.specs.Read.{read_proof}
-use Rattle.text.specs.Texts.{ProofOf}
 use Rattle.text.proofs.ProofLaws.{proof_answer_lem, proof_kept, proof_none_kept}
 use Rattle.text.proofs.read.read_proof.Goals as goal
 
-pub returns-in-Proof : goal.returns-in-Proof
-returns-in-Proof c =
+pub returns-in-Ok : goal.returns-in-Ok
+returns-in-Ok c =
     let a = c.args in
-    let t = c.proof_text-r.new.table in
-    let u = c.proof_text-r.new.nodes in
-    let m = c.proof_text-r.new.members in
+    let r = c.proof_text-read in
     let whole = read_proof (length a.table.now) (length a.nodes.now) (length a.members.now) a.text.now in
-    let p = subst (ProofOf whole t u m) c.in-Proof.is c.proof_text-r.ensures in
-    let k = proof_kept whole t u m _ _ _ (length a.table.now) (length a.nodes.now) (length a.members.now) c.proof_text-r.auto.table c.proof_text-r.auto.nodes c.proof_text-r.auto.members p in
+    let k = proof_kept whole r.new.table r.new.nodes r.new.members _ _ _ r.auto.table r.auto.nodes r.auto.members c.in-Ok.counts c.in-Ok.ensures in
     record {
-      answer = proof_answer_lem whole t u m _ p;
+      answer = proof_answer_lem whole r.new.table r.new.nodes r.new.members _ c.in-Ok.ensures;
       rows = c.clear.ensures ∙ k.0;
-      nodes = c.clear-in-Proof.ensures ∙ k.1;
-      members = c.clear-in-Proof-2.ensures ∙ k.2;
+      nodes = c.clear-in-Ok.ensures ∙ k.1;
+      members = c.clear-in-Ok-2.ensures ∙ k.2;
     }
 
-pub returns-in-Refused : goal.returns-in-Refused
-returns-in-Refused c =
+pub returns-in-Err : goal.returns-in-Err
+returns-in-Err c =
     let a = c.args in
-    let t = c.proof_text-r.new.table in
-    let u = c.proof_text-r.new.nodes in
-    let m = c.proof_text-r.new.members in
+    let r = c.proof_text-read in
     let whole = read_proof (length a.table.now) (length a.nodes.now) (length a.members.now) a.text.now in
-    let k = proof_none_kept whole t u m c.in-Refused.why c.in-Refused.place (length a.table.now) (length a.nodes.now) (length a.members.now) c.proof_text-r.auto.table c.proof_text-r.auto.nodes c.proof_text-r.auto.members (subst (ProofOf whole t u m) c.in-Refused.is c.proof_text-r.ensures) in
+    let k = proof_none_kept whole r.new.table r.new.nodes r.new.members _ _ _ r.auto.table r.auto.nodes r.auto.members c.in-Err.field-0 c.in-Err.ensures in
     record {
-      answer = proof_answer_lem whole t u m c.proof_text-r.result c.proof_text-r.ensures;
-      rows = c.clear-in-Refused.ensures ∙ k.0;
-      nodes = c.clear-in-Refused-2.ensures ∙ k.1;
-      members = c.clear-in-Refused-3.ensures ∙ k.2;
+      answer = proof_answer_lem whole r.new.table r.new.nodes r.new.members _ r.ensures;
+      rows = c.clear-in-Err.ensures ∙ k.0;
+      nodes = c.clear-in-Err-2.ensures ∙ k.1;
+      members = c.clear-in-Err-3.ensures ∙ k.2;
     }

@@ -4,7 +4,9 @@ use mir.Facts.{to_z-of_z}
 use borrow.Author.Rules.{rules}
 use Rattle.stab.specs.Answer.{Packs}
 use Rattle.found.specs.Find.{found_numbers, found_packed, found_results, found_verdict}
-use Rattle.found.specs.declared.ModelFound.{ModelFound}
+use Rattle.std.specs.Prelude.{Result}
+use Rattle.stab.specs.declared.Refused.{Refused}
+use Rattle.found.specs.Shown.{Shown}
 use Rattle.found.proofs.Packed.{found_packs, found_fits}
 use Rattle.zorambi.proofs.failing.zorambi_find_model.Statement.{statement}
 use Rattle.zorambi.proofs.failing.zorambi_find_model.Tie as tie
@@ -14,7 +16,7 @@ find_model-requires c κs = tt
 
 first_model-requires : tie.Need-first_model-requires
 first_model-requires c κs =
-    subst (λ (r : ModelFound). Packs (found_verdict r) × ((found_numbers r).pairs ≤ 16)) (sym c.find_model.ensures.0) (found_packs _, (found_fits _).pairs)
+    subst (λ (r : Shown). Packs (found_verdict r) × ((found_numbers r).pairs ≤ 16)) (sym c.find_model.ensures.0) (found_packs _, (found_fits _).pairs)
 
 shape_of-pairs : tie.Need-shape_of-pairs
 shape_of-pairs c = search rules

@@ -51,7 +51,7 @@ add-r-requires : tie.Need-add-r-requires
 add-r-requires c κs = search rules
 
 growth-requires : tie.Need-growth-requires
-growth-requires c κs = subst (λ (r : Growth). Packs (as_verdict r)) (sym (answer_is c.before.before.before.before)) (call_packs _ _)
+growth-requires c κs = subst (λ (r : Growth). Packs (as_verdict r)) (sym (answer_is c.before.before.before.before.before)) (call_packs _ _)
 
 shape_of-nodes : tie.Need-shape_of-nodes
 shape_of-nodes c = search rules
@@ -61,7 +61,7 @@ shape_of-members c = search rules
 
 returns : tie.Need-returns
 returns c =
-    (c.growth.ensures.0 ∙ ap growth_packed (answer_is c.before.before.before.before.before), (c.growth.ensures.1 ∙ ap (λ (r : Growth). pos (shown_number r) ∷ []) (answer_is c.before.before.before.before.before), (ap (λ (F : Editor). F.held) (left_is c.before.before.before.before.before) ∙ held_is (E c.before.before.before.before.before.before.before.before.before.before.before.before.before c.args.root c.args.least) (add (row c.before.before.before.before.before.before.before.before.before.before.before.before.before)), ap (λ (F : Editor). F.waiting) (left_is c.before.before.before.before.before))))
+    (c.growth.ensures.0 ∙ ap growth_packed (answer_is c.before.before.before.before.before.before), (c.growth.ensures.1 ∙ ap (λ (r : Growth). pos (shown_number r) ∷ []) (answer_is c.before.before.before.before.before.before), (ap (λ (F : Editor). F.held) (left_is c.before.before.before.before.before.before) ∙ held_is (E c.before.before.before.before.before.before.before.before.before.before.before.before.before.before c.args.root c.args.least) (add (row c.before.before.before.before.before.before.before.before.before.before.before.before.before.before)), ap (λ (F : Editor). F.waiting) (left_is c.before.before.before.before.before.before))))
 
 pub zorambi_add_spec : {M : Type 1} → statement M
 zorambi_add_spec =

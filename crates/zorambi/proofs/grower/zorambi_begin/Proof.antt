@@ -45,7 +45,7 @@ begin-r-requires : tie.Need-begin-r-requires
 begin-r-requires c κs = search rules
 
 growth-requires : tie.Need-growth-requires
-growth-requires c κs = subst (λ (r : Growth). Packs (as_verdict r)) (sym (answer_is c.before.before.before.before)) (begin_packs _)
+growth-requires c κs = subst (λ (r : Growth). Packs (as_verdict r)) (sym (answer_is c.before.before.before.before.before)) (begin_packs _)
 
 shape_of-nodes : tie.Need-shape_of-nodes
 shape_of-nodes c = search rules
@@ -55,7 +55,7 @@ shape_of-members c = search rules
 
 returns : tie.Need-returns
 returns c =
-    (c.growth.ensures.0 ∙ ap growth_packed (answer_is c.before.before.before.before.before), (c.growth.ensures.1 ∙ ap (λ (r : Growth). pos (shown_number r) ∷ []) (answer_is c.before.before.before.before.before), left_is c.before.before.before.before.before))
+    (c.growth.ensures.0 ∙ ap growth_packed (answer_is c.before.before.before.before.before.before), (c.growth.ensures.1 ∙ ap (λ (r : Growth). pos (shown_number r) ∷ []) (answer_is c.before.before.before.before.before.before), left_is c.before.before.before.before.before.before))
 
 pub zorambi_begin_spec : {M : Type 1} → statement M
 zorambi_begin_spec =
