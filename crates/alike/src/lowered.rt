@@ -38,13 +38,11 @@ fn place(
     ensures remembers_2 { Remembers (formula_rows schema.now h.schema_rows proof.now) agreed.new }
 {
     let start = node::natural_of(nodes, j, node::START);
-    let mut i = lo;
-    while i < hi {
+    for i in lo..hi {
         let x = signed::natural_at(members, start + i);
         if compare::is_lowered(schema, h.schema_rows, proof, forms, k, z, x, agreed) {
             return i;
         }
-        i += 1;
     }
     hi
 }
@@ -115,14 +113,12 @@ fn past(rows: &[i32], forms: &[u32], i: usize) -> usize
     ensures by_index { (a : ℕ) → a < result → i < a → (get_or forms.now (4 * nat (get_or rows.now i (pos 0))) 0 ≡ get_or forms.now (4 * nat (get_or rows.now a (pos 0))) 0) × (get_or forms.now (4 * nat (get_or rows.now i (pos 0)) + 1) 0 ≡ get_or forms.now (4 * nat (get_or rows.now a (pos 0)) + 1) 0) }
 {
     let z = signed::natural_at(rows, i);
-    let mut e = i + 1;
-    while e < rows.len() {
+    for e in i + 1..rows.len() {
         if !same_form(forms, z, signed::natural_at(rows, e)) {
             return e;
         }
-        e += 1;
     }
-    e
+    rows.len()
 }
 
 // Each row of the set of node `to`, lowered by k, stands in the set of node j. A partner is looked for once for rows after one

@@ -81,9 +81,7 @@ pub fn work_out(nodes: &[i32], k: usize, least: i32, work: &mut [u32])
     ensures work_after { work.new ≡ work_table nodes.now least k k ++ drop (4 * k) work.old }
 {
     let l = signed::natural(least);
-    let mut j: usize = 0;
-    while j < k {
+    for j in 0..k {
         work_node(nodes, l, work, j);
-        j += 1;
     }
 }

@@ -10,13 +10,7 @@ pub fn links(nodes: &[i32], k: usize) -> usize
     requires { k ≤ 1024 }
     ensures { result ≡ count (is_link nodes.now) k }
 {
-    let mut n: usize = 0;
-    let mut j: usize = 0;
-    while j < k {
-        if node::is_of(nodes, j, node::RULE, 8) {
-            n += 1;
-        }
-        j += 1;
-    }
-    n
+    (0..k)
+        .filter(|j| node::is_of(nodes, *j, node::RULE, 8))
+        .count()
 }

@@ -7,14 +7,9 @@ ghost use Rattle.stab.specs.Search.{place_of, stands_at};
 pub fn place(list: &[i32], z: i32) -> usize
     ensures { result ≡ place_of z list.now }
 {
-    let mut i: usize = 0;
-    while i < list.len() {
-        if !signed::less(list[i], z) {
-            return i;
-        }
-        i += 1;
-    }
-    i
+    list.iter()
+        .position(|x| !signed::less(*x, z))
+        .unwrap_or(list.len())
 }
 
 // z stands at place i.

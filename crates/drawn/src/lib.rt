@@ -141,24 +141,11 @@ pub fn is_drawn(
     let size = node::natural_of(nodes, j, node::SIZE);
     let mut at = node::natural_of(nodes, p, node::START);
     let end = at + node::natural_of(nodes, p, node::SIZE);
-    let mut i: usize = 0;
-    while i < size {
-        at = next(members, at, end, start + i);
-        if !may_stand(
-            schema,
-            proof,
-            nodes,
-            members,
-            h,
-            p,
-            rank,
-            at,
-            end,
-            start + i,
-        ) {
+    for i in start..start + size {
+        at = next(members, at, end, i);
+        if !may_stand(schema, proof, nodes, members, h, p, rank, at, end, i) {
             return false;
         }
-        i += 1;
     }
     true
 }

@@ -58,10 +58,8 @@ fn each(
     ensures { Folds schema.now s (folding schema.now s proof.now p) result out.new numbers.new next.new heads.new }
 {
     let mut count = 0;
-    let mut k = 0;
-    while k < p {
+    for k in 0..p {
         count = step(schema, s, proof, k, count, out, numbers, next, heads);
-        k += 1;
     }
     count
 }

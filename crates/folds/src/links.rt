@@ -44,10 +44,8 @@ pub fn schema_rows(schema: &[i32], s: usize, table: &[i32], next: &mut [u16], he
     requires by_index { (h : ℕ) → h < 1024 → get_or heads.old h 0 ≡ 0 }
     ensures { Linked (formula_rows schema.now s table.now) next.new heads.new s }
 {
-    let mut r: usize = 0;
-    while r < s {
+    for r in 0..s {
         let h = places::place(cells::of_row(schema, s, table, r));
         places::keep(r, h, next, heads);
-        r += 1;
     }
 }

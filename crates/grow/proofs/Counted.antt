@@ -1,7 +1,7 @@
 -- The children of each node, counted one node after another.
-use Prim.Native.Nat.{ℕ, zero, suc, ◌+◌, ◌<◌, ◌≤◌}
+use Prim.Native.Nat.{ℕ, zero, suc, ◌<◌, ◌≤◌}
 use native.Mathlib.Omega.{arith}
-use native.Mathlib.Numerals.{add-one}
+use Rattle.std.specs.Bool.{MatchBool}
 use mathlib.Core.Path.{◌≡◌, refl, sym, ◌∙◌, ap, ap₂}
 use mathlib.Core.Logic.{⊎_elim}
 use mathlib.Core.Bool.{Bool, true, false}
@@ -20,11 +20,12 @@ use Rattle.growing.specs.Growing.{held_rows}
 use Rattle.grow.specs.State.{nodes_only, shown}
 use Rattle.grow.proofs.Same.{Agree}
 
-pub all_more : (T : Tableau) (j : ℕ) → children_all T j ≡ true → children_fit T j ≡ true → children_all T (j + 1) ≡ true
+all_make : (T : Tableau) (k : ℕ) → ((j : ℕ) → j < k → children_fit T j ≡ true) → children_all T k ≡ true
 unfolding children_all
-all_more T j h f = ap (children_all T) (add-one j) ∙ and_both _ _ h f
+all_make T zero h = refl
+all_make T (suc k) h = and_both _ _ (all_make T k (λ j l. h j (omega arith))) (h k (omega arith))
 
-pub all_stops : (T : Tableau) (k j : ℕ) → j < k → children_fit T j ≡ false → children_all T k ≡ false
+all_stops : (T : Tableau) (k j : ℕ) → j < k → children_fit T j ≡ false → children_all T k ≡ false
 unfolding children_all
 all_stops T zero j h f = absurd (omega arith)
 all_stops T (suc k) j h f =
@@ -32,6 +33,11 @@ all_stops T (suc k) j h f =
     (λ l. and_first_false (children_all T k) _ (all_stops T k j l f))
     (λ e. and_second_false (children_all T k) _ (ap (children_fit T) (sym e) ∙ f))
     (below_suc j k h)
+
+-- each was asked and fits, or one was found that does not
+pub all_asked : (T : Tableau) (k : ℕ) (fits : ℕ → Bool) → ((j : ℕ) → j < k → fits j ≡ children_fit T j) → (r : Bool) → MatchBool r ((j : ℕ) → j < k → fits j ≡ true) ((j : ℕ) × (j < k) × (fits j ≡ false)) → r ≡ children_all T k
+all_asked T k fits same true h = sym (all_make T k (λ j l. sym (same j l) ∙ h j l))
+all_asked T k fits same false h = sym (all_stops T k h.0 h.1 (sym (same h.0 h.1) ∙ h.2))
 
 -- two states that agree in the rows held
 module _ {S T : Tableau} (G : Agree S T) where

@@ -15,14 +15,7 @@ fn all_fit(nodes: &[i32], work: &[u32], k: usize) -> bool
     requires by_index { (j : ℕ) → j < k → get_or work.now (4 * j + 3) 0 ≡ child_count_of nodes.now k j }
     ensures { result ≡ children_all (nodes_only nodes.now k) k }
 {
-    let mut j: usize = 0;
-    while j < k {
-        if !children_fit(true, nodes, work, j) {
-            return false;
-        }
-        j += 1;
-    }
-    true
+    (0..k).all(|j| children_fit(true, nodes, work, j))
 }
 
 // There is a node, and no child is missing. The cost is one step for each node.

@@ -104,10 +104,8 @@ pub fn each_node(
     ensures { Puts nodes.now members.now (new_number 0 numbers.now) d m k result out_nodes.old out_members.old out_nodes.new out_members.new × (result ≤ 1024 * (d + k)) }
 {
     let mut n = m;
-    let mut j: usize = 0;
-    while j < k {
+    for j in 0..k {
         n = one_node(nodes, j, members, numbers, d, n, out_nodes, out_members);
-        j += 1;
     }
     n
 }

@@ -5,8 +5,8 @@ use mathlib.Core.Path.{◌≡◌, refl, sym, ◌∙◌, ap, ap₂}
 use mathlib.Core.Logic.{⊎_elim}
 use mathlib.Core.List.{List, [], ◌∷◌, ◌++◌}
 use lib.Dec.{ltb}
-use lib.ListN.{length, get_or, set, length-append, get_or-append}
-use lib.Seq.{get_or-set_same, get_or-set_other, get_or_at, ext_get_or}
+use lib.ListN.{length, get_or, length-append, get_or-append}
+use lib.Seq.{get_or_at, ext_get_or}
 use borrow.Author.Tests.{ltb-true, ltb-false}
 use Rattle.stab.proofs.Bools.{decide, if_true, if_false}
 use Rattle.stab.proofs.Scans.{below_suc}
@@ -42,15 +42,6 @@ numbered_same new new' (suc n) h =
 
 pub gives_at : (numbers : List ℕ) (new : ℕ → ℕ) → Gives numbers new → (r : ℕ) → r < 1024 → get_or numbers r 0 ≡ new r
 gives_at numbers new g r h = ap (λ (l : List ℕ). get_or l r 0) g ∙ numbered_at new 1024 r h
-
--- ---- one number more
-
-pub filled_more : (xs : List ℕ) (r v : ℕ) (new : ℕ → ℕ) → r < length xs → ((k : ℕ) → k < r → get_or xs k 0 ≡ new k) → v ≡ new r → (k : ℕ) → k < r + 1 → get_or (set xs r v) k 0 ≡ new k
-filled_more xs r v new l h e k p =
-    ⊎_elim
-    (λ q. get_or-set_other xs r k v 0 (λ d. omega (arith, d, q)) ∙ h k q)
-    (λ d. ap (λ (j : ℕ). get_or (set xs r v) j 0) d ∙ get_or-set_same xs r v 0 l ∙ e ∙ ap new (sym d))
-    (below_suc k r (omega (arith, p)))
 
 -- ---- they are small
 

@@ -33,9 +33,7 @@ pub fn fill(t: usize, base: usize, after: usize, new: &[u32], s: usize, numbers:
     requires { (base ≤ 1024) × (after ≤ 2049) × (length numbers.old ≡ 1024) × AllSmall new.now }
     ensures { Gives numbers.new (λ r. new_number s new.now (placed t base after r)) × AllSmall numbers.new }
 {
-    let mut r: usize = 0;
-    while r < 1024 {
-        numbers[r] = new_number(new, s, place(t, base, after, r)) as u32;
-        r += 1;
+    for (r, x) in numbers.iter_mut().enumerate() {
+        *x = new_number(new, s, place(t, base, after, r)) as u32;
     }
 }

@@ -14,10 +14,8 @@ fn put_rows(rows: &[i32], n: usize, numbers: &[u32], table: &mut [i32], at: usiz
     requires { (n ≤ 1024) × (at ≤ 1024) × (4 * (at + n) ≤ length table.old) × AllSmall numbers.now }
     ensures { take (4 * (at + n)) table.new ≡ take (4 * at) table.old ++ moved_rows (new_number 0 numbers.now) rows.now n }
 {
-    let mut k: usize = 0;
-    while k < n {
+    for k in 0..n {
         folds::row::put(rows, k, 0, numbers, table, at + k);
-        k += 1;
     }
 }
 

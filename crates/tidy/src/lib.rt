@@ -56,11 +56,9 @@ fn each_node(
     requires all_fit { AllFit nodes.now members.now (new_number s numbers.now) k }
     ensures { Tidies nodes.now members.now (new_number s numbers.now) k result out_nodes.new out_members.new × (result ≤ 8192) }
 {
-    let mut m: usize = 0;
-    let mut j: usize = 0;
-    while j < k {
+    let mut m = 0;
+    for j in 0..k {
         m += one_node(nodes, j, members, numbers, s, m, out_nodes, out_members);
-        j += 1;
     }
     m
 }

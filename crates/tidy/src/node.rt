@@ -14,11 +14,7 @@ pub fn copy(table: &mut [i32], at: usize, row: &[i32])
     requires { at + length row.now ≤ length table.old }
     ensures { table.new ≡ sets table.old at row.now }
 {
-    let mut k = 0;
-    while k < row.len() {
-        table[at + k] = row[k];
-        k += 1;
-    }
+    table[at..at + row.len()].copy_from_slice(row);
 }
 
 // A field of node j that names a row, put through.
