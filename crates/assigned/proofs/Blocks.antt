@@ -9,9 +9,11 @@ use lib.Dec.{eqb}
 use lib.ListN.{length, get_or, take, drop, set, replicate, length-set}
 use lib.Seq.{take-suc, take_all, take-suc-set, drop-set-lt, drop-drop, length-take-le, get_or-drop}
 use borrow.Author.Tests.{eqb-true}
-use Rattle.stab.specs.Basic.{all_of}
+use Rattle.std.specs.List.{list_all}
+use Rattle.std.specs.Prelude.{◌&&◌}
+use Rattle.stab.specs.Basic.{all_of, ◌and◌}
 use Rattle.stab.specs.Meaning.{op}
-use Rattle.stab.proofs.Bools.{and_left, and_right, and_both, and_first_false, and_second_false}
+use Rattle.stab.proofs.Bools.{and_left, and_right}
 use Rattle.pairs.specs.Reading.{op_of}
 use Rattle.pairs.specs.Word.{word, combined_word}
 use Rattle.pairs.proofs.Words.{word_same, combined_word_lem, settled_word}
@@ -146,23 +148,11 @@ combined_all any before t ws k j g h =
 
 -- ---- each word passes
 
-all_last : (p : ℕ → Bool) (xs : List ℕ) (x : ℕ) → all_of p xs ≡ true → p x ≡ true → all_of p (xs ++ x ∷ []) ≡ true
-unfolding all_of
-all_last p [] x h e = and_both (p x) true e refl
-all_last p (y ∷ xs) x h e = and_both (p y) _ (and_left (p y) _ h) (all_last p xs x (and_right (p y) _ h) e)
-
-module _ (p : ℕ → Bool) where
-  pub all_more : (l : List ℕ) (k : ℕ) → k < length l → all_of p (take k l) ≡ true → p (get_or l k 0) ≡ true → all_of p (take (k + 1) l) ≡ true
-  all_more l k h a e =
-      ap (λ (x : ℕ). all_of p (take x l)) (add-one k)
-      ∙ ap (all_of p) (take-suc l k 0 h)
-      ∙ all_last p (take k l) (get_or l k 0) a e
-
-  pub all_not : (l : List ℕ) (k : ℕ) → k < length l → p (get_or l k 0) ≡ false → all_of p l ≡ false
-  unfolding all_of
-  all_not [] k h e = absurd (omega arith)
-  all_not (x ∷ l) zero h e = and_first_false (p x) _ e
-  all_not (x ∷ l) (suc k) h e = and_second_false (p x) _ (all_not l k (omega arith) e)
-
-  pub all_end : (l : List ℕ) (k : ℕ) → length l ≤ k → all_of p (take k l) ≡ true → all_of p l ≡ true
-  all_end l k h a = ap (all_of p) (sym (take_all k l h)) ∙ a
+pub all_is : (p : ℕ → Bool) (l : List ℕ) → all_of p l ≡ list_all p l
+unfolding all_of ◌and◌
+all_is p [] = refl
+all_is p (x ∷ l) = go (p x) (all_is p l)
+  where
+    go : (b : Bool) → all_of p l ≡ list_all p l → (b and all_of p l) ≡ (b && list_all p l)
+    go true e = e
+    go false e = refl

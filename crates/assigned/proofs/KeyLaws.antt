@@ -2,48 +2,31 @@
 use Rattle.std.specs.Prelude.{if◌then◌else◌}
 use Prim.Native.Nat.{ℕ, suc, ◌+◌, ◌-◌, ◌<◌, ◌≤◌}
 use native.Mathlib.Omega.{arith}
-use native.Mathlib.Numerals.{add-one}
-use mathlib.Core.Path.{◌≡◌, refl, sym, ◌∙◌, ap}
+use mathlib.Core.Path.{◌≡◌, refl, ◌∙◌, ap}
 use mathlib.Core.Bool.{Bool, true, false}
 use mathlib.Core.List.{List, [], ◌∷◌}
 use lib.Dec.{eqb}
 use lib.IntN.{ℤ}
-use lib.ListN.{length, get_or, drop, drop_of_length-le}
-use lib.Seq.{drop-cons}
-use borrow.Author.Tests.{eq-eqb, ne_eqb}
-use Rattle.stab.proofs.Bools.{if_true, if_false}
+use lib.ListN.{length}
+use Rattle.std.specs.List.{position_or_len}
+use Rattle.std.specs.Prelude.{cond, not}
 use Rattle.found.specs.Keys.{key_of}
 use Rattle.assigned.specs.Words.{digit}
 use Rattle.assigned.specs.Assignments.{place_of, keyed}
 
 -- ---- where a key stands
 
--- it is not among the first k
-abbrev pub Past : ℕ → List ℕ → ℕ → Type 0
-Past key l k = place_of key l ≡ k + place_of key (drop k l)
+pub place_is : (key : ℕ) (l : List ℕ) → place_of key l ≡ position_or_len (λ k. eqb k key) l
+unfolding place_of
+place_is key [] = refl
+place_is key (k ∷ l) = go (eqb k key) (place_is key l)
+  where
+    n : ℕ
+    n = position_or_len (λ k. eqb k key) l
 
-pub place_start : (key : ℕ) (l : List ℕ) → Past key l 0
-place_start key l = omega arith
-
-module _ (key : ℕ) (l : List ℕ) (k : ℕ) where
-  pub place_here : k < length l → get_or l k 0 ≡ key → Past key l k → place_of key l ≡ k
-  unfolding place_of
-  place_here h e p =
-      let zero_there : place_of key (drop k l) ≡ 0 = ap (place_of key) (drop-cons l k 0 h) ∙ if_true _ _ _ (eq-eqb (get_or l k 0) key e) in
-      omega arith
-
-  pub place_more : k < length l → (get_or l k 0 ≡ key → ⊥) → Past key l k → Past key l (k + 1)
-  unfolding place_of
-  place_more h e p =
-      let one_further : place_of key (drop k l) ≡ suc (place_of key (drop (suc k) l)) = ap (place_of key) (drop-cons l k 0 h) ∙ if_false _ _ _ (ne_eqb (get_or l k 0) key e) in
-      let there : place_of key (drop (suc k) l) ≡ place_of key (drop (k + 1) l) = ap (λ (x : ℕ). place_of key (drop x l)) (sym (add-one k)) in
-      omega arith
-
-  pub place_none : length l ≤ k → Past key l k → place_of key l ≡ k
-  unfolding place_of
-  place_none h p =
-      let nothing_left : place_of key (drop k l) ≡ 0 = ap (place_of key) (drop_of_length-le l h) in
-      omega arith
+    go : (b : Bool) → place_of key l ≡ n → (if b then 0 else suc (place_of key l)) ≡ cond (not b) (1 + n) 0
+    go true e = refl
+    go false e = omega arith
 
 -- ---- the value of a pair by the place of its key
 

@@ -77,10 +77,8 @@ fn digits(held: bool, m: usize, b: usize, out: &mut [u64; 64])
     requires { (m % 64 ≡ 0) × (m ≤ 65536) × (b < 64) × (length out.old ≡ 64) }
     ensures { out.new ≡ words (λ j. signedBy held (digit (m + j) b)) 64 }
 {
-    let mut k = 0;
-    while k < 64 {
-        out[k] = turned(held, digit_word(m + 64 * k, b));
-        k += 1;
+    for (k, w) in out.iter_mut().enumerate() {
+        *w = turned(held, digit_word(m + 64 * k, b));
     }
 }
 
@@ -90,14 +88,7 @@ fn settled(any: bool, ws: &[u64; 64]) -> bool
     ensures { result ≡ all_of (λ w. eqb w (word (λ j. any) 64)) ws.now }
 {
     let all = same(any);
-    let mut k = 0;
-    while k < 64 {
-        if ws[k] != all {
-            return false;
-        }
-        k += 1;
-    }
-    true
+    ws.iter().all(|w| *w == all)
 }
 
 // Words and words, combined: by or where `any`, else by and.
@@ -105,10 +96,8 @@ fn combine(any: bool, out: &mut [u64; 64], ws: &[u64; 64])
     requires { (length out.old ≡ 64) × (length ws.now ≡ 64) }
     ensures { out.new ≡ combined_words any out.old ws.now }
 {
-    let mut k = 0;
-    while k < 64 {
-        out[k] = combined(any, out[k], ws[k]);
-        k += 1;
+    for (k, w) in out.iter_mut().enumerate() {
+        *w = combined(any, *w, ws[k]);
     }
 }
 
@@ -116,14 +105,12 @@ fn combine(any: bool, out: &mut [u64; 64], ws: &[u64; 64])
 fn first_digit(ws: &[u64; 64]) -> usize
     ensures { result ≡ least_or (least_below (digit_of ws.now) 4096) 4096 }
 {
-    let mut j = 0;
-    while j < 4096 {
+    for j in 0..4096 {
         if (ws[j / 64] >> (j % 64)) % 2 == 1 {
             return j;
         }
-        j += 1;
     }
-    j
+    4096
 }
 
 // ---- literals
@@ -133,14 +120,10 @@ fn place(keys: &[u32], count: usize, key: u32) -> usize
     requires { count ≤ length keys.now }
     ensures { result ≡ place_of key (take count keys.now) }
 {
-    let mut k = 0;
-    while k < count {
-        if keys[k] == key {
-            return k;
-        }
-        k += 1;
-    }
-    k
+    keys[..count]
+        .iter()
+        .position(|k| *k == key)
+        .unwrap_or(count)
 }
 
 // The values of row f, a literal, at n and what i stands for.
@@ -241,14 +224,12 @@ fn range_values(
     let left = looked_at(facts, body, range_size(schema, f, n));
     fill(!any, out);
     let mut next = [0u64; 64];
-    let mut k = 0;
-    while k < left {
+    for k in 0..left {
         formula_values(schema, facts, body, n, first + k, keys, count, m, &mut next);
         combine(any, out, &next);
         if settled(any, out) {
             return;
         }
-        k += 1;
     }
 }
 
@@ -266,14 +247,12 @@ pub fn first_number(
 {
     let total = 1usize << count;
     let mut out = [0u64; 64];
-    let mut m = 0;
-    while m < total {
+    for m in (0..total).step_by(4096) {
         formula_values(schema, facts, root, n, 65536, keys, count, m, &mut out);
         let j = first_digit(&out);
         if j < 4096 {
             return if m + j < total { m + j } else { total };
         }
-        m += 4096;
     }
     total
 }

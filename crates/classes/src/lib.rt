@@ -61,9 +61,7 @@ pub fn work_out(
     ensures heads_after { heads.new ≡ heads_after (formula_rows schema.now s proof.now) heads.old n }
     ensures all_worked { AllWorked (formula_rows schema.now s proof.now) forms.new n }
 {
-    let mut r: usize = 0;
-    while r < n {
+    for r in 0..n {
         step(schema, s, proof, r, forms, sides, heads);
-        r += 1;
     }
 }

@@ -208,10 +208,8 @@ pub fn count(wide: &[i32], n: usize) -> usize
     ensures { result ≡ start_of (row_at wide.now) n }
 {
     let mut s = 0;
-    let mut r = 0;
-    while r < n {
+    for r in 0..n {
         s += rows_given(signed::natural_at(wide, 4 * r));
-        r += 1;
     }
     s
 }
@@ -267,10 +265,8 @@ fn each(wide: &[i32], n: usize, images: &mut [u32], plain: &mut [i32])
     ensures plain_after { plain.new ≡ written plain.old 0 (plain_rows (row_at wide.now) n) }
 {
     let mut s = 0;
-    let mut r = 0;
-    while r < n {
+    for r in 0..n {
         s = step(wide, r, s, images, plain);
-        r += 1;
     }
 }
 

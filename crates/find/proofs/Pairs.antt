@@ -57,9 +57,6 @@ pub record Given (ws : List Wire) (m k given : ℕ) (pairs : List ℤ) : Type 0 
   pub count : length (numbered ws m) ≡ given + length (numbered (drop k ws) m)
   pub rows : table (numbered ws m) ≡ take (2 * given) pairs ++ table (numbered (drop k ws) m)
 
-pub given_none : (ws : List Wire) (m : ℕ) (pairs : List ℤ) → Given ws m 0 0 pairs
-given_none ws m pairs = record { count = omega arith; rows = refl }
-
 -- a pair stands after those before it
 pair_after : (t : List ℤ) (k : ℕ) (w : Wire) → 2 * k + 1 < length t → take (2 * (k + 1)) (pair_put t k w) ≡ take (2 * k) t ++ w.symbol ∷ w.index ∷ []
 unfolding pair_put

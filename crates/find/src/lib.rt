@@ -102,10 +102,8 @@ fn write_pairs(pairs: &mut [i32], keys: &[u32], count: usize, m: usize) -> usize
     ensures { (result ≡ length (numbered (wires_of (take count keys.now)) m)) × (pairs.new ≡ padded (pos 0) (length pairs.old) (wireTable (numbered (wires_of (take count keys.now)) m))) }
 {
     let mut given = 0;
-    let mut k = 0;
-    while k < count {
+    for k in 0..count {
         given = put_true(pairs, given, keys, count, k, m);
-        k += 1;
     }
     signed::clear(pairs, 2 * given);
     given

@@ -8,7 +8,7 @@ use mathlib.Core.Bool.{true, false, false≢true}
 use mathlib.Core.List.Memᴰ
 use mathlib.Core.List.{List, [], ◌∷◌, Memᴰ}
 use lib.IntN.{ℤ, pos, ◌-ℤ◌}
-use lib.ListN.{length, get_or, take, drop, length-append, drop_of_length-le, get_or-append}
+use lib.ListN.{length, get_or, take, drop, length-append, get_or-append}
 use lib.Seq.{get_or_at, get_or-take, get_or-drop, drop-cons}
 use Rattle.stab.specs.Basic.{eq_z}
 use Rattle.stab.specs.Formula.{Row, row_at}
@@ -169,10 +169,3 @@ module _ (t : List ℤ) (r : ℕ) where
   pub row_here : (d n : ℕ) (w : Row) → n ≡ length (rows_for r) → d < n → columns w ≡ get_or (rows_for r) d [] → same_row (row_at t r) w ≡ true → RowPlace t r d
   row_here d n w c l e h =
       record { here = λ _. sym e ∙ same_columns (row_at t r) w h; nowhere = λ k. absurd (omega arith) }
-
-  pub row_nowhere : (d n : ℕ) → n ≡ length (rows_for r) → n ≤ d → Later t r d → RowPlace t r d
-  row_nowhere d n c l f =
-      record {
-        here = λ k. absurd (omega arith);
-        nowhere = λ k m. Memᴰ.not-nil (subst (Memᴰ (columns (row_at t r))) (drop_of_length-le (rows_for r) {i = d} k) (f m));
-      }

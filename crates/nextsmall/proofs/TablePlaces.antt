@@ -22,7 +22,7 @@ use Rattle.small.proofs.Lists.{filtered_out}
 use Rattle.small.proofs.Order.{table_length, tables_ascend}
 use Rattle.small.proofs.Listed.{last_row, row_of_start, table_fits}
 use Rattle.small.proofs.NextTable.{skips, skips_itself, takes_first, after_front, before_behind}
-use Rattle.nextsmall.specs.Places.{RowPlace, TablePlace, first_from}
+use Rattle.nextsmall.specs.Places.{RowPlace, first_from}
 use Rattle.nextsmall.proofs.RowPlaces.{count_0, count_1, count_2}
 
 -- ---- a table with rows after it
@@ -157,14 +157,6 @@ module _ (t : List ℤ) (r i k d : ℕ) (h : 4 * (r + 1) ≤ length t) (c : k �
 
   pub placed_more : Placed t (r + 1) (i * k + d)
   placed_more = subst (λ (x : ℕ). Placed t x (i * k + d)) (sym (add-one r)) placed_suc
-
-module _ (t : List ℤ) (n : ℕ) where
-  pub table_here : (i : ℕ) → Placed t n i → TablePlace t n i
-  table_here i p = record { here = λ _. p.1; fits = λ _. p.2; nowhere = λ k. absurd (omega (arith, p.0)) }
-
-  pub table_nowhere : (r d v : ℕ) → r < n → length (rows_for r) ≤ d → RowPlace t r d → v ≡ length (tables n) → TablePlace t n v
-  table_nowhere r d v l h f e =
-      record { here = λ k. absurd (omega arith); fits = λ k. absurd (omega arith); nowhere = λ k g. f.nowhere h (g r l) }
 
 -- ---- the table at a place, row by row
 

@@ -27,16 +27,14 @@ pub fn place(table: &[i32], n: usize) -> usize
     requires { (1 ≤ n) × (n ≤ 3) × (4 * n ≤ length table.now) }
     ensures { TablePlace table.now n result }
 {
-    let mut i: usize = 0;
-    let mut r: usize = 0;
-    while r < n {
+    let mut i = 0;
+    for r in 0..n {
         let k = count(r);
         let d = row_place(table, r);
         if k <= d {
             return total(n);
         }
         i = i * k + d;
-        r += 1;
     }
     i
 }
@@ -63,9 +61,7 @@ fn put(n: usize, i: usize, table: &mut [i32])
     ensures { table.new ≡ get_or (tables n) i [] ++ drop (4 * n) table.old }
 {
     let mut rest = i;
-    let mut r = n;
-    while 0 < r {
-        r -= 1;
+    for r in (0..n).rev() {
         let k = count(r);
         put_row(table, r, candidate(r, rest % k));
         rest /= k;
@@ -94,13 +90,11 @@ pub fn first(n: usize, from: usize, table: &mut [i32]) -> bool
 {
     let m = total(n);
     let end = 4 * n;
-    let mut i = from;
-    while i < m {
+    for i in from..m {
         put(n, i, table);
         if on_list(&table[..end], n) {
             return true;
         }
-        i += 1;
     }
     false
 }

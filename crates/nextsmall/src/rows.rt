@@ -127,12 +127,10 @@ pub fn place(table: &[i32], r: usize) -> usize
     ensures { RowPlace table.now r result }
 {
     let n = count(r);
-    let mut d: usize = 0;
-    while d < n {
+    for d in 0..n {
         if same(table, r, candidate(r, d)) {
             return d;
         }
-        d += 1;
     }
-    d
+    n
 }

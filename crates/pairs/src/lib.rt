@@ -53,15 +53,14 @@ pub fn listed_word(pairs: &[i32], count: usize, symbol: usize, x: usize, width: 
 {
     let key = symbol * 131072 + x;
     let last = key + width - 1;
-    let mut next = keys_below(pairs, count, key);
+    let first = keys_below(pairs, count, key);
     let mut w: u64 = 0;
-    while next < count {
-        let there = key_at(pairs, next);
+    for k in first..count {
+        let there = key_at(pairs, k);
         if last < there {
             return w;
         }
         w += 1u64 << (there - key);
-        next += 1;
     }
     w
 }

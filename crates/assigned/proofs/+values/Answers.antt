@@ -106,7 +106,8 @@ range_values-looked_at-left-requires t c =
     omega (arith, below_nat _ _ (iteration_body _ _ formed _ refl c.requires.2), c.natural_at-body.ensures.0, c.requires.0.row)
 
 pub range_values-loop-k-init : goal.range_values-loop-k-init
-range_values-loop-k-init t c = (omega arith, refl, c.fill.ensures ∙ words_same _ _ 64 (λ j. sym (over_none _ _ _)))
+range_values-loop-k-init t c =
+    record { long = refl; so_far = c.fill.ensures ∙ words_same _ _ 64 (λ j. sym (over_none _ _ _)) }
 
 pub range_values-overflow_add-first : goal.range_values-overflow_add-first
 unfolding row_at
@@ -126,14 +127,14 @@ range_values-formula_values-requires t c =
         evaluable_below _ _ _ _ _ _ _ c.requires.0 less,
         known_below _ _ _ _ c.requires.1 less,
         omega (arith, whole, c.looked_at-left.ensures, looked_few (get_or c.args.facts.now (4 * c.natural_at-body.result + 2) 0) c.range_size.result, c.range_size.ensures, c.loop-k-test.true),
-        c.loop-k.invariant.1,
+        c.loop-k.invariant.long,
       ),
     )
 
 pub range_values-combine-requires : goal.range_values-combine-requires
 unfolding values_from
 range_values-combine-requires t c =
-    (ap length c.loop-k.invariant.2 ∙ words_length _ 64, ap length c.formula_values.ensures ∙ words_length _ 64)
+    (ap length c.loop-k.invariant.so_far ∙ words_length _ 64, ap length c.formula_values.ensures ∙ words_length _ 64)
 
 -- the values of the body at the next i, combined with those before
 next_is : (any : Bool) (body_at : ℕ → ℤ → Bool) (first k : ℕ) (out before next : List ℕ) → out ≡ combined_words any before next → before ≡ words (λ j. over (op_of any) (body_at j) (unbiased first) k) 64 → next ≡ words (λ j. body_at j (unbiased (first + k))) 64 → out ≡ words (λ j. over (op_of any) (body_at j) (unbiased first) (k + 1)) 64
@@ -167,7 +168,7 @@ range_values-returns-then-settled t c =
     ∙ sym (value_iteration _ _ formed _ kind (omega (arith, kind, c.requires.2)) _ _ _)
     in
     let k = c.loop-k.k in
-    let combined = next_is any body_at first k _ _ _ c.combine.ensures c.loop-k.invariant.2 c.formula_values.ensures in
+    let combined = next_is any body_at first k _ _ _ c.combine.ensures c.loop-k.invariant.so_far c.formula_values.ensures in
     combined
     ∙ settled_words any (λ j. over (op_of any) (body_at j) (unbiased first) (k + 1)) (λ j. over (op_of any) (body_at j) (unbiased (first + (k + 1))) (left - (k + 1))) 64
     (ap (all_of _) (sym combined) ∙ sym c.settled.ensures ∙ c.if-settled.true)
@@ -176,11 +177,11 @@ range_values-returns-then-settled t c =
 pub range_values-loop-k-preserved : goal.range_values-loop-k-preserved
 unfolding values_from
 range_values-loop-k-preserved t c =
-    let a = c.args in (
-      omega (arith, c.loop-k-test.true),
-      ap length c.formula_values.ensures ∙ words_length _ 64,
-      next_is (eqb c.natural_at-any.result 7) (λ j. value (keyed (take a.count a.keys.now) (a.m + j)) a.n (tree (row_at a.schema.now) c.natural_at-body.result)) c.moved-first.result c.loop-k.k _ _ _ c.combine.ensures c.loop-k.invariant.2 c.formula_values.ensures,
-    )
+    let a = c.args in
+    record {
+      long = c.formula_values.array_long;
+      so_far = next_is (eqb c.natural_at-any.result 7) (λ j. value (keyed (take a.count a.keys.now) (a.m + j)) a.n (tree (row_at a.schema.now) c.natural_at-body.result)) c.moved-first.result c.loop-k.k _ _ _ c.combine.ensures c.loop-k.invariant.so_far c.formula_values.ensures;
+    }
 
 pub range_values-returns : goal.range_values-returns
 unfolding row_at values_from
@@ -205,5 +206,5 @@ range_values-returns t c =
     ∙ ap₂ (over (op_of any) (value (by j) a.n (tree rows (nat (rows a.f).a)))) (first_is _ _ c.moved-first.ensures) c.range_size.ensures
     ∙ sym (value_iteration _ _ formed _ kind (omega (arith, kind, c.requires.2)) _ _ _)
     in
-    let all : c.loop-k.k ≡ left = omega (arith, c.loop-k.invariant.0, c.loop-k-test.false) in
-    c.loop-k.invariant.2 ∙ words_same _ _ 64 (λ j. ap (over (op_of any) (body_at j) (unbiased first)) all ∙ iteration_is j)
+    let all : c.loop-k.k ≡ left = omega arith in
+    c.loop-k.invariant.so_far ∙ words_same _ _ 64 (λ j. ap (over (op_of any) (body_at j) (unbiased first)) all ∙ iteration_is j)

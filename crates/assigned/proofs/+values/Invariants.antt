@@ -1,5 +1,5 @@
 -- The measure: the row number falls with each part, and an iteration is looked at by itself before its body.
-use Rattle.std.proofs.Common.{◌≡◌, ◌+◌, ◌-◌, ◌*◌, ◌≤◌, length, take}
+use Rattle.std.proofs.Common.{◌≡◌, ◌+◌, ◌*◌, length, take}
 use Rattle.stab.specs.Formula.{row_at, tree}
 use Rattle.stab.specs.Meaning.{over, value}
 use Rattle.pairs.specs.Index.{unbiased}
@@ -15,8 +15,7 @@ abbrev pub decreases-range_values : goal.decreases-range_values
 decreases-range_values l = l.f * 2
 
 abbrev pub invariant-range_values-loop-k : goal.invariant-range_values-loop-k
-invariant-range_values-loop-k l =
-    (l.k ≤ l.left) × (length l.next ≡ 64) × (l.out ≡ words (λ j. over (op_of l.any) (value (keyed (take l.count l.keys) (l.m + j)) l.n (tree (row_at l.schema) l.body)) (unbiased l.first) l.k) 64)
-
-abbrev pub decreases-range_values-loop-k : goal.decreases-range_values-loop-k
-decreases-range_values-loop-k l = l.left - l.k
+invariant-range_values-loop-k l = record {
+  long : length l.next ≡ 64;
+  so_far : l.out ≡ words (λ j. over (op_of l.any) (value (keyed (take l.count l.keys) (l.m + j)) l.n (tree (row_at l.schema) l.body)) (unbiased l.first) l.k) 64;
+}

@@ -70,7 +70,7 @@ range_pairs-moved-first-requires t c =
 
 pub range_pairs-loop-k-init : goal.range_pairs-loop-k-init
 unfolding gathered
-range_pairs-loop-k-init t c = (omega arith, refl, c.requires.0.held, λ ws h. h)
+range_pairs-loop-k-init t c = record { at_most = c.requires.0.held; so_far = λ ws h. h }
 
 pub range_pairs-overflow_add-first : goal.range_pairs-overflow_add-first
 unfolding row_at
@@ -92,7 +92,7 @@ range_pairs-row_pairs-held-requires t c =
     let l = c.loop-k in (
       omega (arith, below, c.decreases),
       (
-        walk_below _ _ _ _ _ _ _ _ _ c.requires.0 below l.invariant.1 l.invariant.2,
+        walk_below _ _ _ _ _ _ _ _ _ c.requires.0 below l.auto.keys l.invariant.at_most,
         omega (arith, reached, c.range_size-left.ensures, c.loop-k-test.true),
       ),
     )
@@ -100,14 +100,13 @@ range_pairs-row_pairs-held-requires t c =
 pub range_pairs-loop-k-preserved : goal.range_pairs-loop-k-preserved
 range_pairs-loop-k-preserved t c =
     let l = c.loop-k in
-    let called = c.row_pairs-held in (
-      omega (arith, c.loop-k-test.true),
-      called.auto.keys ∙ l.invariant.1,
-      called.ensures.0,
-      λ ws h. subst (Held called.new.keys called.result)
+    let called = c.row_pairs-held in
+    record {
+      at_most = called.ensures.0;
+      so_far = λ ws h. subst (Held called.new.keys called.result)
           (gathered_more c.args.n (tree (row_at c.args.schema.now) c.natural_at-body.result) c.moved-first.result l.k ws)
-          (called.ensures.1 _ (l.invariant.3 ws h)),
-    )
+          (called.ensures.1 _ (l.invariant.so_far ws h));
+    }
 
 pub range_pairs-returns : goal.range_pairs-returns
 unfolding row_at
@@ -116,12 +115,12 @@ range_pairs-returns t c =
     let rows = row_at a.schema.now in
     let formed = c.requires.0.passed.formed a.f (omega arith) in
     let l = c.loop-k in
-    let left : l.k ≡ range_size (rows a.f).b (pos a.n -ℤ (rows a.f).c) = omega (arith, c.range_size-left.ensures, l.invariant.0, c.loop-k-test.false) in (
-      l.invariant.2,
+    let left : l.k ≡ range_size (rows a.f).b (pos a.n -ℤ (rows a.f).c) = omega (arith, c.range_size-left.ensures) in (
+      l.invariant.at_most,
       λ i ws h. subst (Held l.keys l.held)
           (gathered_same a.n rows c.natural_at-body.ensures.0 (first_is _ _ c.moved-first.ensures) left ws
           ∙ sym (row_iteration rows a.f formed _ refl _ i ws c.requires.1))
-          (l.invariant.3 ws h),
+          (l.invariant.so_far ws h),
     )
 
 -- ---- a row

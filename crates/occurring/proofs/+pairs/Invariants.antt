@@ -1,5 +1,5 @@
 -- The measure: a row number falls by one at each part, which 2 counts for, and an iteration comes after its row.
-use Rattle.std.proofs.Common.{◌-◌, ◌≡◌, List, ◌+◌, ◌≤◌, length, ◌*◌}
+use Rattle.std.proofs.Common.{List, ◌+◌, ◌≤◌, ◌*◌}
 use Rattle.stab.specs.Formula.{row_at, tree}
 use Rattle.stab.specs.Occurs.{Wire, gathered, inserted}
 use Rattle.pairs.specs.Index.{unbiased}
@@ -13,8 +13,7 @@ abbrev pub decreases-row_pairs : goal.decreases-row_pairs
 decreases-row_pairs l = 2 * l.f + 1
 
 abbrev pub invariant-range_pairs-loop-k : goal.invariant-range_pairs-loop-k
-invariant-range_pairs-loop-k l =
-    (l.k ≤ l.left) × (length l.keys ≡ length l.fn.keys) × (l.held ≤ 17) × ((ws : List Wire) → Held l.fn.keys l.count ws → Held l.keys l.held (gathered (inserted l.n (tree (row_at l.schema) l.body)) (unbiased l.first) l.k ws))
-
-abbrev pub decreases-range_pairs-loop-k : goal.decreases-range_pairs-loop-k
-decreases-range_pairs-loop-k l = l.left - l.k
+invariant-range_pairs-loop-k l = record {
+  at_most : l.held ≤ 17;
+  so_far : (ws : List Wire) → Held l.fn.keys l.count ws → Held l.keys l.held (gathered (inserted l.n (tree (row_at l.schema) l.body)) (unbiased l.first) l.k ws);
+}
