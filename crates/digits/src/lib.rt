@@ -30,10 +30,8 @@ fn put_digits(out: &mut [u8], v: usize) -> usize
     ensures { (result ≡ length (digits_n 4 v)) × (out.new ≡ over (digits_n 4 v) out.old) }
 {
     let n = digit_count(v);
-    let mut i = n;
     let mut rest = v;
-    while 0 < i {
-        i -= 1;
+    for i in (0..n).rev() {
         out[i] = (rest % 10) as u8 + b'0';
         rest /= 10;
     }

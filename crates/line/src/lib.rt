@@ -11,14 +11,10 @@ fn end_of(text: &[u8], from: usize) -> usize
     requires { from ≤ length text.now }
     ensures { result ≡ from + line_length (drop from text.now) }
 {
-    let mut i = from;
-    while i < text.len() {
-        if text[i] == b'\n' {
-            return i;
-        }
-        i += 1;
+    match text[from..].iter().position(|b| *b == b'\n') {
+        Some(n) => from + n,
+        None => text.len(),
     }
-    i
 }
 
 // Where line k starts, and the text's end where there are not so many lines.
@@ -27,14 +23,12 @@ fn start_of(text: &[u8], k: usize) -> usize
     ensures { (result ≤ length text.now) × (span_from result 1 (lines (drop result text.now)) ≡ line_span text.now k) }
 {
     let mut at = 0;
-    let mut left = k;
-    while 1 < left {
+    for _ in 1..k {
         let end = end_of(text, at);
         if end == text.len() {
             return end;
         }
         at = end + 1;
-        left -= 1;
     }
     at
 }

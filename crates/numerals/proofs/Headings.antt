@@ -1,16 +1,20 @@
 -- A heading byte by byte, and what the definitions make of it.
-use Prim.Native.Nat.{ℕ, zero, suc, ◌+◌, ◌<◌, ◌≤◌}
+use Prim.Native.Nat.{ℕ, suc, ◌+◌, ◌-◌, ◌≤◌}
 use native.Mathlib.Omega.{arith}
-use native.Mathlib.Nat.{add_assoc}
-use native.Mathlib.Numerals.{add-one}
+use native.Mathlib.Nat.{add-zero}
 use mathlib.Core.Path.{◌≡◌, refl, sym, ◌∙◌, ap, ap₂}
 use mathlib.Core.Logic.{⊎_elim}
 use mathlib.Core.Bool.{Bool, true, false, not, true≢false, false≢true}
-use mathlib.Core.List.{List, [], ◌∷◌}
+use mathlib.Core.List.{List, [], ◌∷◌, ◌++◌}
 use lib.Dec.{eqb}
-use lib.ListN.{length, get_or, drop, length-drop}
-use lib.Seq.{drop-cons, drop-length, drop-drop}
+use lib.ListN.{length, get_or, take, drop, length-drop}
+use lib.Seq.{drop-drop}
 use borrow.Author.Tests.{eqb-true, eq-eqb, ne_eqb}
+use Rattle.std.specs.List.{starts_with}
+use Rattle.std.specs.Cmp.Lexicographic.{pointwise}
+use Rattle.std.proofs.lemmas.Slice.Eq.{starts_is}
+use Rattle.std.proofs.lemmas.Bool.Decides.{Decides-eqb}
+use Rattle.std.proofs.lemmas.List.{take_all, get_or-drop}
 use Rattle.stab.specs.Basic.{◌and◌}
 use Rattle.stab.specs.Text.{Line, lines, same_bytes, lacks}
 use Rattle.stab.specs.Read.{read, stopped, require, heading_at}
@@ -18,7 +22,6 @@ use Rattle.stab.specs.declared.Refusal.TheVariants.{Heading}
 use Rattle.stab.proofs.Bools.{and_left, and_right, and_first_false, and_second_false, decide, if_true, if_false, false_of_not}
 use Rattle.numerals.specs.Here.{first_line, after_line}
 use Rattle.numerals.specs.Headings.{is_heading, after_heading}
-use Rattle.numerals.proofs.Runs.{at_place}
 use Rattle.numerals.proofs.Lines.{line_end_lem, line_byte, after_end, after_byte, lines_first, lines_nil}
 
 -- ---- byte by byte
@@ -66,53 +69,63 @@ heading_after (y ∷ h) (x ∷ xs) l e =
     let other = ne_eqb x 10 (λ p. n (sym (eqb-true x y (and_left _ _ q)) ∙ p)) in
     after_byte x xs other ∙ heading_after h xs (and_right (not (eqb y 10)) _ l) (and_right (eqb x y) _ q)
 
--- ---- at a place of a text
+-- ---- a text that starts with the heading's bytes
 
-pub lacks_at : (c : ℕ) (h : List ℕ) (j d : ℕ) → lacks c h ≡ true → j < length h → get_or h j d ≡ c → ⊥
+not_end : (y : ℕ) (h : List ℕ) → lacks 10 (y ∷ h) ≡ true → y ≡ 10 → ⊥
 unfolding lacks
-lacks_at c [] j d l h e = absurd (omega arith)
-lacks_at c (x ∷ xs) zero d l h e = true≢false (sym (eq-eqb x c e) ∙ false_of_not _ (and_left _ _ l))
-lacks_at c (x ∷ xs) (suc j) d l h e = lacks_at c xs j d (and_right (not (eqb x c)) _ l) (omega arith) e
+not_end y h l p = true≢false (sym (eq-eqb y 10 p) ∙ false_of_not _ (and_left _ _ l))
 
-module _ (text : List ℕ) (at : ℕ) (h : List ℕ) (none : lacks 10 h ≡ true) (j : ℕ) where
-  abbrev here : ℕ
-  here = get_or text (at + j) 256
+lacks_rest : (y : ℕ) (h : List ℕ) → lacks 10 (y ∷ h) ≡ true → lacks 10 h ≡ true
+unfolding lacks
+lacks_rest y h l = and_right (not (eqb y 10)) _ l
 
-  left : j < length h → drop j h ≡ get_or h j 256 ∷ drop (j + 1) h
-  left l = drop-cons h j 256 l ∙ ap (λ (i : ℕ). get_or h j 256 ∷ drop i h) (sym (add-one j))
+with_first : (a b : Bool) → a ≡ true → (a and b) ≡ b
+unfolding ◌and◌
+with_first a b e = ap (λ (t : Bool). t and b) e
 
-  heading_at_lem : j < length h → drop (at + j) text ≡ here ∷ drop (at + j + 1) text
-      → is_heading (drop j h) (drop (at + j) text) ≡ (eqb here (get_or h j 256) and is_heading (drop (j + 1) h) (drop (at + j + 1) text))
-  heading_at_lem l p = ap₂ is_heading (left l) p ∙ heading_byte (get_or h j 256) (drop (j + 1) h) here (drop (at + j + 1) text) (lacks_at 10 h j 256 none l)
+-- the byte after them decides
+heading_front : (h rest : List ℕ) → lacks 10 h ≡ true → is_heading h (h ++ rest) ≡ eqb (get_or rest 0 256) 10
+heading_front [] [] l = heading_nil []
+heading_front [] (x ∷ xs) l = heading_done x xs
+heading_front (y ∷ h) rest l =
+    heading_byte y h y (h ++ rest) (not_end y h l) ∙ with_first (eqb y y) _ (eq-eqb y y refl) ∙ heading_front h rest (lacks_rest y h l)
 
-  -- the bytes are the same
-  pub heading_on : j < length h → here ≡ get_or h j 256 → get_or h j 256 < 256
-      → is_heading (drop j h) (drop (at + j) text) ≡ is_heading (drop (j + 1) h) (drop (at + (j + 1)) text)
-  unfolding ◌and◌
-  heading_on l e b =
+heading_starts : (h xs : List ℕ) → lacks 10 h ≡ true → is_heading h xs ≡ true → xs ≡ h ++ drop (length h) xs
+heading_starts [] xs l e = refl
+heading_starts (y ∷ h) [] l e = absurd (false≢true (sym (heading_nil (y ∷ h)) ∙ e))
+heading_starts (y ∷ h) (x ∷ xs) l e =
+    let q = sym (heading_byte y h x xs (not_end y h l)) ∙ e in
+    ap₂ ◌∷◌ (eqb-true x y (and_left _ _ q)) (heading_starts h xs (lacks_rest y h l) (and_right (eqb x y) _ q))
+
+-- what is left of a text starts with them, or does not
+module _ (text : List ℕ) (at : ℕ) (h : List ℕ) (none : lacks 10 h ≡ true) where
+  abbrev rest : List ℕ
+  rest = take (length text - at) (drop at text)
+
+  abbrev after : List ℕ
+  after = drop (length h) (drop at text)
+
+  all : rest ≡ drop at text
+  all = take_all (length text - at) (drop at text) (omega (arith, length-drop at text))
+
+  same : starts_with eqb rest h ≡ pointwise eqb h (take (length h) (drop at text))
+  same = ap (λ (xs : List ℕ). starts_with eqb xs h) all
+
+  pub started : starts_with eqb rest h ≡ true → is_heading h (drop at text) ≡ eqb (get_or text (at + length h) 256) 10
+  started e =
+      ap (is_heading h) ((starts_is Decides-eqb (drop at text) h _ same).0 e)
+      ∙ heading_front h after none
+      ∙ ap (λ (x : ℕ). eqb x 10) (next ∙ get_or-drop at text (length h) 256)
+    where
+      next : get_or after 0 256 ≡ get_or (drop at text) (length h) 256
+      next = get_or-drop (length h) (drop at text) 0 256 ∙ ap (λ (i : ℕ). get_or (drop at text) i 256) (add-zero (length h))
+
+  pub not_started : starts_with eqb rest h ≡ false → is_heading h (drop at text) ≡ false
+  not_started e =
       ⊎_elim
-      (λ p. absurd (omega (arith, p.1)))
-      (λ p. heading_at_lem l p
-      ∙ ap (λ (t : Bool). t and is_heading (drop (j + 1) h) (drop (at + j + 1) text)) (eq-eqb here _ e)
-      ∙ ap (λ (i : ℕ). is_heading (drop (j + 1) h) (drop i text)) (add_assoc at j 1))
-      (at_place text (at + j))
-
-  -- they differ
-  pub heading_off : j < length h → (here ≡ get_or h j 256 → ⊥) → is_heading (drop j h) (drop (at + j) text) ≡ false
-  heading_off l d =
-      ⊎_elim
-      (λ p. ap (is_heading (drop j h)) p.0 ∙ heading_nil (drop j h))
-      (λ p. heading_at_lem l p ∙ and_first_false _ _ (ne_eqb here _ d))
-      (at_place text (at + j))
-
--- the heading's bytes are passed
-pub heading_end : (text : List ℕ) (e : ℕ) (h : List ℕ) → is_heading (drop (length h) h) (drop e text) ≡ eqb (get_or text e 256) 10
-heading_end text e h =
-    ap (λ (l : List ℕ). is_heading l (drop e text)) (drop-length h)
-    ∙ ⊎_elim
-    (λ p. ap (is_heading []) p.0 ∙ heading_nil [] ∙ sym (ap (λ (b : ℕ). eqb b 10) p.1))
-    (λ p. ap (is_heading []) p ∙ heading_done _ _)
-    (at_place text e)
+      (λ p. absurd (true≢false (sym ((starts_is Decides-eqb (drop at text) h _ same).1 after (heading_starts h (drop at text) none p)) ∙ e)))
+      (λ p. p)
+      (decide (is_heading h (drop at text)))
 
 module _ (text : List ℕ) (at : ℕ) (h : List ℕ) where
   pub after_yes : is_heading h (drop at text) ≡ true → at + length h + 1 ≡ after_heading h text at

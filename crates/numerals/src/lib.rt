@@ -25,12 +25,8 @@ pub fn heading(text: &[u8], at: usize, h: &[u8]) -> usize
     requires { (at ≤ length text.now) × (lacks 10 h.now ≡ true) }
     ensures { result ≡ after_heading h.now text.now at }
 {
-    let mut j = 0;
-    while j < h.len() {
-        if byte_at(text, at + j) != byte_at(h, j) {
-            return 0;
-        }
-        j += 1;
+    if !text[at..].starts_with(h) {
+        return 0;
     }
     let e = at + h.len();
     if byte_at(text, e) != 10 {
@@ -52,20 +48,15 @@ fn digits(text: &[u8], at: usize, first: usize) -> Run
     ensures { (result.value ≡ run_value 4 first (drop at text.now)) × (result.next ≡ at + run_length 4 (drop at text.now)) }
 {
     let end = at + 4;
-    let mut i = at;
-    let mut v = first;
-    while i < end {
-        let b = byte_at(text, i);
-        if b < 48 {
-            return Run { value: v, next: i };
+    let mut value = first;
+    for next in at..end {
+        let b = byte_at(text, next);
+        if b < 48 || 57 < b {
+            return Run { value, next };
         }
-        if 57 < b {
-            return Run { value: v, next: i };
-        }
-        v = 10 * v + (b - 48);
-        i += 1;
+        value = 10 * value + (b - 48);
     }
-    Run { value: v, next: i }
+    Run { value, next: end }
 }
 
 // A natural number that is the whole of a field: the place after the field's end, and the space or byte 10 that ends it.

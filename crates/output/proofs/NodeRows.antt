@@ -11,7 +11,8 @@ use lib.Dec.{eqb}
 use lib.IntN.{ℤ, pos, negsuc, neg_ℤ}
 use lib.Signed.{le_z}
 use lib.ListN.{length, take, drop, get_or, length-append, length-drop}
-use lib.Seq.{take-add, length-take-le}
+use lib.Seq.{take-add, take-take, get_or-take, length-take-le}
+use Rattle.std.proofs.lemmas.List.{get_or-drop}
 use borrow.Author.Tests.{le-leb}
 use Rattle.stab.specs.Basic.{◌and◌, all_of, eq_z, nat}
 use Rattle.stab.specs.Node.{node_at, set_start, set_follows}
@@ -23,6 +24,7 @@ use Rattle.stab.proofs.RowLines.{nodes_split}
 use Rattle.stab.proofs.Texts.Nodes.{Follows, follows, writable_at, node_values_lem}
 use Rattle.digits.specs.Over.{spread}
 use Rattle.output.specs.NodeTexts.{columns_width, NodesWritable}
+use Rattle.output.proofs.Chunks.{NextRow}
 use Rattle.output.proofs.Spreads.{spread_append, spread_most, row_length}
 use Rattle.output.specs.Headed.{Writable}
 use Rattle.output.proofs.RowTexts.{all_within, rows_length}
@@ -133,6 +135,49 @@ module _ (nodes members : List ℤ) (k : ℕ) (h : NodesWritable nodes k members
 
       set : List ℤ
       set = take (nat (node_at nodes j).size) (drop s members)
+
+-- ---- the next row of a table that holds k nodes
+
+module _ (nodes : List ℤ) (k j : ℕ) (row after : List ℤ) (next : NextRow 9 nodes k j row after) where
+  pub seven_is : take 7 row ≡ take 7 (drop (9 * j) nodes)
+  seven_is = ap (take 7) next.is ∙ take-take 7 9 (drop (9 * j) nodes) (omega arith)
+
+  pub size_is : get_or row 8 (pos 0) ≡ (node_at nodes j).size
+  unfolding node_at
+  size_is =
+      ap (λ (l : List ℤ). get_or l 8 (pos 0)) next.is
+      ∙ get_or-take 9 (drop (9 * j) nodes) 8 (pos 0) (omega arith)
+      ∙ get_or-drop (9 * j) nodes 8 (pos 0)
+
+-- its set starts at s and has n members
+pub record NextNode (nodes members : List ℤ) (j : ℕ) (row : List ℤ) (s n : ℕ) : Type 0 where
+  pub wide : length (take 7 row) ≡ 7
+  pub digits : all_of five_digits (take 7 row) ≡ true
+  pub inside : s + n ≤ length members
+  pub set_digits : all_of five_digits (take (s + n - s) (drop s members)) ≡ true
+  pub lines : node_lines nodes members 0 j ++ row_line (take 7 row ++ take (s + n - s) (drop s members)) ≡ node_lines nodes members 0 (j + 1)
+  pub starts : set_start nodes (j + 1) ≡ pos (s + n)
+
+module _ (nodes members : List ℤ) (k : ℕ) (h : NodesWritable nodes k members) (j : ℕ) (row after : List ℤ) (next : NextRow 9 nodes k j row after)
+    (s : ℕ) (e : set_start nodes j ≡ pos s) (n : ℕ) (sized : n ≡ nat (get_or row 8 (pos 0))) where
+  count : n ≡ nat (node_at nodes j).size
+  count = sized ∙ ap nat (size_is nodes k j row after next)
+
+  set_is : take (s + n - s) (drop s members) ≡ take (nat (node_at nodes j).size) (drop s members)
+  set_is = ap (λ (m : ℕ). take m (drop s members)) (omega (arith, count))
+
+  line_is : take 7 row ++ take (s + n - s) (drop s members) ≡ node_values nodes members j
+  line_is = ap₂ (λ (a b : List ℤ). a ++ b) (seven_is nodes k j row after next) set_is ∙ sym (node_row nodes members k h j s next.less e)
+
+  pub next_node : NextNode nodes members j row s n
+  next_node = record {
+    wide = ap length (seven_is nodes k j row after next) ∙ node_seven nodes members k h j s next.less e;
+    digits = ap (all_of five_digits) (seven_is nodes k j row after next) ∙ node_digits nodes members k h j s next.less e;
+    inside = omega (arith, count, set_held_lem nodes members k h j s next.less e);
+    set_digits = ap (all_of five_digits) set_is ∙ set_digits nodes members k h j s next.less e;
+    lines = ap (λ (l : List ℤ). node_lines nodes members 0 j ++ row_line l) line_is ∙ sym (nodes_next nodes members j);
+    starts = next_start nodes members k h j s next.less e ∙ ap (λ (m : ℕ). pos (s + m)) (sym count);
+  }
 
 -- ---- what all lines take
 

@@ -1,7 +1,7 @@
 -- Rows of a table as lines, one more at a time.
-use Prim.Native.Nat.{ℕ, zero, suc, ◌+◌, ◌-◌, ◌*◌, ◌<◌, ◌≤◌}
+use Prim.Native.Nat.{ℕ, zero, suc, ◌+◌, ◌-◌, ◌*◌, ◌≤◌}
 use native.Mathlib.Omega.{arith}
-use native.Mathlib.Nat.{mul-zero, mul-le-mul_left}
+use native.Mathlib.Nat.{mul-zero}
 use mathlib.Core.Path.{◌≡◌, sym, ◌∙◌, ap, ap₂, subst}
 use mathlib.Core.Bool.{Bool, true}
 use mathlib.Core.List.{List, ◌++◌, append-nil}
@@ -15,6 +15,7 @@ use Rattle.stab.proofs.RowLines.{rows_split}
 use Rattle.stab.proofs.Texts.Rows.{all_front, all_back, take_row}
 use Rattle.digits.specs.Over.{spread}
 use Rattle.output.specs.Headed.{Writable}
+use Rattle.output.proofs.Chunks.{NextRow}
 use Rattle.output.proofs.Spreads.{spread_append, row_length}
 
 -- every number of a part of a table
@@ -48,20 +49,14 @@ rows_part w i n t h =
     sum : i + (n - i) ≡ n
     sum = omega arith
 
--- ---- row i of a table that holds n
+-- ---- the next row of a table that holds n
 
-module _ (w : ℕ) (t : List ℤ) (n : ℕ) (h : Writable w t n) (i : ℕ) (less : i < n) where
-  pub row_within : w * i + w ≤ w * n
-  row_within = omega (arith, mul-le-mul_left w less)
+module _ (w : ℕ) (t : List ℤ) (n : ℕ) (h : Writable w t n) (i : ℕ) (row after : List ℤ) (next : NextRow w t n i row after) where
+  pub row_digits : all_of five_digits row ≡ true
+  row_digits = rw next.is (all_within five_digits (w * i) w (w * n) t next.within h.digits)
 
-  pub row_held : w * i + w ≤ length t
-  row_held = omega (arith, row_within, h.held)
-
-  pub row_numbers : length (take w (drop (w * i) t)) ≡ w
-  row_numbers = length-take-le w (drop (w * i) t) (omega (arith, length-drop (w * i) t, row_held))
-
-  pub row_digits : all_of five_digits (take w (drop (w * i) t)) ≡ true
-  row_digits = all_within five_digits (w * i) w (w * n) t row_within h.digits
+  pub lines_next : row_lines w i t ++ row_line row ≡ row_lines w (i + 1) t
+  lines_next = rw next.is (sym (rows_next w i t))
 
 -- ---- lengths
 

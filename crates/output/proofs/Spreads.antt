@@ -1,17 +1,16 @@
 -- Numbers with a space after each, and the rows that they become.
 use Prim.Native.Nat.{ℕ, zero, suc, ◌+◌, ◌-◌, ◌*◌, ◌<◌, ◌≤◌}
 use native.Mathlib.Omega.{arith}
-use mathlib.Core.Path.{◌≡◌, refl, sym, ◌∙◌, ap, ap₂, subst}
-use mathlib.Core.Bool.{Bool, true, false}
+use mathlib.Core.Path.{◌≡◌, refl, sym, ◌∙◌, ap, ap₂}
+use mathlib.Core.Bool.{Bool, true}
 use mathlib.Core.List.{List, [], ◌∷◌, ◌++◌, append_assoc, append-nil}
 use lib.IntN.{ℤ, pos, negsuc}
 use lib.ListN.{length, take, drop, get_or, set, length-append, take-append-drop}
 use lib.Seq.{take-suc, set_at}
 use Rattle.stab.specs.Basic.{all_of}
 use Rattle.stab.specs.Text.{decimal, minus, space, row_line}
-use Rattle.stab.proofs.Bools.{and_left, and_right, and_both, and_first_false, and_second_false}
+use Rattle.stab.proofs.Bools.{and_left, and_right}
 use Rattle.stab.proofs.Texts.Lines.{row_bytes, row_line_lem, join, spaced}
-use Rattle.stab.proofs.Texts.Rows.{all_append}
 use Rattle.digits.specs.Over.{over, spread}
 use Rattle.digits.proofs.Decimals.{count_most}
 
@@ -100,14 +99,3 @@ module _ {A : Type 0} (p : A → Bool) where
   all_at [] i d h e = absurd (omega arith)
   all_at (x ∷ xs) zero d h e = and_left _ _ e
   all_at (x ∷ xs) (suc i) d h e = all_at xs i d (omega arith) (and_right (p x) _ e)
-
-  pub all_more : (t : List A) (i : ℕ) (d : A) → i < length t → all_of p (take i t) ≡ true → p (get_or t i d) ≡ true → all_of p (take (suc i) t) ≡ true
-  all_more t i d h e q =
-      subst (λ (l : List A). all_of p l ≡ true) (sym (take-suc t i d h))
-      (all_append p (take i t) (get_or t i d ∷ []) e (unfold all_of in and_both _ _ q refl))
-
-  pub all_not : (t : List A) (i : ℕ) (d : A) → i < length t → p (get_or t i d) ≡ false → all_of p t ≡ false
-  unfolding all_of
-  all_not [] i d h e = absurd (omega arith)
-  all_not (x ∷ xs) zero d h e = and_first_false _ _ e
-  all_not (x ∷ xs) (suc i) d h e = and_second_false _ _ (all_not xs i d (omega arith) e)

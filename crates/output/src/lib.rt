@@ -17,11 +17,7 @@ use stab::heading;
 pub fn clear(out: &mut [u8])
     ensures { out.new ≡ replicate (length out.old) 0 }
 {
-    let mut i = 0;
-    while i < out.len() {
-        out[i] = 0;
-        i += 1;
-    }
+    out.fill(0);
 }
 
 // A heading's line.
@@ -29,13 +25,10 @@ pub fn put_heading(out: &mut [u8], text: &[u8]) -> usize
     requires { length (heading_line text.now) ≤ length out.old }
     ensures { (result ≡ length (heading_line text.now)) × (out.new ≡ over (heading_line text.now) out.old) }
 {
-    let mut i = 0;
-    while i < text.len() {
-        out[i] = text[i];
-        i += 1;
-    }
-    out[i] = b'\n';
-    i + 1
+    let n = text.len();
+    out[..n].copy_from_slice(text);
+    out[n] = b'\n';
+    n + 1
 }
 
 // A number and a space.
@@ -54,10 +47,8 @@ fn put_numbers(out: &mut [u8], t: &[i32]) -> usize
     ensures { (result ≡ length (spread t.now)) × (out.new ≡ over (spread t.now) out.old) }
 {
     let mut at = 0;
-    let mut i = 0;
-    while i < t.len() {
-        at += put_spaced(&mut out[at..], t[i]);
-        i += 1;
+    for z in t {
+        at += put_spaced(&mut out[at..], *z);
     }
     at
 }
@@ -89,13 +80,8 @@ fn put_rows(out: &mut [u8], w: usize, t: &[i32], rows: usize) -> usize
     ensures { (result ≡ length (row_lines w rows t.now)) × (out.new ≡ over (row_lines w rows t.now) out.old) }
 {
     let mut at = 0;
-    let mut from = 0;
-    let mut i = 0;
-    while i < rows {
-        let to = from + w;
-        at += put_row(&mut out[at..], &t[from..to]);
-        from = to;
-        i += 1;
+    for row in t[..w * rows].chunks_exact(w) {
+        at += put_row(&mut out[at..], row);
     }
     at
 }
@@ -126,14 +112,10 @@ fn put_nodes(out: &mut [u8], nodes: &[i32], count: usize, members: &[i32]) -> us
 {
     let mut at = 0;
     let mut start = 0;
-    let mut j = 0;
-    while j < count {
-        let from = 9 * j;
-        let to = from + 7;
-        let end = start + signed::natural_at(nodes, from + 8);
-        at += put_node(&mut out[at..], &nodes[from..to], &members[start..end]);
+    for row in nodes[..9 * count].chunks_exact(9) {
+        let end = start + signed::natural_at(row, 8);
+        at += put_node(&mut out[at..], &row[..7], &members[start..end]);
         start = end;
-        j += 1;
     }
     at
 }

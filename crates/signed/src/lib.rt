@@ -115,9 +115,5 @@ pub fn clear(table: &mut [i32], from: usize)
     requires { from ≤ length table.old }
     ensures { table.new ≡ cleared table.old from }
 {
-    let mut i = from;
-    while i < table.len() {
-        table[i] = 0;
-        i += 1;
-    }
+    table[from..].fill(0);
 }

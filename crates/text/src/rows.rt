@@ -18,22 +18,13 @@ pub fn numbers(text: &[u8], at: usize, table: &mut [i32], to: usize, w: usize) -
     requires { (at ≤ length text.now) × (to + w < 2 ^ 32) }
     ensures { PartOf text.now at table.old to w table.new result × (table.new ≡ row_into text.now at w to table.old) }
 {
-    let end = to + w;
     let mut i = at;
-    let mut k = to;
-    while k < end {
+    for k in to..to + w {
         match numerals::number(text, i, table, k) {
-            Step::Bad => {
-                return Part::Bad;
-            }
-            Step::More(next) => {
-                i = next;
-            }
-            Step::Last(next) => {
-                return Part::Ended { to: k + 1, next };
-            }
+            Step::Bad => return Part::Bad,
+            Step::More(next) => i = next,
+            Step::Last(next) => return Part::Ended { to: k + 1, next },
         }
-        k += 1;
     }
     Part::Open { next: i }
 }

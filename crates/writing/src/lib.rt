@@ -20,27 +20,15 @@ use stab::{Refusal, Refused, heading};
 fn writable(t: &[i32]) -> bool
     ensures { result ≡ all_of five_digits t.now }
 {
-    let mut i = 0;
-    while i < t.len() {
-        if !fits(t[i]) {
-            return false;
-        }
-        i += 1;
-    }
-    true
+    t.iter().all(|z| fits(*z))
 }
 
 // How many bytes the numbers take, with a byte after each.
 fn spread_width(t: &[i32]) -> usize
     ensures { result ≡ length (spread t.now) }
 {
-    let mut sum = 0;
-    let mut i = 0;
-    while i < t.len() {
-        sum += width(t[i]) + 1;
-        i += 1;
-    }
-    sum
+    let numbers: usize = t.iter().map(|z| width(*z)).sum();
+    numbers + t.len()
 }
 
 // How many bytes the seven numbers of each node take, with a byte after each.
@@ -49,12 +37,8 @@ fn columns_width(nodes: &[i32], count: usize) -> usize
     ensures { result ≡ columns_width nodes.now count }
 {
     let mut sum = 0;
-    let mut j = 0;
-    while j < count {
-        let from = 9 * j;
-        let to = from + 7;
-        sum += spread_width(&nodes[from..to]);
-        j += 1;
+    for row in nodes[..9 * count].chunks_exact(9) {
+        sum += spread_width(&row[..7]);
     }
     sum
 }
@@ -84,13 +68,11 @@ fn nodes_follow(nodes: &[i32], count: usize, m: usize) -> bool
     ensures { result ≡ (nodes_writable nodes.now count and eq_z (set_start nodes.now count) (pos m)) }
 {
     let mut start = 0;
-    let mut j = 0;
-    while j < count {
+    for j in 0..count {
         if !node_follows(nodes, j, start) {
             return false;
         }
         start += signed::natural(nodes[9 * j + 8]);
-        j += 1;
     }
     start == m
 }
