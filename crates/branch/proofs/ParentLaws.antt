@@ -11,7 +11,7 @@ use lib.ListN.{get_or, length}
 use Rattle.stab.specs.Basic.{◌and◌, eq_z, nat, below, same_list, scan}
 use Rattle.stab.specs.Node.{Tableau, node, node_at, set, set_of, parent_fits}
 use Rattle.stab.specs.Check.{parent_refusal, at_unless}
-use Rattle.std.specs.Prelude.{Some, Err, Ok}
+use Rattle.std.specs.Prelude.{Some}
 use Rattle.stab.specs.Finding.{refuse, no_refusal}
 use Rattle.stab.specs.declared.Refusal.TheVariants.{Parent}
 use Rattle.stab.proofs.Bools.{and_left, and_both, and_first_false, and_second_false, unless_nothing, nothing_unless, found_unless, same_test}

@@ -35,13 +35,6 @@ module _ (ok : Bool) (why : Refusal) (k : ℕ) (rest : Finding) where
   unfolding at_unless
   at_later x h e = e ∙ sym (otherwise_nothing (at_unless ok why k) rest (nothing_unless ok _ _ h))
 
--- what is found is not nothing
-pub found_some : (f : Finding) (why : Refusal) (p : Place) → f ≡ refuse why p → f ≡ no_refusal → ⊥
-found_some f why p h n =
-    let found : refuse why p ≡ no_refusal = sym h ∙ n in
-    let z : ◌≡◌ {A = ℕ} 0 1 = cc in
-    omega arith
-
 pub tables_clear : (room : ℕ) (schema : List ℤ) (s : ℕ) → tables_refusal room schema s clears ((8192 ≤ room) × ((4 * s ≤ length schema) × (s ≤ 1024)))
 unfolding tables_refusal holds
 tables_clear room schema s =

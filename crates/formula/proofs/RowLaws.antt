@@ -1,5 +1,5 @@
 -- Laws of formula rows: their columns as tests on naturals, their formulas by kind, and what is kept of them.
-use Rattle.std.specs.Prelude.{if◌then◌else◌, None, Some, Ok, Err, Result, Option}
+use Rattle.std.specs.Prelude.{if◌then◌else◌, None, Some, Option}
 use Prim.Native.Nat.{ℕ, zero, suc, ◌+◌, ◌-◌, ◌*◌, ◌<◌, ◌≤◌, max}
 use native.Mathlib.Omega.{arith}
 use native.Mathlib.Numerals.{add-one}
@@ -16,7 +16,6 @@ use Rattle.stab.specs.Formula as F
 use Rattle.stab.specs.Formula.{Row, Op, conj, disj, Kind, constant, literal, junction, iteration, unknown, kind_of, Base, nothing, parameter, index, base_of, Formula, lit, join, iter, decode, tree, on_index, is_body, mixes, offset, well_formed_as, well_formed, small_enough}
 use Rattle.stab.specs.Check.{at_unless, whole_unless, row_refusal, root_fits}
 use Rattle.stab.specs.Finding.{no_refusal, refuse, Place, Finding}
-use Rattle.stab.specs.declared.Refused.{Refused}
 use Rattle.stab.specs.declared.Refusal.TheVariants.{Root, IllFormed, TooLarge}
 use Rattle.stab.specs.declared.Refusal.{Refusal}
 use Rattle.stab.proofs.Bools.{decide, and_both, and_left, and_right, and_first_false, if_false, not_of_false, not_of_true, false_of_not, true_of_not, otherwise_nothing, otherwise_found, otherwise_first, otherwise_second, nothing_unless, found_unless, unless_nothing, found≢nothing}

@@ -1,9 +1,8 @@
 -- What the pass over formula rows works out for a row, and what holds of rows that passed.
-use Rattle.std.specs.Prelude.{ℕ, zero, suc, ◌+◌, ◌-◌, ◌*◌, ◌<◌, ◌≤◌, max, ◌≡◌, Bool, true, List, eqb, leb, ℤ, pos, length, get_or, if◌then◌else◌, Some, Ok, Err, None, Result, Option}
+use Rattle.std.specs.Prelude.{ℕ, zero, suc, ◌+◌, ◌-◌, ◌*◌, ◌<◌, ◌≤◌, max, ◌≡◌, Bool, true, List, eqb, leb, ℤ, pos, length, get_or, if◌then◌else◌, Some, Ok, Err, None, Option}
 use Rattle.stab.specs.Basic.{◌and◌, ◌or◌, eq_z, nat, below, ◌otherwise◌, scan}
 use Rattle.stab.specs.Check.{at_unless, row_refusal, formula_refusal, root_fits}
-use Rattle.stab.specs.Finding.{no_refusal, refuse, Finding}
-use Rattle.stab.specs.declared.Refused.{Refused}
+use Rattle.stab.specs.Finding.{refuse, Finding}
 use Rattle.stab.specs.declared.Refusal.TheVariants.{IllFormed, TooLarge}
 use Rattle.stab.specs.Formula as F
 use Rattle.stab.specs.Formula.{Row, Formula, tree, offset, base_of, on_index, well_formed, small_enough}

@@ -1,6 +1,6 @@
 // The pass over formula rows: which are well formed and small enough. What is worked out for a row, its size, its depth and
 // the two facts about mixing, is kept in a lent table, four numbers a row, so that each row looks at its parts' numbers alone.
-ghost use Rattle.std.specs.Prelude.{◌≡◌, true, ◌+◌, ◌*◌, ◌<◌, ◌≤◌, max, length, pos, Ok};
+ghost use Rattle.std.specs.Prelude.{◌≡◌, true, ◌+◌, ◌*◌, ◌<◌, ◌≤◌, max, length, pos};
 ghost use Rattle.stab.specs.Basic.{nat, below};
 ghost use Rattle.stab.specs.Formula.{formula_rows, offset, kind_of, base_of, on_index, tree};
 ghost use Rattle.stab.specs.Check.{row_refusal, root_fits};

@@ -5,7 +5,7 @@ use mathlib.Core.Path.{◌≡◌, ◌∙◌}
 use mathlib.Core.Bool.{Bool, true, false, true≢false, false≢true}
 use Rattle.stab.specs.Formula.{Row}
 use Rattle.stab.specs.Check.{row_refusal, formula_refusal}
-use Rattle.std.specs.Prelude.{Some, Ok, Err}
+use Rattle.std.specs.Prelude.{Some}
 use Rattle.stab.specs.Finding.{no_refusal, refuse, Place}
 use Rattle.stab.specs.declared.Refusal.{Refusal}
 use Rattle.stab.specs.declared.Refusal.TheVariants.{Repeated}

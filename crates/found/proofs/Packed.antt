@@ -8,9 +8,8 @@ use lib.IntN.{ℤ, pos, ◌+ℤ◌}
 use Rattle.stab.specs.Basic.{nat}
 use Rattle.stab.specs.Occurs.{Wire}
 use Rattle.stab.specs.Answer.{Numbers, place_number, refused_numbers, verdict_numbers, one_number, packed, numbers_in, Packs}
-use Rattle.std.specs.Prelude.{None, Some, Err, Ok, Result}
-use Rattle.stab.specs.Finding.{refuse, no_refusal, Place, Finding}
-use Rattle.stab.specs.declared.Refused.{Refused}
+use Rattle.std.specs.Prelude.{None, Some, Err, Ok}
+use Rattle.stab.specs.Finding.{refuse, Place, Finding}
 use Rattle.found.specs.Shown.{Shown}
 use Rattle.stab.specs.declared.Refusal.{Refusal}
 use Rattle.stab.proofs.Exactness.Refusals.{FindsNear}

@@ -11,7 +11,6 @@ use Rattle.stab.specs.Meaning.{Assignment, truth}
 use Rattle.stab.specs.Model.{pair_symbol, pair_index, is_pair, listed, assignment, satisfied, check_model}
 use Rattle.stab.specs.Keeps.{Within, KeepsPair}
 use Rattle.stab.specs.Occurs.{listing}
-use Rattle.std.specs.Prelude.{Ok}
 use Rattle.stab.specs.Finding.{accept}
 use Rattle.stab.proofs.Exactness.{model_accepts_exactly}
 

@@ -9,7 +9,7 @@ use lib.ListN.{length, take, replicate}
 use Rattle.stab.specs.Occurs.{wire_before, insert, gathered, inserted, occurring, table}
 use Rattle.stab.specs.Text.{bytes, row_line}
 use Rattle.stab.specs.Read.{Reading, read, stopped, SchemaText, read_schema}
-use Rattle.std.specs.Prelude.{None, Some, Err, Ok}
+use Rattle.std.specs.Prelude.{None, Some, Ok}
 use Rattle.stab.specs.Finding.{refuse, no_refusal, Finding}
 use Rattle.stab.specs.declared.Refusal.TheVariants.{TableTooShort, Wires}
 use Rattle.stab.proofs.Evaluate.{evaluated}

@@ -1,5 +1,5 @@
 -- 02, No. 13: a failing width, shown.
-use Rattle.std.specs.Prelude.{ℕ, ◌≡◌, ◌⊎◌, Bool, true, false, List, [], ◌∷◌, ◌++◌, leb, ℤ, pos, length, if◌then◌else◌, Ok, Err, Some, None, Result}
+use Rattle.std.specs.Prelude.{ℕ, ◌≡◌, ◌⊎◌, Bool, true, false, List, [], ◌∷◌, ◌++◌, leb, ℤ, pos, length, if◌then◌else◌, Ok, Err, Some, None}
 use Rattle.std.proofs.Math.Option.{Option, none, some, or_else}
 use Rattle.std.specs.Int.Signed.{le_z}
 use Rattle.stab.specs.Basic.{◌and◌, ◌or◌, eq_z, nat, ◌otherwise◌}
@@ -10,8 +10,7 @@ use Rattle.stab.specs.Occurs.{Wire, occurring, table}
 use Rattle.stab.specs.Text.{padded}
 use Rattle.stab.specs.Answer.{refusal_number, place_number, one_number}
 use Rattle.stab.specs.declared.Refusal.TheVariants.{TableTooShort, TooMany, Width, Wires}
-use Rattle.stab.specs.Finding.{accept, refuse, no_refusal, Verdict, Finding}
-use Rattle.stab.specs.declared.Refused.{Refused}
+use Rattle.stab.specs.Finding.{accept, Verdict, Finding}
 use Rattle.found.specs.Shown.{Shown}
 
 -- What the search is lent: a schema and n; how many numbers the result table has room for.

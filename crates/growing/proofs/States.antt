@@ -14,7 +14,6 @@ use Rattle.stab.specs.Check.{whole_unless, holds, set_refusal, parent_refusal, n
 use Rattle.stab.specs.Keeps.{KeepsFormulas, KeepsSet, KeepsParent, KeepsTables, Fresh}
 use Rattle.stab.specs.Text.{padded}
 use Rattle.stab.specs.declared.Refusal.TheVariants.{TableTooShort, TooMany}
-use Rattle.std.specs.Prelude.{Ok}
 use Rattle.stab.specs.Finding.{no_refusal}
 use Rattle.stab.proofs.Tests.{◌&◌, le_tests, ◌clears◌, whole_clears, ◌then◌, scan_clears}
 use Rattle.stab.proofs.Exactness.Formulas.{present_clears}

@@ -6,7 +6,7 @@ use Rattle.stab.specs.Node.{Tableau}
 use Rattle.stab.specs.Check.{whole_unless, refusal, held_mode}
 use Rattle.stab.specs.Text.{padded}
 use Rattle.stab.specs.declared.Refusal.TheVariants.{Waiting}
-use Rattle.stab.specs.Finding.{no_refusal, refuse, Finding}
+use Rattle.stab.specs.Finding.{Finding}
 use Rattle.growing.specs.Growing.{NodeRow, added, new_refusal, add_refusal, shortened, take_back_refusal, growth_by, left_by, begun, done, Call, add, take_back}
 use Rattle.growing.specs.declared.Growth.{Growth}
 

@@ -1,7 +1,7 @@
 // One record for either fault: two accepted records joined into one, under the or of their roots.
 #![tactic(auto)]
 
-ghost use Rattle.std.specs.Prelude.{◌≡◌, true, Ok};
+ghost use Rattle.std.specs.Prelude.{◌≡◌, true};
 ghost use Rattle.stab.specs.Lent.{lent};
 ghost use Rattle.stab.specs.Finding.{no_refusal};
 ghost use Rattle.joint.specs.Joint.{joined_schema, joined_proof, joined_nodes, joined_members};

@@ -16,7 +16,6 @@ use Rattle.stab.specs.Rule.{of_rule}
 use Rattle.stab.specs.Text.{padded}
 use Rattle.stab.specs.Check.{whole_unless, check, is_link, link_count, refusal, present_mode}
 use Rattle.stab.specs.Keeps.{KeepsTables, Keeps}
-use Rattle.std.specs.Prelude.{Ok}
 use Rattle.stab.specs.Finding.{accept, no_refusal}
 use Rattle.stab.proofs.Bools.{and_left, and_right, otherwise_first, otherwise_second, unless_nothing}
 use Rattle.stab.proofs.Whole.{eq_z_true}

@@ -9,7 +9,7 @@ use Rattle.stab.specs.Node.{Tableau, row_count}
 use Rattle.stab.specs.Check.{whole_unless, refusal, present_mode}
 use Rattle.stab.specs.Answer.{Numbers, refused_numbers, verdict_numbers, packed, answer_in, place_in, numbers_in, Packs}
 use Rattle.std.specs.Prelude.{Ok, Err, Result}
-use Rattle.stab.specs.Finding.{accept, refuse, no_refusal, Verdict, Finding}
+use Rattle.stab.specs.Finding.{accept, no_refusal, Verdict, Finding}
 use Rattle.stab.specs.declared.Refused.{Refused}
 use Rattle.stab.specs.declared.Header.{Header}
 use Rattle.stab.proofs.Bools.{and_left, and_right, unless_nothing, otherwise_second}

@@ -9,7 +9,7 @@ use Rattle.stab.specs.Basic.{◌and◌, eq_z, ◌otherwise◌}
 use Rattle.stab.specs.Node.{Tableau}
 use Rattle.stab.specs.Check.{whole_unless, at_unless, check, refusal, present_mode}
 use Rattle.stab.specs.Text.{padded}
-use Rattle.std.specs.Prelude.{None, Some, Ok, Err}
+use Rattle.std.specs.Prelude.{None, Some}
 use Rattle.stab.specs.Finding.{accept, refuse, Place}
 use Rattle.stab.specs.declared.Refusal.{Refusal}
 use Rattle.stab.specs.declared.Refusal.TheVariants.{TableTooShort, Leasts, Joint}

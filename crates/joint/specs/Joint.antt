@@ -8,7 +8,7 @@ use Rattle.stab.specs.Check.{whole_unless, at_unless, refusal, present_mode}
 use Rattle.stab.specs.Text.{padded}
 use Rattle.stab.specs.Answer.{refusal_number, place_number, one_number, Packs}
 use Rattle.stab.specs.declared.Refusal.TheVariants.{TableTooShort, Leasts, Joint}
-use Rattle.stab.specs.Finding.{refuse, no_refusal, Finding}
+use Rattle.stab.specs.Finding.{Finding}
 use Rattle.stab.specs.declared.Refused.{Refused}
 use Rattle.stab.specs.declared.Header.{Header}
 use Rattle.tidied.specs.Tidied.{through, renumbered, columns, tidied}

@@ -12,7 +12,6 @@ use Rattle.stab.specs.Node.{Tableau, rows, row_count, formula, schema_of}
 use Rattle.stab.specs.Check.{whole_unless, schema_refusal, refusal, present_mode, link_count}
 use Rattle.stab.specs.Keeps.{Loose, Fixed, Outer, FormedAs, KeepsRow, KeepsOlder, Keeps}
 use Rattle.stab.specs.declared.Refusal.TheVariants.{Leasts}
-use Rattle.std.specs.Prelude.{Ok}
 use Rattle.stab.specs.Finding.{no_refusal}
 use Rattle.stab.proofs.Bools.{and_left, and_right, unless_nothing, otherwise_first, otherwise_second}
 use Rattle.stab.proofs.Tests.{below_tests}

@@ -1,5 +1,5 @@
 // How much there is of two records, and how large the or of their roots is.
-ghost use Rattle.std.specs.Prelude.{◌≡◌, [], ◌*◌, ◌≤◌, max, length, Ok};
+ghost use Rattle.std.specs.Prelude.{◌≡◌, [], ◌*◌, ◌≤◌, max, length};
 ghost use Rattle.stab.specs.Formula as F;
 ghost use Rattle.stab.specs.Formula.{schema_formula};
 ghost use Rattle.stab.specs.Node.{schema_of};

@@ -7,7 +7,7 @@ use lib.Dec.{leb, ltb}
 use borrow.Author.Tests.{leb-true, le-leb, ltb-false, le-ltb}
 use Rattle.stab.specs.Formula.{Row}
 use Rattle.stab.specs.Check.{at_unless, repeat_refusal}
-use Rattle.std.specs.Prelude.{Some, Ok, Err}
+use Rattle.std.specs.Prelude.{Some}
 use Rattle.stab.specs.Finding.{no_refusal, refuse}
 use Rattle.stab.specs.declared.Refusal.TheVariants.{Repeated}
 use Rattle.stab.proofs.Bools.{decide, and_left, and_right, and_first_true, or_left, or_right, or_false, not_of_false, not_of_true, nothing_unless, found_unless}

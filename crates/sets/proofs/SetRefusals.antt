@@ -14,7 +14,6 @@ use Rattle.stab.specs.Formula.{formula_rows, tree, loose, is_outer}
 use Rattle.stab.specs.Node.{Tableau, rows, row_count, is_row, formula, is_outer_row, node, node_at, set, set_of, set_end, set_start, set_follows, set_fits}
 use Rattle.stab.specs.Check.{set_refusal, at_unless}
 use Rattle.stab.specs.declared.Refusal.TheVariants.{Set}
-use Rattle.std.specs.Prelude.{Ok}
 use Rattle.stab.specs.Finding.{no_refusal}
 use Rattle.stab.proofs.Bools.{and_left, and_right, and_first_false, decide, unless_nothing}
 use Rattle.stab.proofs.Scans.{nothing_scan}

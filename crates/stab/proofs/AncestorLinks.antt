@@ -15,7 +15,6 @@ use Rattle.stab.specs.Before.{step_by, node_by, refusal_by, check_by, tests_now,
 use Rattle.stab.specs.Keeps.{KeepsParent}
 use Rattle.stab.specs.declared.Refusal.TheVariants.{Drawn, Fields, Target, Bound as BoundWrong, Partner, Lowered, Children}
 use Rattle.stab.specs.Finding.{accept, no_refusal}
-use Rattle.std.specs.Prelude.{Ok}
 use Rattle.stab.proofs.Bools.{decide, if_true, if_false}
 use Rattle.stab.proofs.Whole.{atom, num, ◌⊖◌, of_le, le_of, le_z_of, of_le_z, eq_z_true, eq_z_of}
 use Rattle.stab.proofs.Tests.{◌tests◌, ◌⇒◌, itself, at_clears, ◌then◌}

@@ -25,7 +25,7 @@ use Rattle.stab.specs.declared.ModelHeader.{ModelHeader}
 use Rattle.stab.specs.declared.ProofCounts.{ProofCounts}
 use Rattle.stab.specs.declared.SchemaHeader.{SchemaHeader}
 use Rattle.stab.specs.declared.Refused.{Refused}
-use Rattle.stab.specs.Finding.{Place, Finding, no_refusal, refuse, Verdict, accept}
+use Rattle.stab.specs.Finding.{Place, Finding, refuse, Verdict, accept}
 use Rattle.stab.specs.declared.Refusal.{Refusal}
 use Rattle.stab.specs.declared.Refusal.TheVariants.{Output}
 use Rattle.stab.specs.declared.Fault.{Fault}

@@ -13,7 +13,6 @@ use Rattle.stab.specs.Check.{link_count, verdict, refusal, present_mode, older_m
 use Rattle.stab.specs.Model.{Model, model_refusal, check_model}
 use Rattle.stab.specs.Keeps.{KeepsOlder, Keeps, KeepsModel}
 use Rattle.stab.specs.Finding.{accept}
-use Rattle.std.specs.Prelude.{Ok}
 use Checked.{older_clears, tableau_clears}
 use Models.{model_clears}
 use Refusals.{accepted}

@@ -27,8 +27,5 @@ otherwise_assoc (Err r) y z = refl
 pub stays : (f x rest : Finding) (why : Refusal) (p : Place) → f ≡ x → f ≡ refuse why p → f ≡ (x otherwise rest)
 stays f x rest why p e h = h ∙ sym (otherwise_found x rest (sym e ∙ h))
 
-pub nothing_found : (f x : Finding) → f ≡ x → f ≡ no_refusal → x ≡ no_refusal
-nothing_found f x e h = sym e ∙ h
-
 pub later : (x rest y : Finding) → x ≡ no_refusal → y ≡ rest → y ≡ (x otherwise rest)
 later x rest y h e = e ∙ sym (otherwise_nothing x rest h)

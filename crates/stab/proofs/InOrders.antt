@@ -14,7 +14,6 @@ use Rattle.stab.specs.Check.{at_unless, step_refusal, node_refusal, refusal, old
 use Rattle.stab.specs.Before.{step_by, node_by, refusal_by, check_by, agree, partners_in_order, has_lowered_in_order, lowered_in_order, tests_in_order}
 use Rattle.stab.specs.declared.Refusal.{Refusal}
 use Rattle.stab.specs.Finding.{accept, Finding, no_refusal}
-use Rattle.std.specs.Prelude.{Ok}
 use Rattle.stab.proofs.Bools.{and_left, and_right, and_both, or_cases, or_left, or_right, implies_use, implies_make, otherwise_first, otherwise_second, otherwise_nothing}
 use Rattle.stab.proofs.Scans.{all_use, all_make}
 use Rattle.stab.proofs.Tests.{itself, at_clears}

@@ -9,7 +9,7 @@ use Rattle.stab.specs.Formula.{Row}
 use Rattle.stab.specs.Node.{Tableau, rows, row_count}
 use Rattle.stab.specs.Check.{at_unless, row_refusal, stands_before, repeat_refusal, formula_refusal, formulas_refusal, refusal, present_mode, older_mode, link_count, verdict, verdict_on, check, check_older}
 use Rattle.stab.specs.Keeps.{Fresh}
-use Rattle.stab.specs.Finding.{accept, refuse, Finding, no_refusal}
+use Rattle.stab.specs.Finding.{accept, refuse, Finding}
 use Rattle.std.specs.Prelude.{Some, Ok, Err}
 use Rattle.stab.specs.declared.Refusal.TheVariants.{Repeated}
 use Rattle.stab.proofs.Exactness.{accepts_exactly, older_accepts_exactly}

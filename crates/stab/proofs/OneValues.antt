@@ -16,7 +16,6 @@ use Rattle.stab.specs.Check.{at_unless, verdict_on}
 use Rattle.stab.specs.Before.{step_by, node_by, check_by, target_above, loop_above, bound_above, tests_above, OpenOrExact, split_one, child_one, first_one, bound_one, fields_fit_one, split_fits_one, void_fits_one, bound_fits_one, tests_one}
 use Rattle.stab.specs.Keeps.{KeepsParent, Splits}
 use Rattle.stab.specs.declared.Refusal.TheVariants.{Bound as BoundWrong, Fields, Target}
-use Rattle.std.specs.Prelude.{Ok}
 use Rattle.stab.specs.Finding.{Finding, no_refusal}
 use borrow.Author.Tests.{le-leb, eq-eqb}
 use Rattle.stab.proofs.Bools.{decide, if_true, if_false, and_first_true, and_left, and_both, same_test, otherwise_same, otherwise_first_same}

@@ -15,7 +15,6 @@ use Rattle.stab.specs.Check.{at_unless, verdict_on}
 use Rattle.stab.specs.Before.{step_by, node_by, check_by, Ancestor, target_above, loop_above, bound_above, tests_above, target_open, bound_open, tests_open}
 use Rattle.stab.specs.Keeps.{KeepsParent, KeepsStep}
 use Rattle.stab.specs.declared.Refusal.TheVariants.{Bound as BoundWrong, Fields, Target}
-use Rattle.std.specs.Prelude.{Ok}
 use Rattle.stab.specs.Finding.{Finding, no_refusal}
 use Rattle.stab.proofs.Bools.{decide, and_first_true, and_first_false, otherwise_same, otherwise_first_same}
 use Rattle.stab.proofs.Whole.{atom, num, ◌⊖◌, of_le, le_z_of, of_le_z}

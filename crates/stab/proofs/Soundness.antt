@@ -18,7 +18,6 @@ use Rattle.stab.specs.Model.{Model, assignment, satisfied, check_model}
 use Rattle.stab.specs.Keeps.{KeepsOlder}
 use Rattle.stab.specs.Refuted.{Refuted, SameSchema, Irrefutable}
 use Rattle.stab.specs.Finding.{accept}
-use Rattle.std.specs.Prelude.{Ok}
 use Rattle.stab.proofs.Bools.{decide, if_true}
 use Rattle.stab.proofs.Whole.{atom, num, of_le, le_of, le_z_of, of_le_z, nat_pos, nonneg_minus, plus_nat}
 use Rattle.stab.proofs.Trees.{tree_agrees, below_nat}

@@ -1,5 +1,5 @@
 -- Each test of the definitions passes exactly if the statement that it stands for holds.
-use Rattle.std.specs.Prelude.{if◌then◌else◌, None, Some, Ok}
+use Rattle.std.specs.Prelude.{if◌then◌else◌, None, Some}
 use Prim.Native.Nat.{ℕ, ◌≤◌, ◌<◌}
 use mathlib.Core.Path.{◌≡◌, refl, ◌∙◌, ap, ap₂}
 use mathlib.Core.Logic.Iff

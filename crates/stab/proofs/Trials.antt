@@ -17,7 +17,7 @@ use Rattle.stab.specs.LineNumber.{line_of}
 use Rattle.stab.specs.Answer.{verdict_numbers, packed}
 use Rattle.stab.specs.Program.{printed, tableau_of, after_reading, check_program, model_program}
 use Rattle.stab.specs.Finding.{accept, refuse}
-use Rattle.std.specs.Prelude.{None, Some, Ok, Err}
+use Rattle.std.specs.Prelude.{None, Some}
 use Rattle.stab.specs.declared.Refusal.TheVariants.{Bound, False}
 use Rattle.stab.proofs.Evaluate.{evaluated}
 use Rattle.stab.proofs.Cases.{answer}

@@ -22,7 +22,6 @@ use Rattle.stab.specs.Model.{Model, listed, assignment, satisfied, check_model}
 use Rattle.stab.specs.Keeps.{Within, KeepsSchema, KeepsPair}
 use Rattle.stab.specs.Occurs.{Occurs, OccursIn, Wire, occurring, Ascends, KeepsList, HasList, HasListOfWires, table, listing, HasModel, HasModelOfWires}
 use Rattle.stab.specs.Finding.{accept}
-use Rattle.std.specs.Prelude.{Ok}
 use Rattle.stab.proofs.Bools.{same_test}
 use Rattle.stab.proofs.Whole.{le_z_of, of_le_z}
 use Rattle.stab.proofs.Trees.{below_nat}

@@ -5,7 +5,7 @@ use Rattle.stab.specs.declared.ModelHeader.{ModelHeader}
 use Rattle.stab.specs.declared.ProofCounts.{ProofCounts}
 use Rattle.stab.specs.declared.SchemaHeader.{SchemaHeader}
 use Rattle.stab.specs.declared.Refused.{Refused}
-use Rattle.stab.specs.Finding.{Place, Verdict, accept, refuse}
+use Rattle.stab.specs.Finding.{Place, Verdict}
 use Rattle.stab.specs.declared.Refusal.{Refusal}
 use Rattle.stab.specs.declared.Refusal.TheVariants.{TextTooLong, TableTooShort, Heading, Line, TooMany, Root, IllFormed, TooLarge, Set, Parent, Drawn, Fields, Target, Bound, Partner, Lowered, Children, Pair, Width, False, Number, Output, Repeated, Wires, Plain, Leasts, Joint, Room, NoRow, Waiting, NotListed}
 

@@ -5,7 +5,7 @@ use Rattle.stab.specs.Formula.{Row, row_at, Schema, tree, is_outer, well_formed,
 use Rattle.stab.specs.Node.{Tableau, rows, row_count, set_end, set_fits, parent_fits, node_at}
 use Rattle.stab.specs.Rule.{of_rule, drawn, fields_fit, target_fits, bound_fits, partners_fit, lowered_fits, children_as}
 use Rattle.stab.specs.declared.Mode.{Mode}
-use Rattle.stab.specs.Finding.{Finding, no_refusal, refuse, Verdict, accept}
+use Rattle.stab.specs.Finding.{Finding, Verdict, accept}
 use Rattle.stab.specs.declared.Refusal.{Refusal}
 use Rattle.stab.specs.declared.Refusal.TheVariants.{TableTooShort, TooMany, Root, IllFormed, TooLarge, Set, Parent, Drawn, Fields, Target, Bound, Partner, Lowered, Children, Repeated}
 

@@ -5,7 +5,7 @@ use Rattle.stab.specs.declared.ModelHeader.{ModelHeader}
 use Rattle.stab.specs.declared.ProofCounts.{ProofCounts}
 use Rattle.stab.specs.declared.SchemaHeader.{SchemaHeader}
 use Rattle.stab.specs.declared.Refused.{Refused}
-use Rattle.stab.specs.Finding.{Verdict, refuse}
+use Rattle.stab.specs.Finding.{Verdict}
 use Rattle.stab.specs.declared.Fault.{Fault}
 
 -- ---- the one number: answer and place as in a check's, both counts 0

@@ -1,5 +1,5 @@
 -- 01, "Model, texts, lines", first paragraph, and "Turning records away": checking a model.
-use Rattle.std.specs.Prelude.{ℕ, zero, suc, ◌+◌, ◌*◌, Bool, true, false, List, leb, ℤ, pos, neg_ℤ, get_or, Ok}
+use Rattle.std.specs.Prelude.{ℕ, zero, suc, ◌+◌, ◌*◌, Bool, true, false, List, leb, ℤ, pos, neg_ℤ, get_or}
 use Rattle.std.specs.Int.Signed.{le_z, lt_z}
 use Rattle.stab.specs.Basic.{◌and◌, ◌or◌, eq_z, within, nat, ◌otherwise◌, scan}
 use Rattle.stab.specs.Formula.{Schema, schema_formula}

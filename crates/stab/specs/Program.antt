@@ -8,7 +8,7 @@ use Rattle.stab.specs.Text.{bytes, heading_line, row_line, padded}
 use Rattle.stab.specs.Read.{Reading, read, stopped, SchemaText, ProofText, ModelText, read_schema, read_proof, read_model}
 use Rattle.stab.specs.LineNumber.{schema_row_line, proof_row_line, node_line, pair_line}
 use Rattle.stab.specs.Answer.{Numbers, refusal_number, verdict_numbers}
-use Rattle.stab.specs.Finding.{Place, Verdict, accept, refuse}
+use Rattle.stab.specs.Finding.{Place, Verdict, refuse}
 use Rattle.stab.specs.declared.Refusal.{Refusal}
 use Rattle.stab.specs.declared.Fault.{Fault}
 

@@ -1,5 +1,5 @@
 -- 01, "Turning records away": reading a text. What is read, or the refusal and its line; and what the lent tables then hold.
-use Rattle.std.specs.Prelude.{ℕ, suc, ◌+◌, ◌-◌, ◌/◌, Bool, true, false, List, [], ◌∷◌, ◌++◌, leb, eqb, ℤ, pos, length, take, drop, get_or, if◌then◌else◌, Some, Result, Ok, Err}
+use Rattle.std.specs.Prelude.{ℕ, suc, ◌+◌, ◌-◌, ◌/◌, Bool, true, false, List, [], ◌∷◌, ◌++◌, leb, eqb, ℤ, pos, length, take, drop, get_or, if◌then◌else◌, Some, Result, Ok}
 use Rattle.std.proofs.Math.Option.{Option, none, some}
 use Rattle.stab.specs.Basic.{◌and◌}
 use Rattle.stab.specs.Text.{Line, lines, same_bytes, numbers, schema_heading, row_heading, node_heading, model_heading, pair_heading, text_limit, padded}

@@ -1,5 +1,5 @@
 -- The buyer's demand 3: what an accepted tableau, and what an accepted model, says of its schema.
-use Rattle.std.specs.Prelude.{ℕ, ◌<◌, ◌≡◌, false, pos, ◌≤ℤ◌, Ok}
+use Rattle.std.specs.Prelude.{ℕ, ◌<◌, ◌≡◌, false, pos, ◌≤ℤ◌}
 use Rattle.stab.specs.Formula.{Schema, row_at, schema_formula}
 use Rattle.stab.specs.Meaning.{Assignment, truth}
 use Rattle.stab.specs.Node.{Tableau}

@@ -5,7 +5,7 @@ use Rattle.stab.specs.Node.{node_at, set_of, set_start, set_follows}
 use Rattle.stab.specs.Text.{five_digits, row_line, heading_line, schema_heading, row_heading, node_heading, model_heading, pair_heading, text_limit, padded}
 use Rattle.stab.specs.Check.{holds, whole_unless}
 use Rattle.stab.specs.declared.Refused.{Refused}
-use Rattle.stab.specs.Finding.{Place, refuse, Finding, no_refusal}
+use Rattle.stab.specs.Finding.{Place, refuse, Finding}
 use Rattle.stab.specs.declared.Refusal.{Refusal}
 use Rattle.stab.specs.declared.Refusal.TheVariants.{TableTooShort, TooMany, Number, Output}
 

@@ -1,5 +1,5 @@
 -- A node's tests in the paper's order: what is found where one fails, and where none does.
-use Rattle.std.specs.Prelude.{if◌then◌else◌, Some, Ok, Err}
+use Rattle.std.specs.Prelude.{if◌then◌else◌, Some}
 use Prim.Native.Nat.{ℕ, zero, suc}
 use native.Mathlib.Omega.{arith}
 use mathlib.Core.Path.{◌≡◌, refl, sym, ◌∙◌, ap}

@@ -9,11 +9,11 @@ use Rattle.stab.specs.Basic.{within, below, ◌otherwise◌, scan}
 use Rattle.stab.specs.Node.{Tableau, row_count, set_fits, parent_fits}
 use Rattle.stab.specs.Check.{whole_unless, at_unless, root_fits, formulas_refusal, set_refusal, parent_refusal, node_refusal, tables_hold, within_limits, enough_nodes, refusal}
 use Rattle.stab.specs.declared.Mode.{Mode}
-use Rattle.std.specs.Prelude.{None, Ok, Err}
-use Rattle.stab.specs.Finding.{no_refusal, refuse, Place, Finding}
+use Rattle.std.specs.Prelude.{None}
+use Rattle.stab.specs.Finding.{no_refusal, refuse, Finding}
 use Rattle.stab.specs.declared.Refusal.{Refusal}
 use Rattle.stab.specs.declared.Refusal.TheVariants.{TableTooShort, TooMany, Parent}
-use Rattle.stab.proofs.Bools.{and_left, and_right, found_unless, nothing_unless, unless_nothing, otherwise_found, otherwise_first, otherwise_second, found≢nothing}
+use Rattle.stab.proofs.Bools.{and_left, and_right, found_unless, nothing_unless, unless_nothing, otherwise_found, otherwise_first, otherwise_second}
 use Rattle.stab.proofs.Scans.{nothing_scan}
 use Rattle.stab.proofs.Findings.{otherwise_assoc}
 use Rattle.tableau.specs.Passes.{rows_refusal, nodes_refusal, passes_refusal, later_refusal}
@@ -27,10 +27,6 @@ whole_found t why rest h = sym (otherwise_found (whole_unless t why) rest (found
 pub whole_passes : (t : Bool) (why : Refusal) → t ≡ true → whole_unless t why ≡ no_refusal
 unfolding whole_unless
 whole_passes t why h = nothing_unless t _ _ h
-
--- what was found is not nothing
-pub found_some : {X : Type 0} (f : Finding) (why : Refusal) (p : Place) → f ≡ refuse why p → f ≡ no_refusal → X
-found_some f why p e h = absurd (found≢nothing (sym e ∙ h))
 
 -- ---- what the passes leave where they find nothing
 

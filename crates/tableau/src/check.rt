@@ -1,5 +1,5 @@
 // The check of a record, whole or held while it grows.
-ghost use Rattle.std.specs.Prelude.{◌≡◌, [], ℕ, ◌+◌, ◌*◌, ◌≤◌, ltb, length, Ok};
+ghost use Rattle.std.specs.Prelude.{◌≡◌, [], ℕ, ◌+◌, ◌*◌, ◌≤◌, ltb, length};
 ghost use Rattle.stab.specs.Basic.{◌implies◌, scan};
 ghost use Rattle.stab.specs.Formula.{formula_rows};
 ghost use Rattle.stab.specs.Node.{schema_of};

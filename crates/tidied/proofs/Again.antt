@@ -15,7 +15,6 @@ use Rattle.stab.specs.Node.{Tableau, Node, rows, row_count, node, set}
 use Rattle.stab.specs.Rule.{unused, rule}
 use Rattle.stab.specs.Check.{same_row, check_older}
 use Rattle.stab.specs.Keeps.{Below, KeepsKind, KeepsStep, Fresh}
-use Rattle.std.specs.Prelude.{Ok}
 use Rattle.stab.specs.Finding.{accept}
 use Rattle.stab.proofs.Bools.{decide, if_false}
 use Rattle.stab.proofs.Whole.{eq_z_true, not_eq_z}

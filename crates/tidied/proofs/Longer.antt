@@ -16,7 +16,6 @@ use Rattle.stab.specs.Rule.{of_rule}
 use Rattle.stab.specs.Check.{check, is_link, link_count}
 use Rattle.stab.specs.Keeps.{KeepsRow, KeepsFormulas, OuterRow, KeepsSet, KeepsParent, KeepsDrawn, KeepsNode, KeepsTables, Keeps}
 use Rattle.stab.specs.Text.{padded}
-use Rattle.std.specs.Prelude.{Ok}
 use Rattle.stab.specs.Finding.{accept}
 use Rattle.stab.proofs.Trees.{below_nat}
 use Rattle.stab.proofs.Tests.{below_tests}

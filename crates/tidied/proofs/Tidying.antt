@@ -14,7 +14,6 @@ use Rattle.stab.specs.Node.{Tableau, Node, rows, row_count, node_at, node, set_o
 use Rattle.stab.specs.Rule.{of_rule}
 use Rattle.stab.specs.Check.{check, check_older, is_link, link_count}
 use Rattle.stab.specs.Keeps.{Below, KeepsRow, KeepsFormulas, OuterRow, KeepsSet, KeepsParent, KeepsDrawn, DrawnFrom, KeepsNode, KeepsTables, KeepsOlder, Fresh, Keeps}
-use Rattle.std.specs.Prelude.{Ok}
 use Rattle.stab.specs.Finding.{accept}
 use Rattle.stab.proofs.Whole.{atom, num, ◌⊕◌, of_le, le_of, le_z_of, of_le_z, plus_nat, nonneg_minus}
 use Rattle.stab.proofs.Trees.{below_nat, below_pos}

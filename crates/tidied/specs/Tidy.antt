@@ -5,7 +5,7 @@ use Rattle.stab.specs.Node.{Tableau}
 use Rattle.stab.specs.Check.{at_unless, check_older, verdict}
 use Rattle.stab.specs.Text.{padded}
 use Rattle.stab.specs.declared.Refusal.TheVariants.{TableTooShort}
-use Rattle.stab.specs.Finding.{accept, refuse, Verdict}
+use Rattle.stab.specs.Finding.{Verdict}
 use Rattle.stab.specs.declared.Refused.{Refused}
 use Rattle.stab.specs.declared.ProofCounts.{ProofCounts}
 use Rattle.tidied.specs.Tidied.{tidied}

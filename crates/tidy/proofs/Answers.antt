@@ -9,7 +9,7 @@ use Rattle.stab.specs.Basic.{◌and◌}
 use Rattle.stab.specs.Node.{Tableau}
 use Rattle.stab.specs.Text.{padded}
 use Rattle.stab.specs.Check.{at_unless, check_older, verdict}
-use Rattle.std.specs.Prelude.{Some, Ok, Err, Result}
+use Rattle.std.specs.Prelude.{Some, Result}
 use Rattle.stab.specs.Finding.{accept, refuse, Verdict, Place, Finding}
 use Rattle.stab.specs.declared.Refused.{Refused}
 use Rattle.stab.specs.declared.ProofCounts.{ProofCounts}

@@ -4,7 +4,7 @@
 pub mod node;
 pub mod set;
 
-ghost use Rattle.std.specs.Prelude.{◌≡◌, [], ◌+◌, ◌*◌, ◌<◌, ◌≤◌, pos, length, Err, Ok};
+ghost use Rattle.std.specs.Prelude.{◌≡◌, [], ◌+◌, ◌*◌, ◌<◌, ◌≤◌, pos, length, Err};
 ghost use Rattle.stab.specs.Text.{padded};
 ghost use Rattle.stab.specs.Finding.{accept};
 ghost use Rattle.tidied.specs.Tidied.{new_number, new_of};

@@ -13,7 +13,6 @@ use Rattle.stab.specs.Answer.{Numbers, verdict_numbers, packed, answer_in, nodes
 use Rattle.stab.specs.Read.{Reading, read, stopped, read_schema, read_proof, read_model}
 use Rattle.stab.specs.Program.{tableau_of, model_of, after_reading, check_texts, model_texts, check_fault, model_fault}
 use Rattle.stab.specs.Entry.{texts_packed, number_part, fault_part}
-use Rattle.std.specs.Prelude.{Ok}
 use Rattle.stab.specs.Finding.{accept, Verdict}
 use Rattle.stab.proofs.Exactness.{accepts_exactly, older_accepts_exactly, model_accepts_exactly, model_counts_zero}
 use Rattle.stab.proofs.Soundness.{no_model_lem}

@@ -1,5 +1,5 @@
 -- Demands 2 and 3, as the one number x says them that the check, the older check or the model check gives, of tables or of texts.
-use Rattle.std.specs.Prelude.{ℕ, ◌≡◌, ◌↔◌, ◌≢◌, Bool, true, false, List, Ok}
+use Rattle.std.specs.Prelude.{ℕ, ◌≡◌, ◌↔◌, ◌≢◌, Bool, true, false, List}
 use Rattle.stab.specs.Node.{Tableau, schema_of}
 use Rattle.stab.specs.Check.{link_count}
 use Rattle.stab.specs.Model.{Model, check_model}

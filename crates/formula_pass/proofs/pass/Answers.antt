@@ -1,5 +1,5 @@
 -- The root and the least value, each row, and the root again.
-use Rattle.std.proofs.Common.{◌≡◌, ◌<◌, sym, refl, ◌∙◌, ap, not, true, Bool, arith, to_z-of_z, Err}
+use Rattle.std.proofs.Common.{◌≡◌, ◌<◌, sym, ◌∙◌, ap, not, true, Bool, arith, to_z-of_z, Err}
 use mathlib.Core.Path.{ap₂}
 use Rattle.std.proofs.lemmas.Result.{err_from_is_err_and}
 use Rattle.stab.specs.Basic.{nat}

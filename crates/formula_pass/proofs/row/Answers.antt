@@ -1,5 +1,5 @@
 -- 7 and 8 are found first, and then 27, unless rows may repeat.
-use Rattle.std.proofs.Common.{sym, refl, ◌∙◌, ap, Err}
+use Rattle.std.proofs.Common.{sym, ◌∙◌, ap, Err}
 use Rattle.std.proofs.lemmas.Result.{err_from_is_err_and}
 use Rattle.formula_pass.proofs.PassLaws.{row_stops, row_passes, row_repeats, row_fresh}
 use Rattle.formula_pass.proofs.row.Goals as goal

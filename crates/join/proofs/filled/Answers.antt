@@ -1,5 +1,5 @@
 -- Both records keep the rules; so there are few enough rows and nodes, and what was written is the joined record, or too much of it.
-use Rattle.std.proofs.Common.{◌≡◌, ◌+◌, ◌≤◌, ℕ, suc, List, [], length, pos, ◌∙◌, ap, arith, rules, w32, to_z, of_z, Ok, Err}
+use Rattle.std.proofs.Common.{◌≡◌, ◌+◌, ◌≤◌, ℕ, suc, [], length, pos, ◌∙◌, ap, arith, rules, w32, to_z, of_z, Ok, Err}
 use borrow.Author.Tests.{le-leb}
 use Rattle.stab.specs.Lent.{lent}
 use Rattle.stab.specs.Text.{padded}

@@ -12,7 +12,7 @@ use Rattle.stab.proofs.Exactness.Refusals.{accepted_finds, refused_finds}
 use Rattle.stab.proofs.Findings.{stays, later}
 use Rattle.stab.proofs.Whole.{eq_z_true}
 use Rattle.signed.proofs.Signs.{read_back}
-use Rattle.jointrefusal.specs.Before.{sizes_fit, fits_before, found_before}
+use Rattle.jointrefusal.specs.Before.{sizes_fit, found_before}
 use Rattle.jointrefusal.proofs.Before.{keeps, few_rows, schema_passes, sizes_are}
 use Rattle.jointrefusal.proofs.refusal.Goals as goal
 

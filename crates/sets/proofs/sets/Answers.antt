@@ -1,5 +1,5 @@
 -- Past the test the set of a node is right, so it ends within the members, where the next one starts.
-use Rattle.std.proofs.Common.{refl, sym, ◌∙◌, ap, not, arith, below_more, ◌≤◌, ◌+◌, ◌≡◌, true, ℕ, pos, Err}
+use Rattle.std.proofs.Common.{refl, sym, ◌∙◌, ap, not, arith, below_more, ◌+◌, ◌≡◌, true, ℕ, pos, Err}
 use borrow.Author.Tests.{not-true, not-false}
 use Rattle.stab.specs.Node.{set_start}
 use Rattle.stab.proofs.Scans.{scan_passes, scan_fails}

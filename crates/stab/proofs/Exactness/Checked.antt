@@ -11,7 +11,6 @@ use Rattle.stab.specs.Check.{holds, formulas_refusal, set_refusal, parent_refusa
 use Rattle.stab.specs.Before.{Tests, node_by, refusal_by}
 use Rattle.stab.specs.Keeps.{KeepsParent, KeepsTables, KeepsNode, KeepsOlder, Keeps}
 use Rattle.stab.specs.declared.Refusal.TheVariants.{TableTooShort, TooMany, Parent}
-use Rattle.std.specs.Prelude.{Ok}
 use Rattle.stab.specs.Finding.{Finding, no_refusal}
 use Rattle.stab.proofs.Bools.{otherwise_same, otherwise_first, otherwise_second, otherwise_nothing}
 use Rattle.stab.proofs.Scans.{scan_same, scan_nothing, nothing_scan}

@@ -15,7 +15,7 @@ use Rattle.stab.specs.Read.{Reading, read, stopped, require, read_text, table_of
 use Rattle.stab.specs.Check.{holds, whole_unless}
 use Rattle.stab.specs.Write.{wrote, writing, writing_of, write_refusal, output_refusal, rows_writable}
 use Rattle.std.specs.Prelude.{Ok, Err}
-use Rattle.stab.specs.Finding.{Finding, no_refusal, refuse}
+use Rattle.stab.specs.Finding.{Finding, no_refusal}
 use Rattle.stab.specs.declared.Refusal.{Refusal}
 use Rattle.stab.specs.declared.Refusal.TheVariants.{TextTooLong, TableTooShort}
 use Rattle.stab.proofs.Bools.{and_left, and_right, and_both, unless_nothing, nothing_unless, otherwise_first, otherwise_second, otherwise_nothing}

@@ -1,4 +1,4 @@
-use Rattle.std.proofs.Common.{◌≡◌, ◌≤◌, ℤ, [], ◌∷◌, sym, ◌∙◌, ap, subst, arith, rules, w32, to_z, of_z, Ok, Some, None}
+use Rattle.std.proofs.Common.{◌≡◌, ◌≤◌, [], ◌∷◌, sym, ◌∙◌, ap, subst, arith, rules, w32, to_z, of_z, Ok, Some, None}
 use Rattle.found.specs.Shown.{Shown}
 use Rattle.found.specs.Find.{found_numbers, found_packed, found_results}
 use Rattle.found.proofs.Packed.{packed_as}

@@ -1,4 +1,4 @@
-use Rattle.std.proofs.Common.{◌≡◌, [], ◌∷◌, sym, ◌∙◌, pos, rules, w32, to_z, of_z}
+use Rattle.std.proofs.Common.{◌≡◌, [], ◌∷◌, sym, ◌∙◌, rules, w32, to_z, of_z}
 use Rattle.growing.specs.Growing.{shown_number}
 use Rattle.grow.proofs.Packs.{packed_is}
 use Rattle.told.proofs.growth.Goals as goal

@@ -1,6 +1,6 @@
-use Rattle.std.proofs.Common.{◌≡◌, [], ◌∷◌, sym, ◌∙◌, ap, subst, arith, rules, w32, to_z, of_z}
+use Rattle.std.proofs.Common.{◌≡◌, [], ◌∷◌, sym, ◌∙◌, ap, rules, w32, to_z, of_z}
 use Rattle.stab.specs.Answer.{packed, verdict_numbers, refused_numbers}
-use Rattle.joint.specs.Joint.{joined_numbers, joined_packed, joined_results, JoinedFits}
+use Rattle.joint.specs.Joint.{joined_numbers, joined_packed, joined_results}
 use Rattle.told.proofs.joined.Goals as goal
 
 pub returns-in-Ok : goal.returns-in-Ok

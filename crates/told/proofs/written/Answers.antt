@@ -1,7 +1,7 @@
-use Rattle.std.proofs.Common.{sym, ◌∙◌, ap, subst, arith}
+use Rattle.std.proofs.Common.{sym, ◌∙◌, ap}
 use Rattle.stab.specs.Basic.{nat}
 use Rattle.stab.specs.Answer.{written_numbers, one_number}
-use Rattle.stab.specs.Entry.{without_counts, written_packed, WrittenFits}
+use Rattle.stab.specs.Entry.{without_counts, written_packed}
 use Rattle.stab.proofs.Entries.{written_refused}
 use Rattle.told.proofs.written.Goals as goal
 

@@ -9,8 +9,7 @@ use Rattle.stab.proofs.Bools.{and_both, and_first_false, and_second_false, or_le
 use Rattle.signed.proofs.Signs.{read_back}
 use Rattle.formula.specs.Cells.{row_of}
 use Rattle.formula.specs.Rows.{facts_at, both_facts, unmixed, pair_judged}
-use Rattle.std.specs.Prelude.{Result, Option}
-use Rattle.stab.specs.declared.Refused.{Refused}
+use Rattle.std.specs.Prelude.{Option}
 use Rattle.formula.specs.declared.rows.Facts.{Facts}
 use Rattle.formula.proofs.RowLaws.{fails, passes}
 use Rattle.formula.proofs.rows.junction.Statement.{statement}

@@ -1,5 +1,5 @@
 -- Each return is one case of what is found of a row that was judged.
-use Rattle.std.proofs.Common.{ap, sym, ◌∙◌, Err}
+use Rattle.std.proofs.Common.{ap, ◌∙◌, Err}
 use borrow.Author.Tests.{lt-leb}
 use Rattle.stab.proofs.Bools.{and_first_false, and_second_false}
 use Rattle.formula.proofs.RowLaws.{ill_found, large_found, small_found}

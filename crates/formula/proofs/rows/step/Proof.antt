@@ -4,8 +4,7 @@ use mathlib.Core.List.{List}
 use borrow.Author.Rules.{rules}
 use Rattle.stab.specs.Formula.{formula_rows}
 use Rattle.formula.specs.Rows.{judged_refusal, kept_judged, Passed}
-use Rattle.std.specs.Prelude.{Result, Option}
-use Rattle.stab.specs.declared.Refused.{Refused}
+use Rattle.std.specs.Prelude.{Option}
 use Rattle.formula.specs.declared.rows.Facts.{Facts}
 use Rattle.formula.proofs.RowLaws.{row_found_lem, row_kept, passed_more}
 use Rattle.formula.proofs.rows.step.Statement.{statement}

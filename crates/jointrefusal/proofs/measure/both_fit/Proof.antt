@@ -10,7 +10,6 @@ use Rattle.stab.specs.Formula.{schema_formula}
 use Rattle.stab.specs.Lent.{lent_schema}
 use Rattle.stab.specs.Check.{schema_refusal}
 use Rattle.stab.specs.declared.SchemaHeader.{SchemaHeader}
-use Rattle.std.specs.Prelude.{Ok}
 use Rattle.stab.specs.Finding.{no_refusal}
 use Rattle.stab.proofs.Bools.{and_first_false, and_first_true}
 use Rattle.jointrefusal.specs.Before.{or_small, sizes_fit}

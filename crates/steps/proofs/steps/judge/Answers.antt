@@ -1,8 +1,8 @@
 -- 11 to 16 are found first, and then 17.
-use Rattle.std.proofs.Common.{sym, ◌∙◌, ap, not, Err, arith, ◌≡◌}
+use Rattle.std.proofs.Common.{sym, ◌∙◌, ap, not, Err, arith}
 use Rattle.std.proofs.lemmas.Result.{err_from_is_err_and}
 use Rattle.stab.specs.Node.{node, child_count}
-use Rattle.stab.specs.Rule.{rule, children_as}
+use Rattle.stab.specs.Rule.{rule}
 use Rattle.stab.specs.Lent.{lent}
 use Rattle.stab.proofs.Bools.{asked_false, asked_true}
 use Rattle.fields.proofs.FieldParts.{fields_known_lem}

@@ -1,10 +1,9 @@
 -- Each return is one case of what is found of a node: the tests before it hold, and it does not.
-use Rattle.std.proofs.Common.{◌∙◌, ap, not, Err, arith, ◌≡◌, true, [], ◌<◌, ◌^◌}
+use Rattle.std.proofs.Common.{◌∙◌, ap, not, Err, arith, ◌≡◌, true, ◌<◌, ◌^◌}
 use Rattle.stab.specs.Node.{node, row, rows, row_count, bound, formula}
 use Rattle.stab.specs.Rule.{drawn, fields_fit, target_fits, bound_fits, partners_fit, is_instance, lowered_fits}
 use Rattle.stab.specs.Lent.{lent}
 use Rattle.stab.proofs.Bools.{asked_false, asked_true}
-use Rattle.branch.specs.Lent.{FieldsKnown}
 use Rattle.fields.proofs.FieldParts.{fields_known_lem, fields_bare}
 use Rattle.steps.proofs.ReadyLaws.{set_held_lem, set_of_rows_lem, child_known_lem, target_less}
 use Rattle.steps.proofs.StepLaws.{drawn_found, fields_found, target_found, bound_found, partner_found, lowered_found, nothing_found}

@@ -1,5 +1,5 @@
 -- Rows, and then nodes.
-use Rattle.std.proofs.Common.{◌≡◌, refl, sym}
+use Rattle.std.proofs.Common.{refl, sym}
 use Rattle.std.proofs.lemmas.Result.{err_from_is_err_and}
 use Rattle.stab.specs.Node.{rows, row_count}
 use Rattle.stab.proofs.Findings.{stays, later}

@@ -6,7 +6,6 @@ use borrow.Author.Rules.{rules}
 use Rattle.stab.specs.Basic.{within}
 use Rattle.stab.specs.Node.{Tableau, rows, row_count}
 use Rattle.stab.specs.Lent.{lent}
-use Rattle.std.specs.Prelude.{Ok}
 use Rattle.stab.specs.Finding.{no_refusal}
 use Rattle.stab.proofs.Bools.{otherwise_first, otherwise_second}
 use Rattle.signed.proofs.Signs.{read_back}

@@ -1,4 +1,4 @@
-use Rattle.std.proofs.Common.{refl, sym, ◌∙◌, ap, []}
+use Rattle.std.proofs.Common.{sym, ◌∙◌, ap, []}
 use Rattle.std.proofs.lemmas.Result.{err_from_is_err_and}
 use Rattle.stab.specs.Lent.{lent}
 use Rattle.stab.specs.Check.{link_count, verdict, verdict_on}

@@ -4,8 +4,6 @@ use mir.Facts.{to_z-of_z}
 use borrow.Author.Rules.{rules}
 use Rattle.stab.specs.Answer.{Packs}
 use Rattle.found.specs.Find.{found_numbers, found_packed, found_results, found_verdict}
-use Rattle.std.specs.Prelude.{Result}
-use Rattle.stab.specs.declared.Refused.{Refused}
 use Rattle.found.specs.Shown.{Shown}
 use Rattle.found.proofs.Packed.{found_packs, found_fits}
 use Rattle.zorambi.proofs.failing.zorambi_find_model.Statement.{statement}
