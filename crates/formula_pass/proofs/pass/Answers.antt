@@ -18,7 +18,7 @@ returns-then-not-root_fits c =
     let rows = formula_rows a.schema.now a.s a.proof.now in
     let loosely : Bool = loose (tree rows (nat a.root)) in
     let said : c.root_fits.result ≡ root_fits a.s a.root a.least =
-        c.root_fits.ensures ∙ ap₂ (root_fits a.s) (to_z-of_z c.ranges.root) (to_z-of_z c.ranges.least) in
+    c.root_fits.ensures ∙ ap₂ (root_fits a.s) (to_z-of_z c.ranges.root) (to_z-of_z c.ranges.least) in
     let unfit = fails _ said (ap not c.if-not-root_fits.true) in
     let h = formulas_root _ _ _ _ _ loosely unfit in
     record { value = ap Err c.whole.ensures ∙ h; passed = never h; facts_after = sym (if_false _ _ _ unfit) }
@@ -30,7 +30,7 @@ returns-in_err-all c =
     let rows = formula_rows a.schema.now a.s a.proof.now in
     let loosely : Bool = loose (tree rows (nat a.root)) in
     let said : c.root_fits.result ≡ root_fits a.s a.root a.least =
-        c.root_fits.ensures ∙ ap₂ (root_fits a.s) (to_z-of_z c.ranges.root) (to_z-of_z c.ranges.least) in
+    c.root_fits.ensures ∙ ap₂ (root_fits a.s) (to_z-of_z c.ranges.root) (to_z-of_z c.ranges.least) in
     let fit : root_fits a.s a.root a.least ≡ true = passes _ said (ap not c.if-not-root_fits.false) in
     let p = err_from_is_err_and c.from_residual.result c.from_residual.ensures.1 in
     let h = formulas_row _ _ _ _ _ loosely fit c.in_err-all.ensures.value in
@@ -43,7 +43,7 @@ known-f-requires c =
     let rows = formula_rows a.schema.now a.s a.proof.now in
     let loosely : Bool = loose (tree rows (nat a.root)) in
     let said : c.root_fits.result ≡ root_fits a.s a.root a.least =
-        c.root_fits.ensures ∙ ap₂ (root_fits a.s) (to_z-of_z c.ranges.root) (to_z-of_z c.ranges.least) in
+    c.root_fits.ensures ∙ ap₂ (root_fits a.s) (to_z-of_z c.ranges.root) (to_z-of_z c.ranges.least) in
     let fit : root_fits a.s a.root a.least ≡ true = passes _ said (ap not c.if-not-root_fits.false) in
     let root_less : nat a.root < a.n = omega (arith, below_nat _ _ (and_left _ _ fit), c.requires) in
     let root_is : c.natural.result ≡ nat a.root = c.natural.ensures ∙ ap nat (to_z-of_z c.ranges.root) in
@@ -56,14 +56,14 @@ returns-then-f-eq0 c =
     let rows = formula_rows a.schema.now a.s a.proof.now in
     let loosely : Bool = loose (tree rows (nat a.root)) in
     let said : c.root_fits.result ≡ root_fits a.s a.root a.least =
-        c.root_fits.ensures ∙ ap₂ (root_fits a.s) (to_z-of_z c.ranges.root) (to_z-of_z c.ranges.least) in
+    c.root_fits.ensures ∙ ap₂ (root_fits a.s) (to_z-of_z c.ranges.root) (to_z-of_z c.ranges.least) in
     let fit : root_fits a.s a.root a.least ≡ true = passes _ said (ap not c.if-not-root_fits.false) in
     let root_less : nat a.root < a.n = omega (arith, below_nat _ _ (and_left _ _ fit), c.requires) in
     let root_is : c.natural.result ≡ nat a.root = c.natural.ensures ∙ ap nat (to_z-of_z c.ranges.root) in
     let found = sym c.in_ok-all.ensures.value in
     let passed = c.in_ok-all.ensures.passed found in
     let known : c.known-f.result ≡ facts_of (tree rows (nat a.root)) =
-        c.known-f.ensures ∙ ap (facts_at _) root_is ∙ kept_facts_lem passed _ root_less in
+    c.known-f.ensures ∙ ap (facts_at _) root_is ∙ kept_facts_lem passed _ root_less in
     record {
       value = formulas_none _ _ _ _ _ _ fit found (loose_none _ known c.if-f-eq0.true);
       passed = λ _. passed;
@@ -77,13 +77,13 @@ returns c =
     let rows = formula_rows a.schema.now a.s a.proof.now in
     let loosely : Bool = loose (tree rows (nat a.root)) in
     let said : c.root_fits.result ≡ root_fits a.s a.root a.least =
-        c.root_fits.ensures ∙ ap₂ (root_fits a.s) (to_z-of_z c.ranges.root) (to_z-of_z c.ranges.least) in
+    c.root_fits.ensures ∙ ap₂ (root_fits a.s) (to_z-of_z c.ranges.root) (to_z-of_z c.ranges.least) in
     let fit : root_fits a.s a.root a.least ≡ true = passes _ said (ap not c.if-not-root_fits.false) in
     let root_less : nat a.root < a.n = omega (arith, below_nat _ _ (and_left _ _ fit), c.requires) in
     let root_is : c.natural.result ≡ nat a.root = c.natural.ensures ∙ ap nat (to_z-of_z c.ranges.root) in
     let found = sym c.in_ok-all.ensures.value in
     let passed = c.in_ok-all.ensures.passed found in
     let known : c.known-f.result ≡ facts_of (tree rows (nat a.root)) =
-        c.known-f.ensures ∙ ap (facts_at _) root_is ∙ kept_facts_lem passed _ root_less in
+    c.known-f.ensures ∙ ap (facts_at _) root_is ∙ kept_facts_lem passed _ root_less in
     let h = formulas_loose _ _ _ _ _ _ fit found (loose_some _ known c.if-f-eq0.false) in
     record { value = ap Err c.whole-2.ensures ∙ h; passed = never h; facts_after = c.in_ok-all.ensures.facts_after ∙ sym (if_true _ _ _ fit) }

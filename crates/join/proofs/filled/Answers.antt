@@ -93,7 +93,7 @@ returns-then-members-gt8192 c =
     let KB : Keeps B = second_keeps A B c.requires.second_value in
     let P = of_plain A B c.fill_rows-rows.ensures in
     let counted : c.fill_nodes-members.result ≡ length (joint A B).members =
-        c.fill_nodes-members.ensures.value ∙ ap length (members_are A B KA KB c.fill_rows-rows.new.first_numbers c.fill_rows-rows.new.second_numbers P.first_numbers P.second_numbers) in
+    c.fill_nodes-members.ensures.value ∙ ap length (members_are A B KA KB c.fill_rows-rows.new.first_numbers c.fill_rows-rows.new.second_numbers P.first_numbers P.second_numbers) in
     let e = c.refuse-then-members-gt8192.ensures in
     too_large R A B c.requires.out_members_value c.requires.second_value (members_over A B (omega (arith, c.if-members-gt8192.true, counted)))
     (e.value ∙ ap Err c.whole-then-members-gt8192.ensures)
@@ -127,7 +127,7 @@ returns c =
     let KB : Keeps B = second_keeps A B c.requires.second_value in
     let P = of_plain A B c.fill_rows-rows.ensures in
     let counted : c.fill_nodes-members.result ≡ length (joint A B).members =
-        c.fill_nodes-members.ensures.value ∙ ap length (members_are A B KA KB c.fill_rows-rows.new.first_numbers c.fill_rows-rows.new.second_numbers P.first_numbers P.second_numbers) in
+    c.fill_nodes-members.ensures.value ∙ ap length (members_are A B KA KB c.fill_rows-rows.new.first_numbers c.fill_rows-rows.new.second_numbers P.first_numbers P.second_numbers) in
     let fits : a.first.schema_rows + a.second.schema_rows + 1 + c.fill_rows-rows.result ≤ 1024 = omega (arith, c.if-or_row-rows-gt1024.false) in
     let few = c.if-members-gt8192.false in
     let root : to_z w32 (of_z w32 c.of.result) ≡ c.of.result = search (rules, read_back) in

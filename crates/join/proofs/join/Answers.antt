@@ -14,7 +14,7 @@ returns-then-not-full c =
     let R = rooms a.out_schema.now a.out_proof.now a.out_nodes.now a.out_members.now in
     let e = c.refuse.ensures in
     let k = answers R A B
-        (refused_by R A B (short_found R A B (asked_false c.full.ensures (ap not c.if-not-full.true))) (e.value ∙ ap Err c.at.ensures) e.out_schema_after e.out_proof_after e.out_nodes_after e.out_members_after) in
+    (refused_by R A B (short_found R A B (asked_false c.full.ensures (ap not c.if-not-full.true))) (e.value ∙ ap Err c.at.ensures) e.out_schema_after e.out_proof_after e.out_nodes_after e.out_members_after) in
     record { answer = k.0; schema = k.1.0; rows = k.1.1.0; nodes = k.1.1.1.0; members = k.1.1.1.1 }
 
 pub filled-requires : goal.filled-requires
@@ -32,7 +32,7 @@ returns-in-Err c =
     let room : roomy R ≡ true = asked_true c.full.ensures (ap not c.if-not-full.false) in
     let e = c.refuse-in-Err.ensures in
     let k = answers R A B
-        (refused_by R A B (found_before_lem R A B room _ _ (sym c.in-Err.ensures)) e.value e.out_schema_after e.out_proof_after e.out_nodes_after e.out_members_after) in
+    (refused_by R A B (found_before_lem R A B room _ _ (sym c.in-Err.ensures)) e.value e.out_schema_after e.out_proof_after e.out_nodes_after e.out_members_after) in
     record { answer = k.0; schema = k.1.0; rows = k.1.1.0; nodes = k.1.1.1.0; members = k.1.1.1.1 }
 
 pub returns-in-Ok : goal.returns-in-Ok

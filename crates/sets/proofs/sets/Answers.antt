@@ -24,7 +24,7 @@ loop-j-preserved c =
     let a = c.args in
     let l = c.loop-j in
     let right : set_right a.facts.now a.n a.nodes.now a.k a.members.now a.m l.j ≡ true =
-        sym c.set_is_right.ensures ∙ not-false c.set_is_right.result (ap not c.if-not-set_is_right.false) in
+    sym c.set_is_right.ensures ∙ not-false c.set_is_right.result (ap not c.if-not-set_is_right.false) in
     let placed : place_fits a.nodes.now a.m l.j ≡ true = right_place a.facts.now a.n a.nodes.now a.k a.members.now a.m l.j right in
     record {
       within = omega (arith, c.natural_of-from.ensures.0, place_within a.nodes.now a.m l.j l.from l.invariant.start placed);

@@ -29,7 +29,7 @@ tidied-requires c =
     let T = lent a.schema.now a.proof.now a.nodes.now a.members.now a.h in
     let k : KeepsOlder T = ((older_accepts_exactly _ _ _).0 (sym c.in-Ok.ensures.value)).0 in
     let f : (leb 4096 (length a.out_proof.now) and leb 9216 (length a.out_nodes.now) and leb 8192 (length a.out_members.now)) ≡ true =
-        asked_true c.full.ensures (ap not c.if-not-full.false) in
+    asked_true c.full.ensures (ap not c.if-not-full.false) in
     let g = and_right (leb 4096 (length a.out_proof.now)) _ f in
     let n : 4096 ≤ length a.out_proof.now = leb-true _ _ (and_left _ _ f) in
     let o : 9216 ≤ length a.out_nodes.now = leb-true _ _ (and_left _ _ g) in

@@ -31,7 +31,7 @@ returns-then-not-enough c =
     let a = c.args in
     let T = lent a.schema.now a.proof.now a.nodes.now a.members.now a.h in
     let passed : scan (set_refusal T) a.h.node_rows ≡ no_refusal =
-        sym (c.in_ok-sets.ensures ∙ ap (λ (n : ℕ). scan (set_fault a.facts.now n a.nodes.now a.h.node_rows a.members.now a.h.member_count) a.h.node_rows) c.row_count.ensures ∙ sets_refusal T _ c.requires.all_known a.h.node_rows) in
+    sym (c.in_ok-sets.ensures ∙ ap (λ (n : ℕ). scan (set_fault a.facts.now n a.nodes.now a.h.node_rows a.members.now a.h.member_count) a.h.node_rows) c.row_count.ensures ∙ sets_refusal T _ c.requires.all_known a.h.node_rows) in
     ap Err c.whole.ensures
     ∙ later _ _ _ passed (whole_found (a.whole implies ltb 0 a.h.node_rows) Parent _ (asked_false c.enough.ensures (ap not c.if-not-enough.true)))
 
@@ -40,7 +40,7 @@ parents-requires c =
     let a = c.args in
     let T = lent a.schema.now a.proof.now a.nodes.now a.members.now a.h in
     let passed : scan (set_refusal T) a.h.node_rows ≡ no_refusal =
-        sym (c.in_ok-sets.ensures ∙ ap (λ (n : ℕ). scan (set_fault a.facts.now n a.nodes.now a.h.node_rows a.members.now a.h.member_count) a.h.node_rows) c.row_count.ensures ∙ sets_refusal T _ c.requires.all_known a.h.node_rows) in
+    sym (c.in_ok-sets.ensures ∙ ap (λ (n : ℕ). scan (set_fault a.facts.now n a.nodes.now a.h.node_rows a.members.now a.h.member_count) a.h.node_rows) c.row_count.ensures ∙ sets_refusal T _ c.requires.all_known a.h.node_rows) in
     (c.requires.proof_rows_bound.2, λ j l. set_within T j (sets_known T a.h.node_rows passed j l) c.requires.proof_rows_bound.3)
 
 pub returns : goal.returns
@@ -49,7 +49,7 @@ returns c =
     let a = c.args in
     let T = lent a.schema.now a.proof.now a.nodes.now a.members.now a.h in
     let passed : scan (set_refusal T) a.h.node_rows ≡ no_refusal =
-        sym (c.in_ok-sets.ensures ∙ ap (λ (n : ℕ). scan (set_fault a.facts.now n a.nodes.now a.h.node_rows a.members.now a.h.member_count) a.h.node_rows) c.row_count.ensures ∙ sets_refusal T _ c.requires.all_known a.h.node_rows) in
+    sym (c.in_ok-sets.ensures ∙ ap (λ (n : ℕ). scan (set_fault a.facts.now n a.nodes.now a.h.node_rows a.members.now a.h.member_count) a.h.node_rows) c.row_count.ensures ∙ sets_refusal T _ c.requires.all_known a.h.node_rows) in
     let root : to_z w32 (of_z w32 a.h.root) ≡ a.h.root = search (rules, read_back) in
     later _ _ _ passed
     (later _ _ _ (whole_passes (a.whole implies ltb 0 a.h.node_rows) Parent (asked_true c.enough.ensures (ap not c.if-not-enough.false)))
