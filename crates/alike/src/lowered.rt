@@ -122,7 +122,7 @@ fn past(rows: &[i32], forms: &[u32], i: usize) -> usize
 }
 
 // Each row of the set of node `to`, lowered by k, stands in the set of node j. A partner is looked for once for rows after one
-// another that have one class and one shift, from the place after the last one on.
+// another that have one class and one shift, from the place after the last one on. The index goes on to where `past` says.
 pub fn all_lowered(
     schema: &[i32],
     proof: &[i32],

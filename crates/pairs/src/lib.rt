@@ -28,7 +28,8 @@ fn key_at(pairs: &[i32], k: usize) -> usize
     signed::natural_at(pairs, 2 * k) * 131072 + moved(65536, pairs, 2 * k + 1)
 }
 
-// How many of the first pairs have a smaller key. They stand before the others.
+// How many of the first pairs have a smaller key. They stand before the others. Pairs lie flat in a table, two numbers each, so that
+// this search is not the library's, which goes by a slice's items.
 fn keys_below(pairs: &[i32], count: usize, key: usize) -> usize
     requires { (count ≤ 4096) × Sorted pairs.now count }
     ensures { result ≡ keys_below pairs.now count key }
