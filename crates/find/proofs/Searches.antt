@@ -12,7 +12,7 @@ use Rattle.stab.specs.Basic.{◌and◌, ◌otherwise◌}
 use Rattle.stab.specs.Formula.{row_at}
 use Rattle.stab.specs.Check.{whole_unless, at_unless, holds, schema_refusal}
 use Rattle.std.specs.Prelude.{Some}
-use Rattle.stab.specs.Finding.{no_refusal, refuse, Place, Finding}
+use Rattle.stab.specs.Finding.{no_refusal, refuse, Finding}
 use Rattle.stab.specs.declared.Refusal.{Refusal}
 use Rattle.stab.specs.declared.Refusal.TheVariants.{TableTooShort, TooMany, Width}
 use Rattle.stab.proofs.Bools.{nothing_unless, found_unless, unless_nothing, otherwise_first, otherwise_second, otherwise_nothing, otherwise_found}
