@@ -96,7 +96,8 @@ fn closed(text: &[u8], run: Run) -> Numeral
     }
 }
 
-// The natural number that is the whole of the field at a place.
+// The natural number that is the whole of the field at a place. Put into the reader of rows, which spends most of its time here.
+#[inline(always)]
 fn natural_at(text: &[u8], at: usize) -> Numeral
     requires { at ≤ length text.now }
     ensures { result ≡ natural_at text.now at }
