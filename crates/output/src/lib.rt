@@ -20,13 +20,15 @@ pub fn clear(out: &mut [u8])
     out.fill(0);
 }
 
-// A heading's line.
+// A heading's line. Not by the library's copy, which would have the archive for C need memmove.
 pub fn put_heading(out: &mut [u8], text: &[u8]) -> usize
     requires { length (heading_line text.now) ≤ length out.old }
     ensures { (result ≡ length (heading_line text.now)) × (out.new ≡ over (heading_line text.now) out.old) }
 {
     let n = text.len();
-    out[..n].copy_from_slice(text);
+    for i in 0..n {
+        out[i] = text[i];
+    }
     out[n] = b'\n';
     n + 1
 }

@@ -1,12 +1,13 @@
--- The tables after one node more.
-use Prim.Native.Nat.{ℕ, suc, ◌+◌, ◌-◌, ◌*◌, ◌≤◌}
+-- Numbers stored one after another, and the tables after one node more.
+use Prim.Native.Nat.{ℕ, suc, ◌+◌, ◌-◌, ◌*◌, ◌<◌, ◌≤◌}
 use native.Mathlib.Omega.{arith}
+use native.Mathlib.Nat.{add-zero}
 use native.Mathlib.Numerals.{add-one}
 use mathlib.Core.Path.{◌≡◌, refl, sym, ◌∙◌, ap, ap₂}
-use mathlib.Core.List.{List, ◌++◌, append-nil}
-use lib.IntN.{ℤ}
-use lib.ListN.{length, take, drop, length-append, length-drop, drop_of_length-le}
-use lib.Seq.{sets, take-append-add, length-take-le}
+use mathlib.Core.List.{List, [], ◌∷◌, ◌++◌, append-nil}
+use lib.IntN.{ℤ, pos}
+use lib.ListN.{length, get_or, take, drop, set, length-append, length-drop, drop_of_length-le}
+use lib.Seq.{sets, take-suc, take-append-add, take_all, length-take-le}
 use borrow.Rule.Slice.PartMut.{put_mid}
 use Rattle.stab.specs.Basic.{nat}
 use Rattle.stab.specs.Node as N
@@ -14,6 +15,26 @@ use Rattle.stab.specs.Node.{node_at, node, set_of}
 use Rattle.tidied.specs.Tidied.{tidy_set, tidy_members, tidy_node, tidy_nodes}
 use Rattle.folds.proofs.Fronts.{sets_more}
 use Rattle.tidy.specs.Kept.{bare, Tidies}
+
+-- ---- numbers stored one after another
+
+sets_snoc : (t : List ℤ) (at : ℕ) (vs : List ℤ) (z : ℤ) → set (sets t at vs) (at + length vs) z ≡ sets t at (vs ++ z ∷ [])
+sets_snoc t at [] z = ap (λ (n : ℕ). set t n z) (add-zero at)
+sets_snoc t at (v ∷ vs) z =
+    ap (λ (n : ℕ). set (sets (set t at v) (suc at) vs) n z) next ∙ sets_snoc (set t at v) (suc at) vs z
+  where
+    next : at + suc (length vs) ≡ suc at + length vs
+    next = omega arith
+
+-- the first k + 1 of them
+pub sets_next : (t : List ℤ) (at : ℕ) (vs : List ℤ) (k : ℕ) → k < length vs → (z : ℤ) → z ≡ get_or vs k (pos 0) → set (sets t at (take k vs)) (at + k) z ≡ sets t at (take (k + 1) vs)
+sets_next t at vs k h z e =
+    ap₂ (λ (n : ℕ) (x : ℤ). set (sets t at (take k vs)) (at + n) x) (sym (length-take-le k vs (omega arith))) e
+    ∙ sets_snoc t at (take k vs) (get_or vs k (pos 0))
+    ∙ ap (sets t at) (sym (ap (λ (n : ℕ). take n vs) (add-one k) ∙ take-suc vs k (pos 0) h))
+
+pub sets_all : (t : List ℤ) (at : ℕ) (vs : List ℤ) (k : ℕ) → length vs ≤ k → sets t at (take k vs) ≡ sets t at vs
+sets_all t at vs k h = ap (sets t at) (take_all k vs h)
 
 -- ---- the end of a table from `at` on, lent and given back
 

@@ -9,12 +9,14 @@ ghost use Rattle.folds.specs.Folds.{AllSmall};
 use branch::node::{BY, ON, OTHER, RULE, TO, UP, WITH, number_of};
 use folds::number::through;
 
-// Numbers are stored one after another from a place on.
+// Numbers are stored one after another from a place on. Not by the library's copy, which would have the archive for C need memmove.
 pub fn copy(table: &mut [i32], at: usize, row: &[i32])
     requires { at + length row.now ≤ length table.old }
     ensures { table.new ≡ sets table.old at row.now }
 {
-    table[at..at + row.len()].copy_from_slice(row);
+    for k in 0..row.len() {
+        table[at + k] = row[k];
+    }
 }
 
 // A field of node j that names a row, put through.

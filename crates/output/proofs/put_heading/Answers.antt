@@ -1,7 +1,8 @@
-use Rattle.std.proofs.Common.{arith, ◌≡◌, ◌+◌, ◌∷◌, ◌++◌, [], List, ℕ, ◌<◌, ◌≤◌, sym, ap, length, length-append, length-drop, length-take-le, take, drop, slice_set, refl}
+use Rattle.std.proofs.Common.{arith, ◌≡◌, ◌+◌, ◌∷◌, [], List, ℕ, ◌<◌, ◌≤◌, refl, sym, ◌∙◌, ap, length, length-append, take, get_or, set, add-one}
+use lib.Seq.{take-suc, take_all, length-take-le}
 use Rattle.stab.specs.Text.{heading_line, newline}
 use Rattle.digits.specs.Over.{over}
-use Rattle.digits.proofs.Overs.{over_next}
+use Rattle.digits.proofs.Overs.{over_none, over_next}
 use Rattle.output.proofs.put_heading.Goals as goal
 
 -- a heading's line is one byte longer
@@ -9,35 +10,35 @@ longer : (t : List ℕ) → length (heading_line t) ≡ length t + 1
 unfolding heading_line newline
 longer t = length-append t (10 ∷ [])
 
-module _ (t l : List ℕ) (h : length (heading_line t) ≤ length l) where
-  room : length t < length l
-  room = omega (arith, longer t)
+step : (t l out : List ℕ) (i : ℕ) → i < length t → length t ≤ length l → out ≡ over (take i t) l → set out i (get_or t i 0) ≡ over (take (i + 1) t) l
+step t l out i h k e =
+    over_next (take i t) l out i (get_or t i 0) e (sym (length-take-le i t (omega arith))) (omega arith)
+    ∙ ap (λ (x : List ℕ). over x l) (sym (take-suc t i 0 h))
+    ∙ ap (λ (n : ℕ). over (take n t) l) (sym (add-one i))
 
-  copied : length (take (length t) l) ≡ length t
-  copied = length-take-le (length t) l (omega (arith, room))
+-- byte 10 after the whole heading
+ended : (t l out : List ℕ) (i : ℕ) → i ≡ length t → length t < length l → out ≡ over (take i t) l → set out (length t) 10 ≡ over (heading_line t) l
+unfolding heading_line newline
+ended t l out i n h e = over_next t l out (length t) 10 (e ∙ ap (λ (x : List ℕ). over x l) (take_all i t (omega arith))) refl h
 
-  -- byte 10 after the whole heading
-  ended : (s : List ℕ) → s ≡ t → slice_set (s ++ drop (length t) l) (length t) 10 ≡ over (heading_line t) l
-  unfolding heading_line newline over
-  ended s e = over_next t l (s ++ drop (length t) l) (length t) 10 (ap (λ (r : List ℕ). r ++ drop (length t) l) e) refl room
+pub loop-i-init : goal.loop-i-init
+loop-i-init c = over_none c.args.out.now
 
-pub slice_bounds-copy_from_slice-end : goal.slice_bounds-copy_from_slice-end
-slice_bounds-copy_from_slice-end c = omega (arith, longer c.args.text.now)
+pub loop-i-preserved : goal.loop-i-preserved
+loop-i-preserved c =
+    let a = c.args in
+    let l = c.loop-i in
+    step a.text.now a.out.now l.out l.i c.loop-i-test.true (omega (arith, longer a.text.now, c.requires)) l.invariant
 
-pub slice_bounds-copy_from_slice-end-2 : goal.slice_bounds-copy_from_slice-end-2
-slice_bounds-copy_from_slice-end-2 c = sym (copied c.args.text.now c.args.out.now c.requires)
-
-pub copy_from_slice-requires : goal.copy_from_slice-requires
-copy_from_slice-requires c = copied c.args.text.now c.args.out.now c.requires
+pub bounds-out-i : goal.bounds-out-i
+bounds-out-i c = omega (arith, longer c.args.text.now, c.requires)
 
 pub bounds-out-n : goal.bounds-out-n
-bounds-out-n c =
-    omega (
-      arith,
-      room c.args.text.now c.args.out.now c.requires,
-      length-append c.copy_from_slice.new.self (drop (length c.args.text.now) c.args.out.now),
-      length-drop (length c.args.text.now) c.args.out.now,
-    )
+bounds-out-n c = omega (arith, longer c.args.text.now, c.requires)
 
 pub returns : goal.returns
-returns c = (sym (longer c.args.text.now), ended c.args.text.now c.args.out.now c.requires c.copy_from_slice.new.self c.copy_from_slice.ensures.after)
+returns c =
+    let a = c.args in
+    let l = c.loop-i in
+    let more = longer a.text.now in
+    (sym more, ended a.text.now a.out.now l.out l.i (omega arith) (omega (arith, more, c.requires)) l.invariant)

@@ -1,16 +1,16 @@
-use Rattle.std.proofs.Common.{◌≡◌, ℕ, ◌+◌, ◌≤◌, List, ◌++◌, length, take, drop, refl, sym, ◌∙◌, ap, arith}
-use Rattle.std.proofs.lemmas.List.{take_all}
-use Rattle.std.proofs.lemmas.List.Edits.{sets, sets-eq}
-use Rattle.std.proofs.lemmas.Slice.{put_mid-paste}
-use borrow.Rule.Slice.PartMut.{put_mid}
-use lib.IntN.{ℤ}
+use Rattle.std.proofs.Common.{◌≡◌, ◌+◌, List, ℤ, pos, get_or, set, ap, ◌∙◌, arith, rules, w32, to_z, of_z}
+use Rattle.signed.proofs.Signs.{read_back}
+use Rattle.tidy.proofs.Nodes.{sets_next, sets_all}
 use Rattle.tidy.proofs.node.copy.Goals as goal
 
-pasted : (table row : List ℤ) (at n : ℕ) (part : List ℤ) → at + length row ≤ length table → length row ≡ n → part ≡ row → put_mid at n table part ≡ sets table at row
-pasted table row at n part room size is =
-    put_mid-paste at n table part row (length row) is size refl
-    ∙ ap (λ (r : List ℤ). take at table ++ r ++ drop (at + length row) table) (take_all (length row) row (omega arith))
-    ∙ sym (sets-eq row table at room)
+pub loop-k-preserved : goal.loop-k-preserved
+loop-k-preserved c =
+    let a = c.args in
+    let l = c.loop-k in
+    let z = to_z w32 (of_z w32 (get_or a.row.now l.k (pos 0))) in
+    let e : z ≡ get_or a.row.now l.k (pos 0) = search (rules, read_back) in
+    ap (λ (t : List ℤ). set t (a.at + l.k) z) l.invariant
+    ∙ sets_next a.table.now a.at a.row.now l.k c.loop-k-test.true z e
 
 pub returns : goal.returns
-returns c = pasted _ _ _ _ _ c.requires (omega arith) cc
+returns c = c.loop-k.invariant ∙ sets_all c.args.table.now c.args.at c.args.row.now c.loop-k.k (omega arith)
