@@ -1,19 +1,15 @@
 -- The lines of a text, found by their bytes 10.
 use Prim.Native.Nat.{ℕ, zero, suc, ◌+◌, ◌-◌, ◌<◌, ◌≤◌}
 use native.Mathlib.Omega.{arith}
+use native.Mathlib.Numerals.{add-one}
 use mathlib.Core.Path.{◌≡◌, refl, sym, ◌∙◌, ap, ap₂, subst}
 use mathlib.Core.Logic.{⊎_elim}
 use mathlib.Core.Bool.{Bool, true, false}
 use mathlib.Core.List.{List, [], ◌∷◌}
 use lib.Dec.{eqb}
-use lib.ListN.{length, take, drop, length-drop}
-use lib.Seq.{drop-drop, length-take-le}
+use lib.ListN.{length, take, drop, get_or, length-drop, drop_of_length-le}
+use lib.Seq.{drop-cons, drop-drop, length-take-le}
 use borrow.Author.Tests.{eq-eqb, ne_eqb, eqb-true, eqb-false}
-use Rattle.std.specs.List.{position, position_or_len}
-use Rattle.std.proofs.lemmas.List.Recursion.{is_position_or_len}
-use Rattle.std.proofs.lemmas.Slice.{between_to_end}
-use Rattle.std.proofs.lemmas.Bool.Decides.{nat_tests}
-use Rattle.std.specs.Prelude.{Some, None}
 use Rattle.stab.specs.Text.{Line, newline, in_front, lines}
 use Rattle.stab.specs.LineNumber.{Span, empty_start, spanned, span_from, line_span, line_of}
 use Rattle.stab.proofs.Bools.{if_true, if_false, decide}
@@ -38,20 +34,18 @@ line_most (x ∷ xs) =
     (λ e. omega (arith, line_more x xs (eqb-false x 10 e), line_most xs))
     (decide (eqb x 10))
 
--- it is where `position` finds it, and is as far as the text's end where it finds none
-length_is_place : (xs : List ℕ) → line_length xs ≡ position_or_len (λ x. eqb x 10) xs
-unfolding line_length newline
-length_is_place xs = is_position_or_len line_length (λ x. eqb x 10) refl (λ y ys. grind arith) xs
+module _ (text : List ℕ) (i : ℕ) (h : i < length text) where
+  pub here_at : get_or text i 0 ≡ 10 → line_length (drop i text) ≡ 0
+  here_at e = ap line_length (drop-cons text i 0 h) ∙ line_here (get_or text i 0) (drop (suc i) text) e
 
-module _ (text : List ℕ) (i : ℕ) where
-  abbrev rest : List ℕ
-  rest = take (length text - i) (drop i text)
+  pub more_at : (get_or text i 0 ≡ 10 → ⊥) → line_length (drop i text) ≡ suc (line_length (drop (i + 1) text))
+  more_at e =
+      ap line_length (drop-cons text i 0 h)
+      ∙ line_more (get_or text i 0) (drop (suc i) text) e
+      ∙ ap (λ (n : ℕ). suc (line_length (drop n text))) (sym (add-one i))
 
-  pub line_found : (n : ℕ) → position (λ x. eqb x 10) rest ≡ Some n → line_length (drop i text) ≡ n
-  line_found n e = let p = length_is_place rest in let r = between_to_end text i (length text) (omega arith) in grind (arith, nat_tests)
-
-  pub line_unfound : i ≤ length text → position (λ x. eqb x 10) rest ≡ None → i + line_length (drop i text) ≡ length text
-  line_unfound h e = let p = length_is_place rest in let r = between_to_end text i (length text) (omega arith) in let m = line_most rest in let d = length-drop i text in grind (arith, nat_tests)
+pub none_at : (text : List ℕ) (i : ℕ) → length text ≤ i → line_length (drop i text) ≡ 0
+none_at text i h = ap line_length (drop_of_length-le text h) ∙ (unfold line_length in refl)
 
 -- ---- a first line that has its byte 10, and one that has none
 

@@ -1,15 +1,21 @@
-use Rattle.std.proofs.Common.{arith, tests, rules, ◌∙◌, sym, eqb}
-use Rattle.std.proofs.lemmas.Iterator.{YieldsList-from_slice}
-use Rattle.std.proofs.lemmas.Iterator.Search.{position_from_yields_List}
-use Rattle.line.proofs.LineSpans.{line_found, line_unfound}
+use Rattle.std.proofs.Common.{arith}
+use Rattle.line.proofs.LineSpans.{here_at, more_at, none_at}
 use Rattle.line.proofs.end_of.Goals as goal
 
-pub returns-in-Some : goal.returns-in-Some
-returns-in-Some c =
-    let e = position_from_yields_List (λ x. eqb x 10) _ _ c.position.result c.position.ensures.ran (YieldsList-from_slice _ c.iter.ensures.rest) (λ x b q k. search (rules, tests)) in
-    omega (arith, line_found c.args.text.now c.args.from c.in-Some.n (sym e ∙ c.in-Some.is))
+pub returns-then-text-i-eq10 : goal.returns-then-text-i-eq10
+returns-then-text-i-eq10 c =
+    let l = c.loop-i in
+    omega (arith, l.invariant.same, here_at c.args.text.now l.i c.loop-i-test.true c.if-text-i-eq10.true)
 
-pub returns-in-None : goal.returns-in-None
-returns-in-None c =
-    let e = position_from_yields_List (λ x. eqb x 10) _ _ c.position.result c.position.ensures.ran (YieldsList-from_slice _ c.iter.ensures.rest) (λ x b q k. search (rules, tests)) in
-    sym (line_unfound c.args.text.now c.args.from c.requires (sym e ∙ c.in-None.is))
+pub loop-i-preserved : goal.loop-i-preserved
+loop-i-preserved c =
+    let l = c.loop-i in
+    record {
+      same = omega (arith, l.invariant.same, more_at c.args.text.now l.i c.loop-i-test.true c.if-text-i-eq10.false);
+      within = omega arith;
+    }
+
+pub returns : goal.returns
+returns c =
+    let l = c.loop-i in
+    omega (arith, l.invariant.same, none_at c.args.text.now l.i (omega arith))
