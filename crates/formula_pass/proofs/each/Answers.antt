@@ -33,7 +33,7 @@ returns-in_err-row c =
     let l = c.loop-r in
     let p = err_from_is_err_and c.from_residual.result c.from_residual.ensures.1 in
     let found = sym c.in_err-row.ensures.value in
-    let h = scan_found _ _ _ c.loop-r-test.true l.invariant.found found in
+    let h = scan_found _ _ _ (omega arith) l.invariant.found found in
     record {
       value = rw (p.1, p.2) (sym h);
       passed = never (sym h);

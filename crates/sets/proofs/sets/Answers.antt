@@ -17,7 +17,7 @@ unfolding set_fault
 returns-then-not-set_is_right c =
     let l = c.loop-j in
     ap Err c.at.ensures
-    ∙ sym (scan_fails _ _ _ l.j c.loop-j-test.true l.invariant.right (sym c.set_is_right.ensures ∙ not-true c.set_is_right.result (ap not c.if-not-set_is_right.true)))
+    ∙ sym (scan_fails _ _ _ l.j (omega arith) l.invariant.right (sym c.set_is_right.ensures ∙ not-true c.set_is_right.result (ap not c.if-not-set_is_right.true)))
 
 pub loop-j-preserved : goal.loop-j-preserved
 loop-j-preserved c =

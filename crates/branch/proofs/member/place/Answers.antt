@@ -1,4 +1,4 @@
-use Rattle.std.proofs.Common.{◌≡◌, ◌+◌, true, false, List, ◌∷◌, ℤ, refl, sym, ◌∙◌, rules}
+use Rattle.std.proofs.Common.{◌≡◌, ◌+◌, true, false, List, ◌∷◌, ℤ, refl, sym, ◌∙◌, rules, arith}
 use borrow.Author.Tests.{tests}
 use lib.Signed.{lt_z}
 use native.Mathlib.Numerals.{add-one}
@@ -20,4 +20,4 @@ unfolding place_of
 returns c =
     let z = c.args.z in
     let first = IsFirst-from_position _ _ _ (λ x. lt_z x z ≡ false) (λ x. lt_z x z ≡ true) c.position.ensures.ran (YieldsList-from_slice c.args.list.now cc) (λ x q k. search (rules, tests)) (λ x q k. search (rules, tests)) in
-    c.unwrap_or.ensures ∙ sym (index_from_first (place_of z) _ _ refl (here z) (on z) _ _ first)
+    omega (arith, c.unwrap_or.ensures, index_from_first (place_of z) _ _ refl (here z) (on z) _ _ first)

@@ -12,7 +12,7 @@ returns-then-not-parent_is_right c =
     let l = c.loop-j in
     let e = to_z-of_z c.ranges.root in
     ap Err c.at.ensures
-    ∙ sym (scan_fails _ (parent_right a.nodes.now a.members.now a.root) _ l.j c.loop-j-test.true
+    ∙ sym (scan_fails _ (parent_right a.nodes.now a.members.now a.root) _ l.j (omega arith)
     (λ i q. rw e at (l.invariant i q))
     (ap (λ (z : ℤ). parent_right a.nodes.now a.members.now z l.j) (sym e) ∙ sym c.parent_is_right.ensures ∙ not-true c.parent_is_right.result (ap not c.if-not-parent_is_right.true)))
 

@@ -9,7 +9,7 @@ loop-j-init c = record { found = scan_nothing _ 0 (λ k l. absurd (omega arith))
 pub returns-in_err-judge-clause-value : goal.returns-in_err-judge-clause-value
 returns-in_err-judge-clause-value c =
     let p = err_from_is_err_and c.from_residual.result c.from_residual.ensures.1 in
-    rw (p.1, p.2) (sym (scan_found _ _ _ c.loop-j-test.true c.loop-j.invariant.found (sym c.in_err-judge.ensures.value)))
+    rw (p.1, p.2) (sym (scan_found _ _ _ (omega arith) c.loop-j.invariant.found (sym c.in_err-judge.ensures.value)))
 
 pub loop-j-preserved : goal.loop-j-preserved
 loop-j-preserved c = record {
