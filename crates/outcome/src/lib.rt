@@ -88,7 +88,7 @@ fn model_after(table: &[i32], h: SchemaHeader, model: &[u8]) -> Outcome
             schema_rows: h.rows,
             proof_rows: 0,
         },
-        Err(refused) => Outcome::Second(refused),
+        Err(refusal) => Outcome::Second(refusal),
     }
 }
 
