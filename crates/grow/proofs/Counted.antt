@@ -25,7 +25,7 @@ unfolding children_all
 all_make T zero h = refl
 all_make T (suc k) h = and_both _ _ (all_make T k (λ j l. h j (omega arith))) (h k (omega arith))
 
-all_stops : (T : Tableau) (k j : ℕ) → j < k → children_fit T j ≡ false → children_all T k ≡ false
+pub all_stops : (T : Tableau) (k j : ℕ) → j < k → children_fit T j ≡ false → children_all T k ≡ false
 unfolding children_all
 all_stops T zero j h f = absurd (omega arith)
 all_stops T (suc k) j h f =
