@@ -7,7 +7,7 @@ ghost use Rattle.stab.specs.LineNumber.{span_from, line_span, line_of, schema_ro
 ghost use Rattle.line.specs.LineParts.{line_length, named, PartOf};
 
 // Where the first byte 10 from `from` on stands, or the text's end. A loop by hand: by `position`, or by a `for`, a far line takes up to
-// 1.6 times the time.
+// twice the time.
 fn end_of(text: &[u8], from: usize) -> usize
     requires { from ≤ length text.now }
     ensures { result ≡ from + line_length (drop from text.now) }

@@ -12,7 +12,7 @@ returns-then-not-starts_with c =
     let all = take_all (length a.h.now) a.h.now (omega arith) in
     let is = c.starts_with.ensures.value in
     let was = c.if-not-starts_with.true in
-    let no : starts_with eqb (take (length a.text.now - a.at) (drop a.at a.text.now)) a.h.now ≡ false = cc in
+    let no : starts_with eqb (take (length a.text.now - a.at) (drop a.at a.text.now)) a.h.now ≡ false = grind arith in
     after_no a.text.now a.at a.h.now (not_started a.text.now a.at a.h.now c.requires.1 no)
 
 pub returns-then-byte_at-ne10 : goal.returns-then-byte_at-ne10
@@ -21,7 +21,7 @@ returns-then-byte_at-ne10 c =
     let all = take_all (length a.h.now) a.h.now (omega arith) in
     let is = c.starts_with.ensures.value in
     let was = c.if-not-starts_with.false in
-    let yes : starts_with eqb (take (length a.text.now - a.at) (drop a.at a.text.now)) a.h.now ≡ true = cc in
+    let yes : starts_with eqb (take (length a.text.now - a.at) (drop a.at a.text.now)) a.h.now ≡ true = grind arith in
     after_no a.text.now a.at a.h.now
     (started a.text.now a.at a.h.now c.requires.1 yes ∙ ne_eqb _ 10 (λ e. c.if-byte_at-ne10.true (c.byte_at.ensures ∙ e)))
 
@@ -31,6 +31,6 @@ returns c =
     let all = take_all (length a.h.now) a.h.now (omega arith) in
     let is = c.starts_with.ensures.value in
     let was = c.if-not-starts_with.false in
-    let yes : starts_with eqb (take (length a.text.now - a.at) (drop a.at a.text.now)) a.h.now ≡ true = cc in
+    let yes : starts_with eqb (take (length a.text.now - a.at) (drop a.at a.text.now)) a.h.now ≡ true = grind arith in
     after_yes a.text.now a.at a.h.now
     (started a.text.now a.at a.h.now c.requires.1 yes ∙ eq-eqb _ 10 (sym c.byte_at.ensures ∙ c.if-byte_at-ne10.false))

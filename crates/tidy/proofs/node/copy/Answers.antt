@@ -1,16 +1,19 @@
-use Rattle.std.proofs.Common.{◌≡◌, ◌+◌, List, ℤ, pos, get_or, set, ap, ◌∙◌, arith, rules, w32, to_z, of_z}
+use Rattle.std.proofs.Common.{◌≡◌, ℕ, ◌+◌, ◌<◌, List, ℤ, pos, length, get_or, set, take, ap₂, ◌∙◌, arith, rules}
+use Rattle.std.proofs.lemmas.List.Edits.{sets}
 use Rattle.signed.proofs.Signs.{read_back}
 use Rattle.tidy.proofs.Nodes.{sets_next, sets_all}
 use Rattle.tidy.proofs.node.copy.Goals as goal
 
+-- what is stored at the k-th place is the k-th number
+stored : (t t₀ row : List ℤ) (at k i : ℕ) (z : ℤ) → t ≡ sets t₀ at (take k row) → i ≡ k → z ≡ get_or row i (pos 0) → k < length row → set t (at + i) z ≡ sets t₀ at (take (k + 1) row)
+stored t t₀ row at k i z before here is h =
+    ap₂ (λ (u : List ℤ) (n : ℕ). set u (at + n) z) before here
+    ∙ sets_next t₀ at row k h z (rw here at is)
+
 pub loop-k-preserved : goal.loop-k-preserved
 loop-k-preserved c =
-    let a = c.args in
     let l = c.loop-k in
-    let z = to_z w32 (of_z w32 (get_or a.row.now l.k (pos 0))) in
-    let e : z ≡ get_or a.row.now l.k (pos 0) = search (rules, read_back) in
-    ap (λ (t : List ℤ). set t (a.at + l.k) z) l.invariant
-    ∙ sets_next a.table.now a.at a.row.now l.k c.loop-k-test.true z e
+    stored l.table c.args.table.now c.args.row.now c.args.at l.k _ _ l.invariant (omega arith) (search (rules, read_back)) (omega arith)
 
 pub returns : goal.returns
 returns c = c.loop-k.invariant ∙ sets_all c.args.table.now c.args.at c.args.row.now c.loop-k.k (omega arith)
